@@ -8,7 +8,7 @@ use Rattle.terms.specs.Compare.{Ordering, gt}
 use Rattle.terms.specs.Equation.{Equation, orient}
 use Rattle.words.specs.Rename.{order-equations}
 
--- f takes k names one to one onto 0 to k−1
+-- f takes k different names one to one onto 0 to k−1
 pub record Bijection (names : List ℕ) (f : ℕ → ℕ) : Type 0 where
   pub below : (n : ℕ) → n ∈ names → f n < length names
   pub one-to-one : (m n : ℕ) → m ∈ names → n ∈ names → f m ≡ f n → m ≡ n

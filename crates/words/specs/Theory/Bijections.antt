@@ -7,7 +7,7 @@ use mathlib.Core.Path.{_≡_, refl, sym, _∙_, ap, ap₂}
 use mathlib.Core.Bool.{Bool, true, false}
 use mathlib.Core.Logic.{_↔_, ⊎-elim}
 use mathlib.Core.List.{List, [], _∷_, map}
-use lib.ListN.{length, length-map}
+use lib.ListN.{length}
 use lib.Dec.{eqb}
 use Rattle.terms.specs.Lists.{_∈_, here, there, not-in-nil, cons-cases, in-cast, in-map, of-map, Distinct, none, more}
 use Rattle.terms.specs.Theory.Reflects.{Reflects, eqb-reflects}
@@ -58,7 +58,7 @@ module _ {A B : Type 0} where
       (λ k. ⊎-elim (λ q. absurd (new (in-cast (ap f (sym q) ∙ sym e) (in-map f k)))) (λ l. distinct-map f zs d x y k l e) (cons-cases j))
       (cons-cases i)
 
--- a function is a bijection of the names if the numbers beside them are a permutation
+-- a function is a bijection of the names exactly when their numbers are a permutation
 
 module _ {names : List ℕ} (d : Distinct names) (f : ℕ → ℕ) where
   bijection-rearranged : Bijection names f → Rearranged (count-from (length names) 0) (map f names)
@@ -114,14 +114,17 @@ renamed-values f (m ∷ ms) n k = go (eqb n m) (eqb-reflects n m) (renamed-value
     go false h rest = renamed-later m (f m) ms (map f ms) n h ∙ ⊎-elim (λ e. absurd (h e)) rest (cons-cases k)
 
 -- each permutation gives a bijection
-pub renamed-bijection : {names : List ℕ} → Distinct names → (ps : List ℕ) → ps ∈ permutations (count-from (length names) 0) → Bijection names (renamed names ps)
+pub renamed-bijection : {names : List ℕ} → Distinct names → (ps : List ℕ) → ps ∈ permutations (count-from (length names) 0)
+    → Bijection names (renamed names ps)
 renamed-bijection {names} d ps m =
-    let r = permutations-exact (count-from-distinct (length names) 0) ps .0 m in
-    let le = distinct-length (r .distinct) (count-from (length names) 0) (λ n. r .members n .0) in
-    let ge = distinct-length (count-from-distinct (length names) 0) ps (λ n. r .members n .1) in
+    let numbers = count-from (length names) 0 in
+    let different = count-from-distinct (length names) 0 in
+    let r = permutations-exact different ps .0 m in
+    let most = distinct-length (r .distinct) numbers (λ n. r .members n .0) in
+    let least = distinct-length different ps (λ n. r .members n .1) in
     bijections-exact d (renamed names ps) .1 (in-cast (renamed-numbers d ps (omega (arith, count-from-length (length names) 0))) m)
 
--- and there is one
+-- the numbers as they stand are one of the permutations
 pub identity-listed : (k : ℕ) → count-from k 0 ∈ permutations (count-from k 0)
 identity-listed k =
     permutations-exact (count-from-distinct k 0) (count-from k 0) .1 (record { distinct = count-from-distinct k 0; members = λ n. (λ m. m, λ m. m) })

@@ -1,22 +1,23 @@
 -- `least` gives the least equation over all bijections of the names.
 use Prim.Native.Nat.{ℕ}
 use native.Mathlib.Omega.{arith}
-use mathlib.Core.Path.{_≡_, refl, sym, _∙_, ap, ap₂, fun-ext}
-use mathlib.Core.Logic.{_⊎_, inl, inr, ⊎-elim}
+use mathlib.Core.Path.{_≡_, refl, sym, _∙_, ap₂}
+use mathlib.Core.Logic.{⊎-elim}
 use mathlib.Core.List.{List, [], _∷_, map, foldl}
 use lib.ListN.{length}
 use Rattle.terms.specs.Lists.{_∈_, here, there, not-in-nil, cons-cases, append-cases, only-one, in-left, in-cast, in-map, of-map, Distinct}
-use Rattle.terms.specs.Compare.{Ordering, lt, eq, gt, then, lexicographic}
+use Rattle.terms.specs.Compare.{Ordering, lt, gt, lexicographic}
 use Rattle.terms.specs.Equation.{Equation, orient}
 use Rattle.terms.specs.Theory.Order.{IsOrder, flip-lt, flip-gt, gt≢eq, cases}
 use Rattle.terms.specs.Theory.Lexicographic.{then-tie, lexicographic-order}
 use Rattle.words.specs.Rename.{count-from, permutations, renamed, order-equations, lesser, by-renaming, least}
-use Rattle.words.specs.Bijection.{Bijection, IsLeast}
+use Rattle.words.specs.Bijection.{IsLeast}
 use Rattle.words.specs.Theory.Bijections.{bijections-exact, renamed-bijection, renamed-values, identity-listed}
 
 -- equations are ordered as the lists of their two sides
 
-key-order : {A K : Type 0} {o : K → K → Ordering} → IsOrder o → (key : A → K) → ((x y : A) → key x ≡ key y → x ≡ y) → IsOrder (λ x y. o (key x) (key y))
+key-order : {A K : Type 0} {o : K → K → Ordering} → IsOrder o → (key : A → K) → ((x y : A) → key x ≡ key y → x ≡ y)
+    → IsOrder (λ x y. o (key x) (key y))
 key-order O key apart = record {
   reflexive = λ x. O .reflexive (key x);
   tie = λ {x} {y} e. apart x y (O .tie e);
@@ -37,6 +38,8 @@ module _ {A : Type 0} where
 pub equation-order : {A : Type 0} {o : A → A → Ordering} → IsOrder o → IsOrder (order-equations o)
 unfolding order-equations lexicographic
 equation-order O = simp then-tie at (key-order (lexicographic-order O) sides sides-apart)
+
+-- the least of a list
 
 -- e is in the list, and none of the list is below it
 record LeastOf {A : Type 0} (o : A → A → Ordering) (es : List (Equation A)) (e : Equation A) : Type 0 where
@@ -81,23 +84,26 @@ module _ {A : Type 0} {o : A → A → Ordering} (O : IsOrder o) where
   fold-least e (d ∷ es) =
       let l = lesser-least e d in
       let r = fold-least (lesser o e d) es in
-      let under : (f : Equation A) → f ∈ e ∷ d ∷ [] → order-equations o (foldl (lesser o) (lesser o e d) es) f ≡ gt → ⊥ =
-      λ f m. not-above (equation-order O) (r .lowest (lesser o e d) (here refl)) (l .lowest f m) in
+      let below = r .lowest (lesser o e d) (here refl) in
       record {
         member = ⊎-elim (λ p. in-cast p (in-left es (l .member))) (λ k. there (there k)) (cons-cases (r .member));
-        lowest = λ f m. ⊎-elim (under f) (λ k. r .lowest f (there k)) (append-cases (e ∷ d ∷ []) m);
+        lowest =
+            λ f m.
+            ⊎-elim (λ k. not-above (equation-order O) below (l .lowest f k)) (λ k. r .lowest f (there k)) (append-cases (e ∷ d ∷ []) m);
       }
 
--- the renamed thing depends only on what the names become
+-- what is renamed depends only on what the names become
 abbrev pub Depends : {A : Type 0} → ((ℕ → ℕ) → A → A) → List ℕ → A → Type 0
 Depends rename names s = (f g : ℕ → ℕ) → ((n : ℕ) → n ∈ names → f n ≡ g n) → rename f s ≡ rename g s
 
-module _ {A : Type 0} {o : A → A → Ordering} (O : IsOrder o) (rename : (ℕ → ℕ) → A → A) {names : List ℕ} (d : Distinct names)
-    (s t : A) (left : Depends rename names s) (right : Depends rename names t) where
-  listed-least : LeastOf o (map (by-renaming o rename names s t) (permutations (count-from (length names) 0))) (least o rename names s t)
+module _ {A : Type 0} (o : A → A → Ordering) (rename : (ℕ → ℕ) → A → A) (names : List ℕ) (s t : A) where
+  -- the equations that the permutations give
+  abbrev listed : List (Equation A)
+  listed = map (by-renaming o rename names s t) (permutations (count-from (length names) 0))
+
+  listed-least : IsOrder o → LeastOf o listed (least o rename names s t)
   unfolding least
-  listed-least = go (map (by-renaming o rename names s t) (permutations (count-from (length names) 0)))
-      (in-map (by-renaming o rename names s t) (identity-listed (length names)))
+  listed-least O = go listed (in-map (by-renaming o rename names s t) (identity-listed (length names)))
     where
       pick : List (Equation A) → Equation A
       pick es = elim es [ [] ↦ record { left = s; right = t } | e ∷ es ↦ foldl (lesser o) e es ]
@@ -106,16 +112,19 @@ module _ {A : Type 0} {o : A → A → Ordering} (O : IsOrder o) (rename : (ℕ 
       go [] m = absurd (not-in-nil m)
       go (e ∷ es) m = fold-least O e es
 
-  pub least-is-least : IsLeast o rename names s t (least o rename names s t)
+  pub least-is-least : IsOrder o → Distinct names → Depends rename names s → Depends rename names t
+      → IsLeast o rename names s t (least o rename names s t)
   unfolding by-renaming
-  least-is-least =
-      let l = listed-least in
+  least-is-least O d left right =
+      let l = listed-least O in
       let by = by-renaming o rename names s t in
       record {
-        attained = let (ps, m, e) = of-map by (permutations (count-from (length names) 0)) (l .member) in (renamed names ps, renamed-bijection d ps m, sym e);
+        attained =
+            let (ps, m, e) = of-map by (permutations (count-from (length names) 0)) (l .member) in
+            (renamed names ps, renamed-bijection d ps m, sym e);
         least =
             λ f b.
+            let g = renamed names (map f names) in
             let agree = renamed-values f names in
-            let same = ap₂ (orient o) (left (renamed names (map f names)) f agree) (right (renamed names (map f names)) f agree) in
-            rw (← same) (l .lowest (by (map f names)) (in-map by (bijections-exact d f .0 b)));
+            rw (← ap₂ (orient o) (left g f agree) (right g f agree)) (l .lowest (by (map f names)) (in-map by (bijections-exact d f .0 b)));
       }

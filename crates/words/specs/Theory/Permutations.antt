@@ -2,7 +2,7 @@
 use Prim.Native.Nat.{ℕ}
 use mathlib.Core.Path.{_≡_, refl, sym, _∙_, ap}
 use mathlib.Core.Logic.{_↔_, _⊎_, inl, inr, ⊎-elim}
-use mathlib.Core.List.{List, [], _∷_, _++_, map, flatMap}
+use mathlib.Core.List.{List, [], _∷_, flatMap}
 use Rattle.terms.specs.Lists.{_∈_, here, there, not-in-nil, cons-cases, append-cases, only-one, in-left, in-right, in-cast, in-map, of-map, Distinct, none, more}
 use Rattle.words.specs.Rename.{everywhere, permutations}
 
@@ -33,7 +33,7 @@ inserted-distinct (later {l = l} e i) new (more h d) =
 
 distinct-inserted : {n : ℕ} {ms ps : List ℕ} → Inserted n ms ps → Distinct ps → (n ∈ ms → ⊥) × Distinct ms
 distinct-inserted (first e) (more h d) = (λ k. h (in-cast e k), d)
-distinct-inserted {n} (later {m = m} e i) (more h d) =
+distinct-inserted (later {m = m} e i) (more h d) =
     let (new, rest) = distinct-inserted i d in (
       λ k. ⊎-elim (λ p. h (inserted-members i _ .1 (inl (e ∙ sym p)))) new (cons-cases k),
       more (λ k. h (in-cast e (inserted-members i m .1 (inr k)))) rest,
@@ -74,6 +74,8 @@ module _ {A B : Type 0} (f : A → List B) where
   of-flatMap [] k = absurd (not-in-nil k)
   of-flatMap (x ∷ xs) {y} k = ⊎-elim (λ j. (x, here refl, j)) (λ j. let (z, m, i) = of-flatMap xs j in (z, there m, i)) (append-cases (f x) k)
 
+-- and so `permutations` the rearrangements
+
 listed-rearranged : {ns : List ℕ} → Distinct ns → {ps : List ℕ} → ps ∈ permutations ns → Rearranged ns ps
 unfolding permutations
 listed-rearranged none k = rw (only-one k) (record { distinct = none; members = λ n. (λ j. j, λ j. j) })
@@ -97,8 +99,10 @@ rearranged-listed none (p ∷ ps) r = absurd (not-in-nil (r .members p .0 (here 
 rearranged-listed (more {x = n} {xs = ns} h d) ps r =
     let (ms, i) = taken-out (r .members n .1 (here refl)) in
     let (new, rest) = distinct-inserted i (r .distinct) in
-    let back : (x : ℕ) → x ∈ ms → x ∈ ns = λ x m. ⊎-elim (λ e. absurd (new (in-cast (sym e) m))) (λ l. l) (cons-cases (r .members x .0 (inserted-members i x .1 (inr m)))) in
-    let forth : (x : ℕ) → x ∈ ns → x ∈ ms = λ x m. ⊎-elim (λ e. absurd (h (in-cast (sym e) m))) (λ l. l) (inserted-members i x .0 (r .members x .1 (there m))) in
+    let back : (x : ℕ) → x ∈ ms → x ∈ ns =
+    λ x m. ⊎-elim (λ e. absurd (new (in-cast (sym e) m))) (λ l. l) (cons-cases (r .members x .0 (inserted-members i x .1 (inr m)))) in
+    let forth : (x : ℕ) → x ∈ ns → x ∈ ms =
+    λ x m. ⊎-elim (λ e. absurd (h (in-cast (sym e) m))) (λ l. l) (inserted-members i x .0 (r .members x .1 (there m))) in
     in-flatMap (everywhere n) (rearranged-listed d ms (record { distinct = rest; members = λ x. (back x, forth x) })) (inserted-everywhere i)
 
 pub permutations-exact : {ns : List ℕ} → Distinct ns → (ps : List ℕ) → ps ∈ permutations ns ↔ Rearranged ns ps

@@ -1,8 +1,8 @@
 -- The canonical equations, of terms and of word lists, are the least over all bijections of their letters.
 use Prim.Native.Nat.{ℕ}
-use mathlib.Core.Path.{_≡_, refl, ap, ap₂}
+use mathlib.Core.Path.{refl, ap, ap₂}
 use mathlib.Core.List.{List, [], _∷_, _++_, map, flatten}
-use Rattle.terms.specs.Lists.{_∈_, here, in-left, in-right}
+use Rattle.terms.specs.Lists.{here, in-left, in-right}
 use Rattle.terms.specs.Compare.{Ordering}
 use Rattle.terms.specs.Sort.{kept}
 use Rattle.terms.specs.Term.{Term, letter, zero, one, add, mul, subst, order}
@@ -39,19 +39,16 @@ pub rename-words-depends : (ws : List Word) → Depends rename-words (flatten ws
 unfolding rename-words
 rename-words-depends ws f g h = ap (normal kept) (map-words-depends ws f g h)
 
--- so the least over the different letters, rising, is the least
+-- so the least over the different letters, rising, is the least over all
 
 module _ {A : Type 0} {o : A → A → Ordering} (O : IsOrder o) (rename : (ℕ → ℕ) → A → A)
-    (has : A → List ℕ) (depends : (s : A) → Depends rename (has s) s) (s t : A) where
-  abbrev names : List ℕ
-  names = rising (has s ++ has t)
-
-  canonical-least : IsLeast o rename names s t (least o rename names s t)
-  canonical-least =
-      let listed : (n : ℕ) → n ∈ has s ++ has t → n ∈ names = λ n. rising-members (has s ++ has t) n .1 in
-      least-is-least O rename (rising-distinct (has s ++ has t)) s t
-      (λ f g h. depends s f g (λ n m. h n (listed n (in-left (has t) m))))
-      (λ f g h. depends t f g (λ n m. h n (listed n (in-right (has s) m))))
+    (has : A → List ℕ) (depends : (s : A) → Depends rename (has s) s) where
+  canonical-least : (s t : A) → IsLeast o rename (rising (has s ++ has t)) s t (least o rename (rising (has s ++ has t)) s t)
+  canonical-least s t =
+      let both = has s ++ has t in
+      least-is-least o rename (rising both) s t O (rising-distinct both)
+      (λ f g h. depends s f g (λ n m. h n (rising-members both n .1 (in-left (has t) m))))
+      (λ f g h. depends t f g (λ n m. h n (rising-members both n .1 (in-right (has s) m))))
 
 pub canonical-terms-least : (s t : Term) → IsLeast order rename-term (rising (letters s ++ letters t)) s t (canonical-terms s t)
 unfolding canonical-terms
