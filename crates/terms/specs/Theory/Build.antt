@@ -42,7 +42,7 @@ module _ {A : Type 0} {token : A → Option Token} {write : Term → List A} {Ok
 
   pub read-written : (t : Term) → EachLetter Ok t → read token (write t) ≡ some t
   unfolding read build
-  read-written t ok = rw (build-all, read)
+  read-written t ok = rw build-all
     where
       build-all : build token (write t) ≡ some (t ∷ [])
       build-all = rw (append-nil (write t)) at (build-written t ok [] refl)
