@@ -84,7 +84,7 @@ put-in-room x ys z i h =
     rw (take-append-le i ys (z ∷ []) h, drop-append-le i ys (z ∷ []) h, ← (append-assoc (take i ys) (x ∷ drop i ys) (z ∷ [])))
     (take-at (take i ys ++ (x ∷ drop i ys)) (z ∷ []) (length (ys ++ (z ∷ []))) (split-length x ys i ∙ sym (length-append ys (z ∷ []))))
 
-front-rest : (n : ℕ) (xs : List ℕ) → take n xs ++ drop (length (take n xs)) xs ≡ xs
+pub front-rest : (n : ℕ) (xs : List ℕ) → take n xs ++ drop (length (take n xs)) xs ≡ xs
 front-rest zero xs = refl
 front-rest (suc n) [] = refl
 front-rest (suc n) (x ∷ xs) = ap (λ l. x ∷ l) (front-rest n xs)

@@ -6,3 +6,4 @@ pub mod Held
 pub mod Depths
 pub mod Spelled
 pub mod Inserted
+pub mod Gathered
