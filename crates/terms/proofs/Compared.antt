@@ -6,12 +6,12 @@ use mathlib.Core.Bool.{Bool}
 use mathlib.Core.List.{List}
 use lib.Dec.{isEq}
 use lib.ListN.{length, drop, getD, drop-of-length-le}
-use Rattle.terms.specs.Compare.{Ordering, lt, eq, gt, then, lexicographic}
+use Rattle.terms.specs.Compare.{Ordering, lt, eq, gt, then, lexicographic, order-numbers}
 use Rattle.terms.specs.Term.{same}
 use Rattle.terms.specs.Promises.{ordering-of, smaller-of, Compares, Equals, Smaller}
 use Rattle.terms.specs.Theory.Reflects.{Reflects}
 use Rattle.terms.specs.Theory.Order.{flip-lt, tie-reflects, compare-order, compare-below}
-use Rattle.terms.specs.Theory.Coding.{order-numbers, numbers-order}
+use Rattle.terms.specs.Theory.Coding.{numbers-order}
 use Rattle.terms.specs.Theory.Held.{order-of}
 use Rattle.terms.specs.declared.term.Comparison.{Comparison}
 use Rattle.terms.proofs.Positions.{drop-one}

@@ -1,36 +1,30 @@
 -- The depths of the terms that a list spells, and the extent of one put together from those of its parts.
 use Prim.Native.Nat.{ℕ, zero, suc, _+_, _-_, _<_, _≤_, max}
 use native.Mathlib.Omega.{arith}
-use mathlib.Core.Path.{_≡_, refl, sym, ap, ap₂, _∙_}
+use mathlib.Core.Path.{_≡_, refl, sym, ap, _∙_}
 use mathlib.Core.Logic.{_⊎_, ⊎-elim}
-use mathlib.Core.Bool.{Bool, true, false}
 use mathlib.Core.List.{List, [], _∷_, _++_, append-assoc, append-nil}
-use lib.Dec.{ltb}
 use lib.ListN.{length, drop, getD, length-drop, drop-of-length-le}
 use lib.Seq.{drop-nil, drop-drop, getD-drop}
-use borrow.Author.Tests.{lt-ltb, le-ltb, ltb-true, ltb-false}
+use borrow.Author.Tests.{lt-ltb, le-ltb}
 use Rattle.terms.specs.Term as term
 use Rattle.terms.specs.Term.{Term, letter, add, mul, depth}
 use Rattle.terms.specs.Run.{ZERO, ONE, ADD, MUL, run}
 use Rattle.terms.specs.Held.{Fine, IsRun}
-use Rattle.terms.specs.Numbers.{more, skip, end-at, depths, depth-of}
+use Rattle.terms.specs.Numbers.{skip, end-at, deepen, depths, depth-of}
 use Rattle.terms.specs.Promises.{Extends, Deep}
 use Rattle.terms.specs.Theory.Order.{below?}
 use Rattle.terms.specs.declared.term.Extent.{Extent}
 use Rattle.terms.proofs.Positions.{drop-one}
 use Rattle.terms.proofs.Skipped.{skip-none, skip-add}
 
--- a sum or product of the first two terms of a list with these depths
-abbrev over : List ℕ → List ℕ
-over ds = (1 + max (getD ds 0 0) (getD ds 1 0)) ∷ drop 2 ds
-
 depths-atom : (x : ℕ) (xs : List ℕ) → x < ADD → depths (x ∷ xs) ≡ 0 ∷ depths xs
 unfolding depths
 depths-atom x xs h = rw (lt-ltb x ADD h, depths)
 
-depths-over : (x : ℕ) (xs : List ℕ) → ADD ≤ x → depths (x ∷ xs) ≡ over (depths xs)
+depths-two : (x : ℕ) (xs : List ℕ) → ADD ≤ x → depths (x ∷ xs) ≡ deepen (depths xs)
 unfolding depths
-depths-over x xs h = rw (le-ltb x ADD h, depths)
+depths-two x xs h = rw (le-ltb x ADD h, depths)
 
 drop-two : (k : ℕ) (ds : List ℕ) → drop (suc (suc k)) ds ≡ drop k (drop 2 ds)
 drop-two k ds = let e : suc (suc k) ≡ 2 + k = omega arith in rw (drop-drop k 2 ds, e)
@@ -43,7 +37,7 @@ depths-skip (x ∷ xs) zero = refl
 depths-skip (x ∷ xs) (suc k) =
     ⊎-elim
     (λ h. rw (lt-ltb x ADD h, depths-atom x xs h) (depths-skip xs k))
-    (λ h. rw (le-ltb x ADD h, depths-over x xs h) (depths-skip xs (suc (suc k)) ∙ drop-two k (depths xs)))
+    (λ h. rw (le-ltb x ADD h, depths-two x xs h) (depths-skip xs (suc (suc k)) ∙ drop-two k (depths xs)))
     (below? x ADD)
 
 within-one : {n : ℕ} (d : ℕ) (ds : List ℕ) → ((k : ℕ) → getD ds k 0 ≤ n) → d ≤ suc n → (k : ℕ) → getD (d ∷ ds) k 0 ≤ suc n
@@ -58,20 +52,20 @@ depths-within (x ∷ xs) k =
     ⊎-elim
     (λ h. rw (depths-atom x xs h) (within-one 0 (depths xs) (depths-within xs) (omega arith) k))
     (λ h. let ds = depths xs in
-    rw (depths-over x xs h) (within-one (1 + max (getD ds 0 0) (getD ds 1 0)) (drop 2 ds) (λ j. rw (getD-drop 2 ds j 0) (depths-within xs (2 + j))) (omega (arith, depths-within xs 0, depths-within xs 1)) k))
+    rw (depths-two x xs h) (within-one (1 + max (getD ds 0 0) (getD ds 1 0)) (drop 2 ds) (λ j. rw (getD-drop 2 ds j 0) (depths-within xs (2 + j))) (omega (arith, depths-within xs 0, depths-within xs 1)) k))
     (below? x ADD)
 
-depths-two : (x : ℕ) (s t : Term) (ys : List ℕ) → ADD ≤ x → depths (run s ++ (run t ++ ys)) ≡ depth s ∷ depths (run t ++ ys) → depths (run t ++ ys) ≡ depth t ∷ depths ys
+depths-parts : (x : ℕ) (s t : Term) (ys : List ℕ) → ADD ≤ x → depths (run s ++ (run t ++ ys)) ≡ depth s ∷ depths (run t ++ ys) → depths (run t ++ ys) ≡ depth t ∷ depths ys
     → depths (x ∷ (run s ++ run t) ++ ys) ≡ (1 + max (depth s) (depth t)) ∷ depths ys
-depths-two x s t ys h e d = rw (append-assoc (run s) (run t) ys, depths-over x (run s ++ (run t ++ ys)) h, e, d)
+depths-parts x s t ys h e d = rw (append-assoc (run s) (run t) ys, depths-two x (run s ++ (run t ++ ys)) h, e, d)
 
 depths-run : (t : Term) (ys : List ℕ) → Fine t → depths (run t ++ ys) ≡ depth t ∷ depths ys
 unfolding run depth Fine
 depths-run (letter n) ys f = depths-atom n ys (omega arith)
 depths-run term.zero ys f = depths-atom ZERO ys (omega arith)
 depths-run term.one ys f = depths-atom ONE ys (omega arith)
-depths-run (add s t) ys f = depths-two ADD s t ys (omega arith) (depths-run s (run t ++ ys) (f .0)) (depths-run t ys (f .1))
-depths-run (mul s t) ys f = depths-two MUL s t ys (omega arith) (depths-run s (run t ++ ys) (f .0)) (depths-run t ys (f .1))
+depths-run (add s t) ys f = depths-parts ADD s t ys (omega arith) (depths-run s (run t ++ ys) (f .0)) (depths-run t ys (f .1))
+depths-run (mul s t) ys f = depths-parts MUL s t ys (omega arith) (depths-run s (run t ++ ys) (f .0)) (depths-run t ys (f .1))
 
 pub depth-run : {xs : List ℕ} {t : Term} → IsRun xs t → depth-of xs ≡ depth t
 unfolding depth-of
@@ -123,7 +117,7 @@ module _ (xs : List ℕ) (at : ℕ) where
       node-deep : 1 + max (l .depth) (r .depth) ≡ depth-of (drop at xs)
       unfolding depth-of
       node-deep =
-          rw (drop-one xs at h, depths-over (getD xs at 0) rest q, L .deep, R .deep, second, depths-skip rest 1, getD-drop 1 (depths rest) 0 0)
+          rw (drop-one xs at h, depths-two (getD xs at 0) rest q, L .deep, R .deep, second, depths-skip rest 1, getD-drop 1 (depths rest) 0 0)
 
       pub extends-right : l .depth < r .depth → Extends xs at (record { end = r .end; depth = r .depth + 1 })
       extends-right p = extends _ node-ends (omega (arith, node-deep))

@@ -1,16 +1,16 @@
 -- The letters of lists of numbers, gathered in the front of a list.
 use Prim.Native.Nat.{ℕ, _+_, _-_, _<_, _≤_, min, compare}
 use native.Mathlib.Omega.{arith}
-use mathlib.Core.Path.{_≡_, refl, sym, ap, ap₂, _∙_}
+use mathlib.Core.Path.{_≡_, refl, sym, ap, _∙_}
 use mathlib.Core.Logic.{⊎-elim}
-use mathlib.Core.List.{List, [], _∷_, _++_, append-assoc, foldl-append}
-use lib.ListN.{length, take, drop, getD, length-append, length-take, length-drop, take-append-drop, drop-of-length-le}
+use mathlib.Core.List.{List, [], _∷_, _++_, foldl-append}
+use lib.ListN.{length, take, drop, getD, length-append, length-drop, take-append-drop, drop-of-length-le}
 use lib.Seq.{drop-drop, take-all, take-length, take-at, drop-at, length-take-le}
 use borrow.Author.Tests.{lt-ltb, le-ltb}
-use Rattle.terms.specs.Sort.{lost, insert, insert-all}
+use Rattle.terms.specs.Sort.{lost, insert-all}
 use Rattle.terms.specs.Term.{Term, letter, zero, one, add, mul}
 use Rattle.terms.specs.Letters.{letters, rising}
-use Rattle.terms.specs.Run.{ZERO, ONE, ADD, MUL, run}
+use Rattle.terms.specs.Run.{ZERO, ADD, MUL, run}
 use Rattle.terms.specs.Held.{Fine, IsRun}
 use Rattle.terms.specs.Numbers.{letters-of}
 use Rattle.terms.specs.Promises.{Fills, Lists}
@@ -19,7 +19,7 @@ use Rattle.terms.specs.Theory.Insert.{insert-grows, insert-all-grows}
 use Rattle.terms.specs.declared.term.Listed.{Listed}
 use Rattle.terms.specs.declared.term.Listed.the-variants.{All, TooMany}
 use Rattle.terms.proofs.Positions.{drop-one}
-use Rattle.terms.proofs.Inserted.{inserted, front-rest}
+use Rattle.terms.proofs.Inserted.{inserted}
 
 -- letters in a list and letters of a term
 

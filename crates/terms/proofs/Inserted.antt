@@ -1,11 +1,11 @@
 -- A number put into a list: what moves on, and the place that `insert` gives it.
-use Prim.Native.Nat.{ℕ, zero, suc, _+_, _-_, _<_, _≤_, min, compare}
+use Prim.Native.Nat.{ℕ, zero, suc, _+_, _-_, _<_, _≤_, compare}
 use native.Mathlib.Omega.{arith}
 use native.Mathlib.Numerals.{add-one}
 use mathlib.Core.Path.{_≡_, refl, sym, ap, _∙_}
-use mathlib.Core.List.{List, [], _∷_, _++_, append-assoc, append-nil}
+use mathlib.Core.List.{List, [], _∷_, _++_, append-assoc}
 use lib.ListN.{length, take, drop, set, getD, length-append, length-take, length-set, take-append-drop, drop-of-length-le}
-use lib.Seq.{take-all, take-length, take-append-seam, take-suc, take-suc-set, drop-set-lt, take-append-le, drop-append-le, take-at, append-snoc, drop-cons, getD-take}
+use lib.Seq.{take-all, take-append-seam, take-suc, take-suc-set, drop-set-lt, take-append-le, drop-append-le, take-at, append-snoc, drop-cons, getD-take}
 use Rattle.terms.specs.Compare.{eq}
 use Rattle.terms.specs.Sort.{lost, repeat, insert}
 use Rattle.terms.specs.Numbers.{put-in}

@@ -12,7 +12,6 @@ use Rattle.terms.specs.Term as term
 use Rattle.terms.specs.Term.{Term, letter, add, mul}
 use Rattle.terms.specs.Run.{ADD, MUL}
 use Rattle.terms.specs.Build.{Token, atom, plus, times, operate, push, next, build, single, read}
-use Rattle.terms.specs.Held.{IsRun}
 use Rattle.terms.specs.Numbers.{token, read-run, is-some}
 use Rattle.terms.specs.Promises.{Reads}
 use Rattle.terms.specs.Theory.ReadRun.{Code, letter-code, zero-code, one-code, add-code, mul-code, no-code, token-none, code, run-read, read-is-run}

@@ -5,12 +5,11 @@ use mathlib.Core.Bool.{Bool, true}
 use mathlib.Core.List.{List, _++_}
 use lib.Dec.{isEq}
 use lib.ListN.{length, drop}
-use Rattle.terms.specs.Compare.{Ordering, lt, eq, gt}
+use Rattle.terms.specs.Compare.{Ordering, lt, eq, gt, order-numbers}
 use Rattle.terms.specs.Term.{Term, size, depth, order, same}
 use Rattle.terms.specs.Letters.{letters, rising}
 use Rattle.terms.specs.Held.{IsRun, Holds}
 use Rattle.terms.specs.Numbers.{read-run, is-some, end-at, depth-of, letters-of}
-use Rattle.terms.specs.Theory.Coding.{order-numbers}
 use Rattle.terms.specs.declared.term.Comparison.{Comparison}
 use Rattle.terms.specs.declared.term.Comparison.the-variants.{Less, Equal, Greater}
 use Rattle.terms.specs.declared.term.Listed.{Listed}

@@ -56,7 +56,7 @@ pub fn equal(a: &[u32], b: &[u32]) -> bool
     }
 }
 
-// Where the term that starts at `at` ends: the list's end, where that comes first.
+// Where the term that starts at `at` ends: where the list ends, if that comes first, and `at` itself past that.
 pub fn end_of(s: &[u32], at: usize) -> usize
     ensures { λ r. ⌜ Ends (now (s .entry)) at r ⌝ }
 {
@@ -90,7 +90,7 @@ struct Extent {
     depth: usize,
 }
 
-// It calls itself once for each sum or product on the way down.
+// It calls itself for the parts of a sum or product: its calls nest once for each of these on the way down.
 fn extent_of(s: &[u32], at: usize) -> Extent
     ensures { λ r. ⌜ Extends (now (s .entry)) at r ⌝ }
 {

@@ -3,7 +3,7 @@ use Prim.Native.Nat.{_≤_, _-_}
 use mathlib.Core.Path.{_≡_}
 use lib.ListN.{length, drop}
 use borrow.Author.Needs.{needs}
-use Rattle.terms.specs.Theory.Coding.{order-numbers}
+use Rattle.terms.specs.Compare.{order-numbers}
 use Rattle.terms.proofs.Compared.{less-here, greater-here, equal-here, second-ended, first-ended, both-ended, compares}
 use Rattle.terms.proofs.term.compare.Statement.{statement}
 use Rattle.terms.proofs.term.compare.Tie as tie

@@ -1,6 +1,5 @@
 -- `gather` meets its contract. The loop's invariant: what was gathered fills the front, and the letters from `i` on make it the whole.
 use Prim.Native.Nat.{_-_}
-use native.Mathlib.Omega.{arith}
 use lib.ListN.{length}
 use borrow.Author.Needs.{needs}
 use Rattle.terms.proofs.Gathered.{Gathering, gathering-starts, gathering-passes, gathering-takes, gathering-overflows, gathering-ends, gathering-length}
