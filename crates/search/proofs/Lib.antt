@@ -1,0 +1,2 @@
+-- Laws that the proofs share, and that the crates above cite.
+pub mod Origins

@@ -1,0 +1,71 @@
+-- What was stored of an origin is read back.
+use Prim.Native.Nat.{ℕ, zero, suc, _+_, _-_, _≤_, _<_}
+use native.Mathlib.Omega.{arith}
+use native.Mathlib.Nat.{add-zero}
+use mathlib.Core.Path.{_≡_, refl, sym, ap, _∙_}
+use mathlib.Core.List.{List, [], _∷_, _++_, append-assoc}
+use borrow.Author.Tests.{ne-eqb}
+use lib.ListN.{length, take, drop, getD, List·getD-append}
+use lib.Seq.{sets, sets-eq, length-take-le, getD-append-add}
+use Rattle.search.specs.Origins.{law-number, law-at, direction-number, direction-at, numbers, origin-at}
+use Rattle.search.specs.declared.search.Law.{Law}
+use Rattle.search.specs.declared.search.Law.the-variants.{AddAssoc, AddComm, AddZeroRight, MulAssoc, MulOneLeft, MulOneRight, LeftDistrib, RightDistrib, ZeroMul, MulZero}
+use Rattle.search.specs.declared.search.Direction.{Direction}
+use Rattle.search.specs.declared.search.Direction.the-variants.{Forward, Back}
+use Rattle.search.specs.declared.bounded_search.Origin.{Origin}
+use Rattle.search.specs.declared.bounded_search.Origin.the-variants.{Start, From}
+
+-- the last arm of a match on a number: each number that it is not raises its lower bound by one
+
+pub above : (k n : ℕ) → k ≤ n → (n ≡ k → ⊥) → suc k ≤ n
+above k n h d = omega arith
+
+only : (w : Law) (n : ℕ) → getD (w ∷ []) n w ≡ w
+only w zero = refl
+only w (suc n) = refl
+
+pub last-law : (n : ℕ) → 9 ≤ n → law-at n ≡ MulZero
+last-law n h =
+    let e : n ≡ suc (suc (suc (suc (suc (suc (suc (suc (suc (n - 9))))))))) = omega arith in
+    ap law-at e ∙ only MulZero (n - 9)
+
+-- there and back
+
+law-back : (w : Law) → law-at (law-number w) ≡ w
+law-back AddAssoc = refl
+law-back AddComm = refl
+law-back AddZeroRight = refl
+law-back MulAssoc = refl
+law-back MulOneLeft = refl
+law-back MulOneRight = refl
+law-back LeftDistrib = refl
+law-back RightDistrib = refl
+law-back ZeroMul = refl
+law-back MulZero = refl
+
+direction-back : (d : Direction) → direction-at (direction-number d) ≡ d
+direction-back Forward = refl
+direction-back Back = refl
+
+-- the numbers of an origin, wherever they stand
+pub origin-back : (ws : List ℕ) (at : ℕ) (o : Origin) → ((k : ℕ) → k < 4 → getD ws (at + k) 0 ≡ getD (numbers o) k 0) → origin-at ws at ≡ o
+origin-back ws at Start e = rw (rw add-zero at (e 0 (omega arith)))
+origin-back ws at (From s) e =
+    let d : law-number (s .law) + 1 - 1 ≡ law-number (s .law) = omega arith in
+    rw (rw add-zero at (e 0 (omega arith)), e 1 (omega arith), e 2 (omega arith), e 3 (omega arith), ne-eqb (law-number (s .law) + 1) 0 (λ q. omega arith), d, law-back, direction-back)
+
+-- what a row of stores left at its k-th place
+pub getD-sets : (xs : List ℕ) (i : ℕ) (vs : List ℕ) (k : ℕ) → i + length vs ≤ length xs → k < length vs → getD (sets xs i vs) (i + k) 0 ≡ getD vs k 0
+getD-sets xs i vs k h hk =
+    let e : length (take i xs) ≡ i = length-take-le i xs (omega arith) in
+    ap (λ l. getD l (i + k) 0) (sets-eq vs xs i h ∙ append-assoc (take i xs) vs (drop (i + length vs) xs))
+    ∙ ap (λ n. getD (take i xs ++ (vs ++ drop (i + length vs) xs)) (n + k) 0) (sym e)
+    ∙ getD-append-add (take i xs) (vs ++ drop (i + length vs) xs) k 0
+    ∙ List·getD-append vs (drop (i + length vs) xs) 0 k hk
+
+four : (o : Origin) → length (numbers o) ≡ 4
+four Start = refl
+four (From s) = refl
+
+pub round-trip : (ws : List ℕ) (at : ℕ) (o : Origin) → at + 4 ≤ length ws → origin-at (sets ws at (numbers o)) at ≡ o
+round-trip ws at o h = origin-back (sets ws at (numbers o)) at o (λ k q. getD-sets ws at (numbers o) k (omega (arith, four o)) (omega (arith, four o)))
