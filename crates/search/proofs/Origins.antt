@@ -5,8 +5,9 @@ use native.Mathlib.Nat.{add-zero}
 use mathlib.Core.Path.{_≡_, refl, sym, ap, _∙_}
 use mathlib.Core.List.{List, [], _∷_, _++_, append-assoc}
 use borrow.Author.Tests.{ne-eqb}
-use lib.ListN.{length, take, drop, getD, List·getD-append}
-use lib.Seq.{sets, sets-eq, length-take-le, getD-append-add}
+use lib.ListN.{length, take, drop, getD, set, List·getD-append}
+use lib.Seq.{sets, sets-eq, length-take-le, take-set-le, getD-append-add}
+use Rattle.terms.proofs.Positions.{front-getD}
 use Rattle.search.specs.Origins.{law-number, law-at, direction-number, direction-at, numbers, origin-at}
 use Rattle.search.specs.declared.search.Law.{Law}
 use Rattle.search.specs.declared.search.Law.the-variants.{AddAssoc, AddComm, AddZeroRight, MulAssoc, MulOneLeft, MulOneRight, LeftDistrib, RightDistrib, ZeroMul, MulZero}
@@ -54,6 +55,11 @@ origin-back ws at (From s) e =
     let d : law-number (s .law) + 1 - 1 ≡ law-number (s .law) = omega arith in
     rw (rw add-zero at (e 0 (omega arith)), e 1 (omega arith), e 2 (omega arith), e 3 (omega arith), ne-eqb (law-number (s .law) + 1) 0 (λ q. omega arith), d, law-back, direction-back)
 
+-- where the first n numbers of two lists agree
+pub origin-front : (xs ys : List ℕ) (n at : ℕ) → take n ys ≡ take n xs → at + 4 ≤ n → origin-at ys at ≡ origin-at xs at
+origin-front xs ys n at e h =
+    rw (front-getD xs ys n at e (omega arith), front-getD xs ys n (at + 1) e (omega arith), front-getD xs ys n (at + 2) e (omega arith), front-getD xs ys n (at + 3) e (omega arith))
+
 -- what a row of stores left at its k-th place
 pub getD-sets : (xs : List ℕ) (i : ℕ) (vs : List ℕ) (k : ℕ) → i + length vs ≤ length xs → k < length vs → getD (sets xs i vs) (i + k) 0 ≡ getD vs k 0
 getD-sets xs i vs k h hk =
@@ -63,7 +69,11 @@ getD-sets xs i vs k h hk =
     ∙ getD-append-add (take i xs) (vs ++ drop (i + length vs) xs) k 0
     ∙ List·getD-append vs (drop (i + length vs) xs) 0 k hk
 
-four : (o : Origin) → length (numbers o) ≡ 4
+pub take-sets : (n : ℕ) (xs : List ℕ) (i : ℕ) (vs : List ℕ) → n ≤ i → take n (sets xs i vs) ≡ take n xs
+take-sets n xs i [] h = refl
+take-sets n xs i (v ∷ vs) h = take-sets n (set xs i v) (suc i) vs (omega arith) ∙ take-set-le n xs i v h
+
+pub four : (o : Origin) → length (numbers o) ≡ 4
 four Start = refl
 four (From s) = refl
 

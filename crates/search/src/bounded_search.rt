@@ -1,12 +1,17 @@
 // Noted terms and the results of an opened term, in slots of 40 numbers.
 // Of a slot, number 0 is the length of a run, 1 to 4 are its origin, 5 is its distance, and the run stands from number 8 on.
 ghost use mathlib.Core.Path.{_≡_};
-ghost use Prim.Native.Nat.{_+_, _≤_, _<_};
-ghost use lib.ListN.{length};
+ghost use Prim.Native.Nat.{_+_, _*_, _≤_, _<_};
+ghost use mathlib.Core.List.{_++_};
+ghost use lib.ListN.{length, take};
 ghost use lib.Seq.{sets};
 ghost use Rattle.search.specs.Origins.{law-number, law-at, direction-number, direction-at, numbers, origin-at};
+ghost use Rattle.search.specs.Slots.{SLOT, Finds, Writes, Starts, Notes};
 use crate::search::Direction;
 use crate::search::Law;
+use terms::term;
+
+const SLOT: usize = 40;
 
 // A line: the place is the position in the run where the replaced subterm starts, the parent the slot of the term that is opened.
 pub struct Step {
@@ -114,4 +119,67 @@ pub fn read_origin(ws: &[u32], at: usize) -> Origin
         place: ws[at + 2],
         parent: ws[at + 3],
     })
+}
+
+// Whether a run is among the first `count` noted ones.
+pub fn listed(ws: &[u32], count: usize, s: &[u32]) -> bool
+    requires { ⌜ SLOT * count ≤ length (now ws) ⌝ }
+    ensures { λ r. ⌜ Finds (now (ws .entry)) count (now (s .entry)) r ⌝ }
+{
+    let mut k = 0;
+    while k < count {
+        let a = SLOT * k;
+        let n = ws[a] as usize;
+        k += 1;
+        if n <= 31 {
+            let b = a + 8;
+            if term::equal(s, &ws[b..b + n]) {
+                return true;
+            }
+        }
+    }
+    false
+}
+
+// Puts numbers after the first n of a buffer.
+fn append(out: &mut [u32], n: usize, src: &[u32]) -> usize
+    requires { ⌜ n + length (now src) ≤ length (now out) ⌝ }
+    ensures { λ r. ⌜ (r ≡ n + length (now (src .entry))) × (take r (now (out .exit)) ≡ take n (now (out .entry)) ++ now (src .entry)) ⌝ }
+{
+    let mut m = n;
+    let mut j = 0;
+    while j < src.len() {
+        out[m] = src[j];
+        m += 1;
+        j += 1;
+    }
+    m
+}
+
+// Writes a slot, up to the end of its run.
+fn write_slot(ws: &mut [u32], k: usize, s: &[u32], o: Origin, distance: u32)
+    requires { ⌜ (SLOT * k + SLOT ≤ length (now ws)) × (length (now s) ≤ 31) ⌝ }
+    ensures { λ _. ⌜ Writes (now (ws .entry)) (now (ws .exit)) k (now (s .entry)) o distance ⌝ }
+{
+    let a = SLOT * k;
+    ws[a] = s.len() as u32;
+    write_origin(ws, a + 1, o);
+    ws[a + 5] = distance;
+    append(ws, a + 8, s);
+}
+
+// Notes the term that the search starts with.
+pub fn note_start(ws: &mut [u32], s: &[u32])
+    requires { ⌜ (SLOT ≤ length (now ws)) × (length (now s) ≤ 31) ⌝ }
+    ensures { λ _. ⌜ Starts (now (ws .exit)) (now (s .entry)) ⌝ }
+{
+    write_slot(ws, 0, s, Origin::Start, 0);
+}
+
+// Notes the result of a step in the slot with number `count`.
+pub fn note(ws: &mut [u32], count: usize, s: &[u32], step: Step, distance: u32)
+    requires { ⌜ (SLOT * count + SLOT ≤ length (now ws)) × (length (now s) ≤ 31) ⌝ }
+    ensures { λ _. ⌜ Notes (now (ws .entry)) (now (ws .exit)) count (now (s .entry)) step distance ⌝ }
+{
+    write_slot(ws, count, s, Origin::From(step), distance);
 }
