@@ -3,3 +3,5 @@ pub mod Origins
 pub mod Front
 pub mod Slots
 pub mod Noting
+pub mod Sorting
+pub mod Keeping

@@ -7,9 +7,11 @@ ghost use lib.ListN.{length, take};
 ghost use lib.Seq.{sets};
 ghost use Rattle.search.specs.Origins.{law-number, law-at, direction-number, direction-at, numbers, origin-at};
 ghost use Rattle.search.specs.Slots.{SLOT, Finds, Writes, Starts, Notes};
+ghost use Rattle.search.specs.Ordered.{Spotted, Keeps};
 use crate::search::Direction;
 use crate::search::Law;
 use terms::term;
+use terms::term::Comparison;
 
 const SLOT: usize = 40;
 
@@ -182,4 +184,55 @@ pub fn note(ws: &mut [u32], count: usize, s: &[u32], step: Step, distance: u32)
     ensures { λ _. ⌜ Notes (now (ws .entry)) (now (ws .exit)) count (now (s .entry)) step distance ⌝ }
 {
     write_slot(ws, count, s, Origin::From(step), distance);
+}
+
+// Where a result goes among those that are in term order.
+pub enum Spot {
+    At(usize),
+    Already,
+}
+
+// The place of a run among the results in the slots that `order` names.
+fn spot_of(res: &[u32], order: &[u32], s: &[u32]) -> Spot
+    ensures { λ r. ⌜ Spotted (now (res .entry)) (now (order .entry)) (now (s .entry)) r ⌝ }
+{
+    let mut p = 0;
+    while p < order.len() {
+        let a = SLOT * (order[p] as usize);
+        if res.len() <= a {
+            return Spot::Already;
+        }
+        let n = res[a] as usize;
+        if res.len() - a < 8 + n {
+            return Spot::Already;
+        }
+        let b = a + 8;
+        match term::compare(s, &res[b..b + n]) {
+            Comparison::Less => {
+                return Spot::At(p);
+            }
+            Comparison::Equal => {
+                return Spot::Already;
+            }
+            Comparison::Greater => {
+                p += 1;
+            }
+        }
+    }
+    Spot::At(p)
+}
+
+// Puts a result among the first `count`, which are in term order, unless it is there already. An opened term has at most 620 results:
+// one for each of its 31 nodes, each law and each direction.
+pub fn keep(s: &[u32], step: Step, res: &mut [u32], order: &mut [u32], count: usize) -> usize
+    requires { ⌜ (length (now s) ≤ 31) × (SLOT * count + SLOT ≤ length (now res)) × (count < length (now order)) × (count < 620) ⌝ }
+    ensures { λ r. ⌜ Keeps (now (s .entry)) step (now (res .entry)) (now (order .entry)) (now (res .exit)) (now (order .exit)) count r ⌝ }
+{
+    let Spot::At(p) = spot_of(&res[..], &order[..count], s) else {
+        return count;
+    };
+    write_slot(res, count, s, Origin::From(step), 0);
+    let end = count + 1;
+    term::shift(&mut order[..end], p, count as u32);
+    end
 }

@@ -1,3 +1,4 @@
+-- `append` meets its contract. The loop's invariant: the front of the buffer is what it was and the numbers passed.
 use Prim.Native.Nat.{_≤_, _+_, _-_}
 use mathlib.Core.Path.{_≡_}
 use mathlib.Core.List.{_++_}
@@ -6,8 +7,6 @@ use Rattle.search.proofs.Front.{append-none, append-one, append-all}
 use borrow.Author.Needs.{needs}
 use Rattle.search.proofs.bounded_search.append.Statement.{statement}
 use Rattle.search.proofs.bounded_search.append.Tie as tie
-use Rattle.search.proofs.bounded_search.append.Reads as reads
-use Rattle.search.proofs.bounded_search.append.Lts as lts
 
 abbrev Inv-loop : tie.InvT-loop
 Inv-loop out₀ n src m₀ j₀ out m j = (j ≤ length src) × (m ≡ n + j) × (length out ≡ length out₀) × (take m out ≡ take n out₀ ++ take j src)
@@ -15,47 +14,36 @@ Inv-loop out₀ n src m₀ j₀ out m j = (j ≤ length src) × (m ≡ n + j) ×
 abbrev μ-loop : tie.MeasureT-loop
 μ-loop out₀ n src m₀ j₀ out m j = length src - j
 
--- src/bounded_search.rt:151:5
 loop-holds : tie.Need-loop-holds Inv-loop μ-loop
 loop-holds c = search (append-none, needs)
 
--- src/bounded_search.rt:152:18
 mul-out : tie.Need-mul-out Inv-loop μ-loop
 mul-out c = search needs
 
--- src/bounded_search.rt:152:18
 shared-slice-read-out : tie.Need-shared-slice-read-out Inv-loop μ-loop
 shared-slice-read-out c = search needs
 
--- src/bounded_search.rt:152:9
 mul-out-2 : tie.Need-mul-out-2 Inv-loop μ-loop
 mul-out-2 c = search needs
 
--- src/bounded_search.rt:152:9
 slice-write-out : tie.Need-slice-write-out Inv-loop μ-loop
 slice-write-out c = search needs
 
--- src/bounded_search.rt:153:9
 add-m : tie.Need-add-m Inv-loop μ-loop
 add-m c = search needs
 
--- src/bounded_search.rt:154:9
 add-j : tie.Need-add-j Inv-loop μ-loop
 add-j c = search needs
 
--- src/bounded_search.rt:151:5
 loop-less : tie.Need-loop-less Inv-loop μ-loop
 loop-less c = search needs
 
--- src/bounded_search.rt:151:5
 loop-again : tie.Need-loop-again Inv-loop μ-loop
 loop-again c = search (append-one, needs)
 
--- src/bounded_search.rt:145:1
 same-length : tie.Need-same-length Inv-loop μ-loop
 same-length c = search needs
 
--- src/bounded_search.rt:145:1
 returns : tie.Need-returns Inv-loop μ-loop
 returns c = search (append-all, needs)
 

@@ -1,49 +1,38 @@
+-- `law_of` meets its contract: in the last arm the number is none of the others.
 use Prim.Native.Nat.{zero-le}
 use mathlib.Core.Path.{sym}
 use Rattle.search.proofs.Origins.{above, last-law}
 use borrow.Author.Needs.{needs}
 use Rattle.search.proofs.bounded_search.law_of.Statement.{statement}
 use Rattle.search.proofs.bounded_search.law_of.Tie as tie
-use Rattle.search.proofs.bounded_search.law_of.Reads as reads
-use Rattle.search.proofs.bounded_search.law_of.Lts as lts
 
--- src/bounded_search.rt:42:1
 returns : tie.Need-returns
 returns c = search needs
 
--- src/bounded_search.rt:42:1
 returns-2 : tie.Need-returns-2
 returns-2 c = search needs
 
--- src/bounded_search.rt:42:1
 returns-3 : tie.Need-returns-3
 returns-3 c = search needs
 
--- src/bounded_search.rt:42:1
 returns-4 : tie.Need-returns-4
 returns-4 c = search needs
 
--- src/bounded_search.rt:42:1
 returns-5 : tie.Need-returns-5
 returns-5 c = search needs
 
--- src/bounded_search.rt:42:1
 returns-6 : tie.Need-returns-6
 returns-6 c = search needs
 
--- src/bounded_search.rt:42:1
 returns-7 : tie.Need-returns-7
 returns-7 c = search needs
 
--- src/bounded_search.rt:42:1
 returns-8 : tie.Need-returns-8
 returns-8 c = search needs
 
--- src/bounded_search.rt:42:1
 returns-9 : tie.Need-returns-9
 returns-9 c = search needs
 
--- src/bounded_search.rt:42:1
 returns-10 : tie.Need-returns-10
 returns-10 c =
     let r = c .match .rest in

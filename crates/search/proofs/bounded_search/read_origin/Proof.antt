@@ -1,73 +1,54 @@
+-- `read_origin` meets its contract.
 use borrow.Author.Tests.{ne-eqb}
 use borrow.Author.Needs.{needs}
 use Rattle.search.proofs.bounded_search.read_origin.Statement.{statement}
 use Rattle.search.proofs.bounded_search.read_origin.Tie as tie
-use Rattle.search.proofs.bounded_search.read_origin.Reads as reads
-use Rattle.search.proofs.bounded_search.read_origin.Lts as lts
-use Rattle.search.proofs.bounded_search.direction_of.Reads as direction-of-reads
-use Rattle.search.proofs.bounded_search.law_of.Reads as law-of-reads
 
--- src/bounded_search.rt:105:15
 mul-tag : tie.Need-mul-tag
 mul-tag c = search needs
 
--- src/bounded_search.rt:105:15
 shared-slice-read-tag : tie.Need-shared-slice-read-tag
 shared-slice-read-tag c = search needs
 
--- src/bounded_search.rt:107:9
 returns : tie.Need-returns
 returns c = rw (c .if1 .taken)
 
--- src/bounded_search.rt:109:22
 sub-law-of : tie.Need-sub-law-of
 sub-law-of c = search needs
 
--- src/bounded_search.rt:109:9
 law-of-requires : tie.Need-law-of-requires
 law-of-requires c κs = search needs
 
--- src/bounded_search.rt:110:37
 add-direction-of : tie.Need-add-direction-of
 add-direction-of c = search needs
 
--- src/bounded_search.rt:110:34
 mul-direction-of : tie.Need-mul-direction-of
 mul-direction-of c = search needs
 
--- src/bounded_search.rt:110:34
 shared-slice-read-direction-of : tie.Need-shared-slice-read-direction-of
 shared-slice-read-direction-of c = search needs
 
--- src/bounded_search.rt:110:9
 direction-of-requires : tie.Need-direction-of-requires
 direction-of-requires c κs = search needs
 
--- src/bounded_search.rt:114:19
 add-t6 : tie.Need-add-t6
 add-t6 c = search needs
 
--- src/bounded_search.rt:114:16
 mul-t10 : tie.Need-mul-t10
 mul-t10 c = search needs
 
--- src/bounded_search.rt:114:16
 shared-slice-read-t8 : tie.Need-shared-slice-read-t8
 shared-slice-read-t8 c = search needs
 
--- src/bounded_search.rt:115:20
 add-t13 : tie.Need-add-t13
 add-t13 c = search needs
 
--- src/bounded_search.rt:115:17
 mul-t14 : tie.Need-mul-t14
 mul-t14 c = search needs
 
--- src/bounded_search.rt:115:17
 shared-slice-read-t16 : tie.Need-shared-slice-read-t16
 shared-slice-read-t16 c = search needs
 
--- src/bounded_search.rt:101:1
 returns-2 : tie.Need-returns-2
 returns-2 c =
     let d = c .before .before .before .before in

@@ -1,135 +1,101 @@
+-- `write_origin` meets its contract: four stores are a row of stores.
 use native.Mathlib.Numerals.{towards-suc}
 use native.Mathlib.Omega.{arith}
 use lib.ListN.{length-set}
 use borrow.Author.Needs.{needs}
 use Rattle.search.proofs.bounded_search.write_origin.Statement.{statement}
 use Rattle.search.proofs.bounded_search.write_origin.Tie as tie
-use Rattle.search.proofs.bounded_search.write_origin.Reads as reads
-use Rattle.search.proofs.bounded_search.write_origin.Lts as lts
-use Rattle.search.proofs.bounded_search.direction_number.Reads as direction-number-reads
-use Rattle.search.proofs.bounded_search.law_number.Reads as law-number-reads
 
--- src/bounded_search.rt:84:13
 enum-told : tie.Need-enum-told
 enum-told c = search needs
 
--- src/bounded_search.rt:84:13
 mul-ws : tie.Need-mul-ws
 mul-ws c = search needs
 
--- src/bounded_search.rt:84:13
 slice-write-ws : tie.Need-slice-write-ws
 slice-write-ws c = search needs
 
--- src/bounded_search.rt:85:16
 add-ws : tie.Need-add-ws
 add-ws c = search needs
 
--- src/bounded_search.rt:85:13
 mul-ws-2 : tie.Need-mul-ws-2
 mul-ws-2 c = search needs
 
--- src/bounded_search.rt:85:13
 slice-write-ws-2 : tie.Need-slice-write-ws-2
 slice-write-ws-2 c = simp length-set (omega arith)
 
--- src/bounded_search.rt:86:16
 add-ws-2 : tie.Need-add-ws-2
 add-ws-2 c = search needs
 
--- src/bounded_search.rt:86:13
 mul-ws-3 : tie.Need-mul-ws-3
 mul-ws-3 c = search needs
 
--- src/bounded_search.rt:86:13
 slice-write-ws-3 : tie.Need-slice-write-ws-3
 slice-write-ws-3 c = simp length-set (omega arith)
 
--- src/bounded_search.rt:87:16
 add-ws-3 : tie.Need-add-ws-3
 add-ws-3 c = search needs
 
--- src/bounded_search.rt:87:13
 mul-ws-4 : tie.Need-mul-ws-4
 mul-ws-4 c = search needs
 
--- src/bounded_search.rt:87:13
 slice-write-ws-4 : tie.Need-slice-write-ws-4
 slice-write-ws-4 c = simp length-set (omega arith)
 
--- src/bounded_search.rt:89:22
 enum-known-o : tie.Need-enum-known-o
 enum-known-o c = search needs
 
--- src/bounded_search.rt:92:22
 law-number-requires : tie.Need-law-number-requires
 law-number-requires c κs = search needs
 
--- src/bounded_search.rt:92:22
 add-ws-4 : tie.Need-add-ws-4
 add-ws-4 c = omega arith
 
--- src/bounded_search.rt:92:13
 mul-ws-5 : tie.Need-mul-ws-5
 mul-ws-5 c = search needs
 
--- src/bounded_search.rt:92:13
 slice-write-ws-5 : tie.Need-slice-write-ws-5
 slice-write-ws-5 c = omega arith
 
--- src/bounded_search.rt:93:26
 direction-number-requires : tie.Need-direction-number-requires
 direction-number-requires c κs = search needs
 
--- src/bounded_search.rt:93:16
 add-ws-5 : tie.Need-add-ws-5
 add-ws-5 c = search needs
 
--- src/bounded_search.rt:93:13
 mul-ws-6 : tie.Need-mul-ws-6
 mul-ws-6 c = search needs
 
--- src/bounded_search.rt:93:13
 slice-write-ws-6 : tie.Need-slice-write-ws-6
 slice-write-ws-6 c = simp length-set (omega arith)
 
--- src/bounded_search.rt:94:16
 add-ws-6 : tie.Need-add-ws-6
 add-ws-6 c = search needs
 
--- src/bounded_search.rt:94:13
 mul-ws-7 : tie.Need-mul-ws-7
 mul-ws-7 c = search needs
 
--- src/bounded_search.rt:94:13
 slice-write-ws-7 : tie.Need-slice-write-ws-7
 slice-write-ws-7 c = simp length-set (omega arith)
 
--- src/bounded_search.rt:95:16
 add-ws-7 : tie.Need-add-ws-7
 add-ws-7 c = search needs
 
--- src/bounded_search.rt:95:13
 mul-ws-8 : tie.Need-mul-ws-8
 mul-ws-8 c = search needs
 
--- src/bounded_search.rt:95:13
 slice-write-ws-8 : tie.Need-slice-write-ws-8
 slice-write-ws-8 c = simp length-set (omega arith)
 
--- src/bounded_search.rt:78:1
 same-length : tie.Need-same-length
 same-length c = search needs
 
--- src/bounded_search.rt:78:1
 returns : tie.Need-returns
 returns c = rw (c .enum-told .given .1) (simp towards-suc)
 
--- src/bounded_search.rt:78:1
 same-length-2 : tie.Need-same-length-2
 same-length-2 c = search needs
 
--- src/bounded_search.rt:78:1
 returns-2 : tie.Need-returns-2
 returns-2 c =
     rw (c .before .before .before .o .given .1, c .before .law-number .ensures .0, c .direction-number .ensures) (simp towards-suc)

@@ -1,3 +1,4 @@
+-- `write_slot` meets its contract: the law `writes` takes its stores together.
 use native.Mathlib.Omega.{arith}
 use mathlib.Core.Path.{_∙_}
 use lib.ListN.{length-set}
@@ -5,60 +6,43 @@ use Rattle.search.proofs.Slots.{writes}
 use borrow.Author.Needs.{needs}
 use Rattle.search.proofs.bounded_search.write_slot.Statement.{statement}
 use Rattle.search.proofs.bounded_search.write_slot.Tie as tie
-use Rattle.search.proofs.bounded_search.write_slot.Reads as reads
-use Rattle.search.proofs.bounded_search.write_slot.Lts as lts
-use Rattle.search.proofs.bounded_search.append.Reads as append-reads
-use Rattle.search.proofs.bounded_search.write_origin.Reads as write-origin-reads
 
--- src/bounded_search.rt:164:13
 mul-a : tie.Need-mul-a
 mul-a c = search needs
 
--- src/bounded_search.rt:165:13
 cast-ws : tie.Need-cast-ws
 cast-ws c = search needs
 
--- src/bounded_search.rt:165:5
 mul-ws : tie.Need-mul-ws
 mul-ws c = search needs
 
--- src/bounded_search.rt:165:5
 slice-write-ws : tie.Need-slice-write-ws
 slice-write-ws c = search needs
 
--- src/bounded_search.rt:166:22
 add-write-origin : tie.Need-add-write-origin
 add-write-origin c = search needs
 
--- src/bounded_search.rt:166:5
 write-origin-requires : tie.Need-write-origin-requires
 write-origin-requires c κs = simp length-set (omega arith)
 
--- src/bounded_search.rt:167:8
 add-ws : tie.Need-add-ws
 add-ws c = search needs
 
--- src/bounded_search.rt:167:5
 mul-ws-2 : tie.Need-mul-ws-2
 mul-ws-2 c = search needs
 
--- src/bounded_search.rt:167:5
 slice-write-ws-2 : tie.Need-slice-write-ws-2
 slice-write-ws-2 c = omega (arith, simp length-set at (c .before .before .write-origin .kept .0))
 
--- src/bounded_search.rt:168:16
 add-append : tie.Need-add-append
 add-append c = search needs
 
--- src/bounded_search.rt:168:5
 append-requires : tie.Need-append-requires
 append-requires c κs = simp length-set (omega (arith, simp length-set at (c .before .before .before .write-origin .kept .0)))
 
--- src/bounded_search.rt:160:1
 same-length : tie.Need-same-length
 same-length c = simp length-set at (c .before .before .append .kept .0) ∙ simp length-set at (c .before .before .before .before .before .before .write-origin .kept .0)
 
--- src/bounded_search.rt:160:1
 returns : tie.Need-returns
 returns c =
     let p = c .before .before in
