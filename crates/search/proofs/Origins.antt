@@ -1,5 +1,5 @@
 -- What was stored of an origin is read back.
-use Prim.Native.Nat.{ℕ, zero, suc, _+_, _-_, _≤_, _<_}
+use Prim.Native.Nat.{ℕ, suc, _+_, _-_, _≤_, _<_}
 use native.Mathlib.Omega.{arith}
 use native.Mathlib.Nat.{add-zero}
 use mathlib.Core.Path.{_≡_, refl, sym, ap, _∙_}
@@ -8,52 +8,18 @@ use borrow.Author.Tests.{ne-eqb}
 use lib.ListN.{length, take, drop, getD, set, List·getD-append}
 use lib.Seq.{sets, sets-eq, length-take-le, take-set-le, getD-append-add}
 use Rattle.terms.proofs.Positions.{front-getD}
-use Rattle.search.specs.Origins.{law-number, law-at, direction-number, direction-at, numbers, origin-at}
-use Rattle.search.specs.declared.search.Law.{Law}
-use Rattle.search.specs.declared.search.Law.the-variants.{AddAssoc, AddComm, AddZeroRight, MulAssoc, MulOneLeft, MulOneRight, LeftDistrib, RightDistrib, ZeroMul, MulZero}
-use Rattle.search.specs.declared.search.Direction.{Direction}
-use Rattle.search.specs.declared.search.Direction.the-variants.{Forward, Back}
+use Rattle.search.specs.Coded.{law-number}
+use Rattle.search.specs.Origins.{numbers, origin-at}
 use Rattle.search.specs.declared.bounded_search.Origin.{Origin}
 use Rattle.search.specs.declared.bounded_search.Origin.the-variants.{Start, From}
-
--- the last arm of a match on a number: each number that it is not raises its lower bound by one
-
-pub above : (k n : ℕ) → k ≤ n → (n ≡ k → ⊥) → suc k ≤ n
-above k n h d = omega arith
-
-only : (w : Law) (n : ℕ) → getD (w ∷ []) n w ≡ w
-only w zero = refl
-only w (suc n) = refl
-
-pub last-law : (n : ℕ) → 9 ≤ n → law-at n ≡ MulZero
-last-law n h =
-    let e : n ≡ suc (suc (suc (suc (suc (suc (suc (suc (suc (n - 9))))))))) = omega arith in
-    ap law-at e ∙ only MulZero (n - 9)
-
--- there and back
-
-law-back : (w : Law) → law-at (law-number w) ≡ w
-law-back AddAssoc = refl
-law-back AddComm = refl
-law-back AddZeroRight = refl
-law-back MulAssoc = refl
-law-back MulOneLeft = refl
-law-back MulOneRight = refl
-law-back LeftDistrib = refl
-law-back RightDistrib = refl
-law-back ZeroMul = refl
-law-back MulZero = refl
-
-direction-back : (d : Direction) → direction-at (direction-number d) ≡ d
-direction-back Forward = refl
-direction-back Back = refl
+use Rattle.search.proofs.Coded.{law-read-back, direction-read-back}
 
 -- the numbers of an origin, wherever they stand
 pub origin-back : (ws : List ℕ) (at : ℕ) (o : Origin) → ((k : ℕ) → k < 4 → getD ws (at + k) 0 ≡ getD (numbers o) k 0) → origin-at ws at ≡ o
 origin-back ws at Start e = rw (rw add-zero at (e 0 (omega arith)))
 origin-back ws at (From s) e =
     let d : law-number (s .law) + 1 - 1 ≡ law-number (s .law) = omega arith in
-    rw (rw add-zero at (e 0 (omega arith)), e 1 (omega arith), e 2 (omega arith), e 3 (omega arith), ne-eqb (law-number (s .law) + 1) 0 (λ q. omega arith), d, law-back, direction-back)
+    rw (rw add-zero at (e 0 (omega arith)), e 1 (omega arith), e 2 (omega arith), e 3 (omega arith), ne-eqb (law-number (s .law) + 1) 0 (λ q. omega arith), d, law-read-back, direction-read-back)
 
 -- where the first n numbers of two lists agree
 pub origin-front : (xs ys : List ℕ) (n at : ℕ) → take n ys ≡ take n xs → at + 4 ≤ n → origin-at ys at ≡ origin-at xs at

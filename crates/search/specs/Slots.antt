@@ -9,7 +9,7 @@ use Rattle.terms.specs.Term.{Term, zero, size}
 use Rattle.terms.specs.Held.{IsRun, Holds}
 use Rattle.search.specs.Line.{Line}
 use Rattle.search.specs.Search.{Noted, is-noted, entry}
-use Rattle.search.specs.Named.{name-of, direction-of}
+use Rattle.search.specs.Coded.{name-of, direction-of}
 use Rattle.search.specs.Place.{place-at}
 use Rattle.search.specs.Origins.{origin-at}
 use Rattle.search.specs.declared.bounded_search.Step.{Step}

@@ -2,12 +2,12 @@
 // Of a slot, number 0 is the length of a run, 1 to 4 are its origin, 5 is its distance, and the run stands from number 8 on.
 ghost use mathlib.Core.Path.{_≡_};
 ghost use Prim.Native.Nat.{_+_, _*_, _≤_, _<_};
-ghost use mathlib.Core.List.{_++_};
-ghost use lib.ListN.{length, take};
+ghost use lib.ListN.{length};
 ghost use lib.Seq.{sets};
-ghost use Rattle.search.specs.Origins.{law-number, law-at, direction-number, direction-at, numbers, origin-at};
+ghost use Rattle.search.specs.Origins.{numbers, origin-at};
 ghost use Rattle.search.specs.Slots.{SLOT, Finds, Writes, Starts, Notes};
 ghost use Rattle.search.specs.Ordered.{Spotted, Keeps};
+use crate::search;
 use crate::search::Direction;
 use crate::search::Law;
 use terms::term;
@@ -29,58 +29,6 @@ pub enum Origin {
     From(Step),
 }
 
-fn law_number(law: Law) -> u32
-    ensures { λ r. ⌜ (r ≡ law-number law) × (r < 10) ⌝ }
-{
-    match law {
-        Law::AddAssoc => 0,
-        Law::AddComm => 1,
-        Law::AddZeroRight => 2,
-        Law::MulAssoc => 3,
-        Law::MulOneLeft => 4,
-        Law::MulOneRight => 5,
-        Law::LeftDistrib => 6,
-        Law::RightDistrib => 7,
-        Law::ZeroMul => 8,
-        Law::MulZero => 9,
-    }
-}
-
-fn law_of(n: u32) -> Law
-    ensures { λ r. ⌜ r ≡ law-at n ⌝ }
-{
-    match n {
-        0 => Law::AddAssoc,
-        1 => Law::AddComm,
-        2 => Law::AddZeroRight,
-        3 => Law::MulAssoc,
-        4 => Law::MulOneLeft,
-        5 => Law::MulOneRight,
-        6 => Law::LeftDistrib,
-        7 => Law::RightDistrib,
-        8 => Law::ZeroMul,
-        _ => Law::MulZero,
-    }
-}
-
-fn direction_number(d: Direction) -> u32
-    ensures { λ r. ⌜ r ≡ direction-number d ⌝ }
-{
-    match d {
-        Direction::Forward => 0,
-        Direction::Back => 1,
-    }
-}
-
-fn direction_of(n: u32) -> Direction
-    ensures { λ r. ⌜ r ≡ direction-at n ⌝ }
-{
-    if n == 0 {
-        return Direction::Forward;
-    }
-    Direction::Back
-}
-
 // Stores an origin in four numbers from `at` on.
 pub fn write_origin(ws: &mut [u32], at: usize, o: Origin)
     requires { ⌜ at + 4 ≤ length (now ws) ⌝ }
@@ -96,8 +44,8 @@ pub fn write_origin(ws: &mut [u32], at: usize, o: Origin)
         Origin::From(s) => {
             let law = s.law;
             let direction = s.direction;
-            ws[at] = law_number(law) + 1;
-            ws[at + 1] = direction_number(direction);
+            ws[at] = search::law_number(law) + 1;
+            ws[at + 1] = search::direction_number(direction);
             ws[at + 2] = s.place;
             ws[at + 3] = s.parent;
         }
@@ -113,8 +61,8 @@ pub fn read_origin(ws: &[u32], at: usize) -> Origin
     if tag == 0 {
         return Origin::Start;
     }
-    let law = law_of(tag - 1);
-    let direction = direction_of(ws[at + 1]);
+    let law = search::law_of(tag - 1);
+    let direction = search::direction_of(ws[at + 1]);
     Origin::From(Step {
         law,
         direction,
@@ -143,21 +91,6 @@ pub fn listed(ws: &[u32], count: usize, s: &[u32]) -> bool
     false
 }
 
-// Puts numbers after the first n of a buffer.
-fn append(out: &mut [u32], n: usize, src: &[u32]) -> usize
-    requires { ⌜ n + length (now src) ≤ length (now out) ⌝ }
-    ensures { λ r. ⌜ (r ≡ n + length (now (src .entry))) × (take r (now (out .exit)) ≡ take n (now (out .entry)) ++ now (src .entry)) ⌝ }
-{
-    let mut m = n;
-    let mut j = 0;
-    while j < src.len() {
-        out[m] = src[j];
-        m += 1;
-        j += 1;
-    }
-    m
-}
-
 // Writes a slot, up to the end of its run.
 fn write_slot(ws: &mut [u32], k: usize, s: &[u32], o: Origin, distance: u32)
     requires { ⌜ (SLOT * k + SLOT ≤ length (now ws)) × (length (now s) ≤ 31) ⌝ }
@@ -167,7 +100,7 @@ fn write_slot(ws: &mut [u32], k: usize, s: &[u32], o: Origin, distance: u32)
     ws[a] = s.len() as u32;
     write_origin(ws, a + 1, o);
     ws[a + 5] = distance;
-    append(ws, a + 8, s);
+    search::append(ws, a + 8, s);
 }
 
 // Notes the term that the search starts with.

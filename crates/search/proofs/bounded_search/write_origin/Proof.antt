@@ -98,7 +98,7 @@ same-length-2 c = search needs
 
 returns-2 : tie.Need-returns-2
 returns-2 c =
-    rw (c .before .before .before .o .given .1, c .before .law-number .ensures .0, c .direction-number .ensures) (simp towards-suc)
+    rw (c .before .before .before .o .given .1, c .before .law-number .ensures .0, c .direction-number .ensures .0) (simp towards-suc)
 
 pub write-origin-spec : {M : Type 1} → statement M
 write-origin-spec =

@@ -1,12 +1,12 @@
--- `append` meets its contract. The loop's invariant: the front of the buffer is what it was and the numbers passed.
+-- `append` meets its contract. The loop's invariant: `j` numbers of `src` stand after the first `n` of the buffer.
 use Prim.Native.Nat.{_≤_, _+_, _-_}
 use mathlib.Core.Path.{_≡_}
 use mathlib.Core.List.{_++_}
 use lib.ListN.{length, take}
 use Rattle.search.proofs.Front.{append-none, append-one, append-all}
 use borrow.Author.Needs.{needs}
-use Rattle.search.proofs.bounded_search.append.Statement.{statement}
-use Rattle.search.proofs.bounded_search.append.Tie as tie
+use Rattle.search.proofs.search.append.Statement.{statement}
+use Rattle.search.proofs.search.append.Tie as tie
 
 abbrev Inv-loop : tie.InvT-loop
 Inv-loop out₀ n src m₀ j₀ out m j = (j ≤ length src) × (m ≡ n + j) × (length out ≡ length out₀) × (take m out ≡ take n out₀ ++ take j src)

@@ -1,7 +1,7 @@
 -- `direction_of` meets its contract.
 use borrow.Author.Tests.{ne-eqb}
-use Rattle.search.proofs.bounded_search.direction_of.Statement.{statement}
-use Rattle.search.proofs.bounded_search.direction_of.Tie as tie
+use Rattle.search.proofs.search.direction_of.Statement.{statement}
+use Rattle.search.proofs.search.direction_of.Tie as tie
 
 returns : tie.Need-returns
 returns c = rw (c .if1 .taken)
