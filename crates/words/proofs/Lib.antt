@@ -2,3 +2,5 @@
 pub mod Slots
 pub mod Stores
 pub mod Stand
+pub mod Puts
+pub mod Joined

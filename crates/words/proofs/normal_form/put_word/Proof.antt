@@ -1,73 +1,62 @@
+-- `put_word` meets its contract: where it returns early there is no room, and otherwise the stores leave the word in its slot.
+use native.Mathlib.Omega.{arith}
+use mathlib.Core.Path.{_∙_}
+use lib.ListN.{length-set}
+use Rattle.words.proofs.Puts.{no-room, too-long, puts-one}
 use borrow.Author.Needs.{needs}
 use Rattle.words.proofs.normal_form.put_word.Statement.{statement}
 use Rattle.words.proofs.normal_form.put_word.Tie as tie
-use Rattle.words.proofs.normal_form.put_word.Reads as reads
-use Rattle.words.proofs.normal_form.put_word.Lts as lts
-use Rattle.words.proofs.normal_form.copy.Reads as copy-reads
 
--- src/normal_form.rt:52:9
 returns : tie.Need-returns
-returns c = search needs
+returns c = no-room (λ f. omega (arith, f .few, c .if1 .taken))
 
--- src/normal_form.rt:54:14
 mul-at : tie.Need-mul-at
 mul-at c = search needs
 
--- src/normal_form.rt:55:22
 add-if2 : tie.Need-add-if2
 add-if2 c = search needs
 
--- src/normal_form.rt:56:9
 returns-2 : tie.Need-returns-2
-returns-2 c = search needs
+returns-2 c = no-room (λ f. omega (arith, f .few, f .room, c .if2 .taken))
 
--- src/normal_form.rt:58:13
 add-n : tie.Need-add-n
 add-n c = search needs
 
--- src/normal_form.rt:60:9
 returns-3 : tie.Need-returns-3
-returns-3 c = search needs
+returns-3 c = search (too-long, needs)
 
--- src/normal_form.rt:62:17
 cast-words : tie.Need-cast-words
 cast-words c = search needs
 
--- src/normal_form.rt:62:5
 mul-words : tie.Need-mul-words
 mul-words c = search needs
 
--- src/normal_form.rt:62:5
 slice-write-words : tie.Need-slice-write-words
 slice-write-words c = search needs
 
--- src/normal_form.rt:63:17
 add-start : tie.Need-add-start
 add-start c = search needs
 
--- src/normal_form.rt:64:5
 copy-requires : tie.Need-copy-requires
 copy-requires c κs = search needs
 
--- src/normal_form.rt:65:17
 add-copy : tie.Need-add-copy
 add-copy c = search needs
 
--- src/normal_form.rt:65:5
 copy-requires-2 : tie.Need-copy-requires-2
 copy-requires-2 c κs = search needs
 
--- src/normal_form.rt:66:5
 add-result : tie.Need-add-result
 add-result c = search needs
 
--- src/normal_form.rt:48:1
 same-length : tie.Need-same-length
-same-length c = search needs
+same-length c = c .before .before .copy2 .kept .0 ∙ c .before .before .before .before .before .before .copy .kept .0 ∙ simp length-set
 
--- src/normal_form.rt:48:1
 returns-4 : tie.Need-returns-4
-returns-4 c = search needs
+returns-4 c =
+    let d = c .before .before .before .before .before .before in
+    let a = d .before .before .before .before .before .before .before .before .args in
+    puts-one (a .words .now) (a .k) (a .a .now) (a .b .now) (d .copy .last .0) (c .before .before .copy2 .last .0) (d .copy .ensures) (c .before .before .copy2 .ensures) (omega arith) (omega arith) (omega arith)
 
 pub put-word-spec : {M : Type 1} → statement M
 put-word-spec =
