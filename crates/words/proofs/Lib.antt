@@ -4,3 +4,4 @@ pub mod Stores
 pub mod Stand
 pub mod Puts
 pub mod Joined
+pub mod Multiplied
