@@ -27,10 +27,12 @@ next none ts = none
 next (some k) none = none
 next (some k) (some ts) = push k ts
 
-unfoldable pub single : List Term → Option Term
-single [] = none
-single (t ∷ []) = some t
-single (t ∷ u ∷ ts) = none
+-- the term, where there is just one
+unfoldable pub single : Option (List Term) → Option Term
+single none = none
+single (some []) = none
+single (some (t ∷ [])) = some t
+single (some (t ∷ u ∷ ts)) = none
 
 module _ {A : Type 0} (token : A → Option Token) where
   -- the terms that items make one after the other
@@ -42,4 +44,4 @@ module _ {A : Type 0} (token : A → Option Token) where
   -- the term that items make
   unfoldable pub read : List A → Option Term
   unfolding build single
-  read ps = elim (build ps) [ none ↦ none | some ts ↦ single ts ]
+  read ps = single (build ps)

@@ -49,11 +49,14 @@ unfoldable pub end-at : List ℕ → ℕ → ℕ
 unfolding skip
 end-at xs at = at + skip (drop at xs) 1
 
--- the depths of the terms that a list spells one after the other, a missing part counting 0
+-- the first two terms made one: of a list of depths, where a missing one counts 0
+abbrev pub deepen : List ℕ → List ℕ
+deepen ds = (1 + max (getD ds 0 0) (getD ds 1 0)) ∷ drop 2 ds
+
+-- the depths of the terms that a list spells one after the other
 unfoldable pub depths : List ℕ → List ℕ
 depths [] = []
-depths (x ∷ xs) =
-    elim (ltb x ADD) [ true ↦ 0 ∷ depths xs | false ↦ (1 + max (getD (depths xs) 0 0) (getD (depths xs) 1 0)) ∷ drop 2 (depths xs) ]
+depths (x ∷ xs) = elim (ltb x ADD) [ true ↦ 0 ∷ depths xs | false ↦ deepen (depths xs) ]
 
 -- the depth of the first of them
 unfoldable pub depth-of : List ℕ → ℕ

@@ -6,7 +6,7 @@ use mathlib.Core.List.{List, [], _∷_, _++_, append-assoc, append-nil}
 use Rattle.terms.specs.Lists.{here, in-left, in-right}
 use Rattle.terms.specs.Term.{Term, letter, zero, one, add, mul}
 use Rattle.terms.specs.Letters.{letters, EachLetter}
-use Rattle.terms.specs.Build.{Token, atom, plus, times, operate, push, next, build, read}
+use Rattle.terms.specs.Build.{Token, atom, plus, times, push, build, read}
 
 -- `write` puts the items of a term, and `token` reads each, where its letters are Ok
 pub record Written {A : Type 0} (token : A → Option Token) (write : Term → List A) (Ok : ℕ → Type 0) : Type 0 where
@@ -42,7 +42,7 @@ module _ {A : Type 0} {token : A → Option Token} {write : Term → List A} {Ok
 
   pub read-written : (t : Term) → EachLetter Ok t → read token (write t) ≡ some t
   unfolding read build
-  read-written t ok = rw (build-all, read)
+  read-written t ok = rw build-all
     where
       build-all : build token (write t) ≡ some (t ∷ [])
       build-all = rw (append-nil (write t)) at (build-written t ok [] refl)

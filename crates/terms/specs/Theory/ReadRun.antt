@@ -1,10 +1,9 @@
 -- `read-run` gives the term of a run, and of no other list.
-use Prim.Native.Nat.{ℕ, _<_, _≤_}
+use Prim.Native.Nat.{ℕ, _<_}
 use native.Mathlib.Omega.{arith}
 use native.Mathlib.Decide.{decLt, ℕ-discrete}
 use mathlib.Core.Path.{_≡_, refl, sym, _∙_, ap, subst}
 use mathlib.Core.Logic.{_↔_}
-use mathlib.Core.Bool.{Bool, true, false}
 use mathlib.Core.Option.{Option, none, some, Option·none-ne-some}
 use mathlib.Core.List.{List, [], _∷_, _++_, append-assoc, append-nil}
 use borrow.Author.Tests.{lt-ltb, le-ltb, ne-eqb}
@@ -29,7 +28,7 @@ token-letter : (n : ℕ) → n < ZERO → token n ≡ some (atom (letter n))
 unfolding token
 token-letter n h = rw (lt-ltb n ZERO h, token)
 
-token-none : (n : ℕ) → MUL < n → token n ≡ none
+pub token-none : (n : ℕ) → MUL < n → token n ≡ none
 unfolding token
 token-none n h =
     rw (le-ltb n ZERO (omega arith), token)
@@ -115,7 +114,7 @@ pub read-is-run : {xs : List ℕ} {t : Term} → read-run xs ≡ some t → IsRu
 unfolding read-run read single
 read-is-run {xs} {t} e = go (build token xs) refl e
   where
-    go : (b : Option (List Term)) → build token xs ≡ b → elim b [ none ↦ none | some ts ↦ single ts ] ≡ some t → IsRun xs t
+    go : (b : Option (List Term)) → build token xs ≡ b → single b ≡ some t → IsRun xs t
     go none d e = absurd (Option·none-ne-some _ e)
     go (some []) d e = absurd (Option·none-ne-some _ e)
     go (some (u ∷ [])) d e =
