@@ -5,3 +5,4 @@ pub mod Stand
 pub mod Puts
 pub mod Joined
 pub mod Multiplied
+pub mod Expanded

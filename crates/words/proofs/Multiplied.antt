@@ -2,6 +2,7 @@
 use Prim.Native.Nat.{ℕ, _+_, _*_, _≤_}
 use native.Mathlib.Omega.{arith}
 use mathlib.Core.Path.{_≡_, refl, sym, ap, subst, _∙_}
+use mathlib.Core.Bool.{true, false}
 use mathlib.Core.List.{List, [], _∷_, _++_, map, map-id}
 use lib.ListN.{length}
 use lib.Dec.{eqb}
@@ -23,6 +24,15 @@ multiplied {ws} {ws′ = ws′} {from = from} {k = k} p q =
         rw e at (q .exact (products us ts) (joined .put)) f;
     }
 
+-- the word of a letter
+
+letter-below : (x : ℕ) → (x ≡ ONE → ⊥) → elim (eqb x ONE) [ true ↦ [] ∷ [] | false ↦ (x ∷ []) ∷ [] ] ≡ (x ∷ []) ∷ []
+letter-below x h = rw (ne-eqb x ONE h)
+
+pub letter-words : (x : ℕ) → (x ≡ ZERO → ⊥) → (x ≡ ONE → ⊥) → atom-words x ≡ (x ∷ []) ∷ []
+unfolding atom-words
+letter-words x g h = rw (ne-eqb x ZERO g, atom-words) (letter-below x h)
+
 module _ (ws : List ℕ) (k : ℕ) where
   pub atom-zero : (x : ℕ) → x ≡ ZERO → PutsWords (atom-words x) ws k k ws
   unfolding atom-words
@@ -34,5 +44,4 @@ module _ (ws : List ℕ) (k : ℕ) where
     atom-one e p = rw e p
 
     pub atom-letter : (x ≡ ZERO → ⊥) → (x ≡ ONE → ⊥) → PutsWords ((x ∷ []) ∷ []) ws k r ws′ → PutsWords (atom-words x) ws k r ws′
-    unfolding atom-words
-    atom-letter g h p = rw (ne-eqb x ZERO g, atom-words) (rw (ne-eqb x ONE h) p)
+    atom-letter g h p = rw (letter-words x g h) p
