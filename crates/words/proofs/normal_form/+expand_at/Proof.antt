@@ -1,5 +1,10 @@
+-- `expand_at` meets its contract: the words of a sum or product are put together from those of its parts.
+-- The measure is what is left of the run.
+use mathlib.Core.Path.{_∙_}
+use lib.ListN.{length}
+use Rattle.words.proofs.Expanded.{expands-past, expands-atom, expands-sum, expands-product}
 use borrow.Author.Needs.{needs}
-use Prim.Native.Nat.{ℕ, _<_}
+use Prim.Native.Nat.{ℕ, _<_, _-_}
 use borrow.Fn.Kinds.{In}
 use borrow.Fn.PlainCycle.{Measures, is, falls, and}
 use Rattle.words.proofs.normal_form.expand_at.Reads as expand-at
@@ -11,7 +16,7 @@ use Rattle.words.proofs.normal_form.+expand_at.{statement}
 use Rattle.words.proofs.normal_form.+expand_at.Tie.{close}
 
 abbrev μ-expand-at : Measures 3 expand-at-kinds.ps ℕ
-μ-expand-at κs a = ?
+μ-expand-at κs a = length (a .0 .now) - a .1 .0
 
 abbrev expand-at-at : ℕ → In 3 expand-at-kinds.ps
 expand-at-at t = and 3 expand-at-kinds.ps (is 3 expand-at-kinds.ps μ-expand-at t) expand-at.Pre
@@ -20,7 +25,6 @@ abbrev expand-at-below : ℕ → In 3 expand-at-kinds.ps
 expand-at-below t =
     and 3 expand-at-kinds.ps (falls 3 expand-at-kinds.ps _<_ μ-expand-at t) expand-at.Pre
 
--- src/normal_form.rt:140:9
 expand-at-returns : (t : ℕ) → expand-at-lts.Need-returns (
   put-atom-reads.Asked,
   put-atom-reads.Learnt,
@@ -29,9 +33,8 @@ expand-at-returns : (t : ℕ) → expand-at-lts.Need-returns (
   multiply-reads.Asked,
   multiply-reads.Learnt,
 ) (expand-at-at t) expand-at.Post
-expand-at-returns t c = search needs
+expand-at-returns t c = search (expands-past, needs)
 
--- src/normal_form.rt:142:13
 expand-at-mul-x : (t : ℕ) → expand-at-lts.Need-mul-x (
   put-atom-reads.Asked,
   put-atom-reads.Learnt,
@@ -42,7 +45,6 @@ expand-at-mul-x : (t : ℕ) → expand-at-lts.Need-mul-x (
 ) (expand-at-at t) expand-at.Post
 expand-at-mul-x t c = search needs
 
--- src/normal_form.rt:142:13
 expand-at-shared-slice-read-x : (t : ℕ) → expand-at-lts.Need-shared-slice-read-x (
   put-atom-reads.Asked,
   put-atom-reads.Learnt,
@@ -53,7 +55,6 @@ expand-at-shared-slice-read-x : (t : ℕ) → expand-at-lts.Need-shared-slice-re
 ) (expand-at-at t) expand-at.Post
 expand-at-shared-slice-read-x t c = search needs
 
--- src/normal_form.rt:143:16
 expand-at-add-next : (t : ℕ) → expand-at-lts.Need-add-next (
   put-atom-reads.Asked,
   put-atom-reads.Learnt,
@@ -64,7 +65,6 @@ expand-at-add-next : (t : ℕ) → expand-at-lts.Need-add-next (
 ) (expand-at-at t) expand-at.Post
 expand-at-add-next t c = search needs
 
--- src/normal_form.rt:145:13
 expand-at-put-atom-requires : (t : ℕ) → expand-at-lts.Need-put-atom-requires (
   put-atom-reads.Asked,
   put-atom-reads.Learnt,
@@ -75,7 +75,6 @@ expand-at-put-atom-requires : (t : ℕ) → expand-at-lts.Need-put-atom-requires
 ) (expand-at-at t) expand-at.Post
 expand-at-put-atom-requires t c κs = search needs
 
--- src/normal_form.rt:146:9
 expand-at-same-length : (t : ℕ) → expand-at-lts.Need-same-length (
   put-atom-reads.Asked,
   put-atom-reads.Learnt,
@@ -86,7 +85,6 @@ expand-at-same-length : (t : ℕ) → expand-at-lts.Need-same-length (
 ) (expand-at-at t) expand-at.Post
 expand-at-same-length t c = search needs
 
--- src/normal_form.rt:146:9
 expand-at-returns-2 : (t : ℕ) → expand-at-lts.Need-returns-2 (
   put-atom-reads.Asked,
   put-atom-reads.Learnt,
@@ -95,9 +93,8 @@ expand-at-returns-2 : (t : ℕ) → expand-at-lts.Need-returns-2 (
   multiply-reads.Asked,
   multiply-reads.Learnt,
 ) (expand-at-at t) expand-at.Post
-expand-at-returns-2 t c = search needs
+expand-at-returns-2 t c = search (expands-atom, needs)
 
--- src/normal_form.rt:151:9
 expand-at-expand-at-requires : (t : ℕ) → expand-at-lts.Need-expand-at-requires (
   put-atom-reads.Asked,
   put-atom-reads.Learnt,
@@ -108,7 +105,6 @@ expand-at-expand-at-requires : (t : ℕ) → expand-at-lts.Need-expand-at-requir
 ) (expand-at-at t) expand-at.Post
 expand-at-expand-at-requires t c κs = search needs
 
--- src/normal_form.rt:154:9
 expand-at-expand-at-requires-2 : (t : ℕ) → expand-at-lts.Need-expand-at-requires-2 (
   put-atom-reads.Asked,
   put-atom-reads.Learnt,
@@ -119,7 +115,6 @@ expand-at-expand-at-requires-2 : (t : ℕ) → expand-at-lts.Need-expand-at-requ
 ) (expand-at-at t) expand-at.Post
 expand-at-expand-at-requires-2 t c κs = search needs
 
--- src/normal_form.rt:156:9
 expand-at-same-length-2 : (t : ℕ) → expand-at-lts.Need-same-length-2 (
   put-atom-reads.Asked,
   put-atom-reads.Learnt,
@@ -130,7 +125,6 @@ expand-at-same-length-2 : (t : ℕ) → expand-at-lts.Need-same-length-2 (
 ) (expand-at-at t) expand-at.Post
 expand-at-same-length-2 t c = search needs
 
--- src/normal_form.rt:156:9
 expand-at-same-length-3 : (t : ℕ) → expand-at-lts.Need-same-length-3 (
   put-atom-reads.Asked,
   put-atom-reads.Learnt,
@@ -141,7 +135,6 @@ expand-at-same-length-3 : (t : ℕ) → expand-at-lts.Need-same-length-3 (
 ) (expand-at-at t) expand-at.Post
 expand-at-same-length-3 t c = search needs
 
--- src/normal_form.rt:156:9
 expand-at-returns-3 : (t : ℕ) → expand-at-lts.Need-returns-3 (
   put-atom-reads.Asked,
   put-atom-reads.Learnt,
@@ -150,9 +143,8 @@ expand-at-returns-3 : (t : ℕ) → expand-at-lts.Need-returns-3 (
   multiply-reads.Asked,
   multiply-reads.Learnt,
 ) (expand-at-at t) expand-at.Post
-expand-at-returns-3 t c = search needs
+expand-at-returns-3 t c = search (expands-sum, needs)
 
--- src/normal_form.rt:159:9
 expand-at-multiply-requires : (t : ℕ) → expand-at-lts.Need-multiply-requires (
   put-atom-reads.Asked,
   put-atom-reads.Learnt,
@@ -163,7 +155,6 @@ expand-at-multiply-requires : (t : ℕ) → expand-at-lts.Need-multiply-requires
 ) (expand-at-at t) expand-at.Post
 expand-at-multiply-requires t c κs = search needs
 
--- src/normal_form.rt:136:1
 expand-at-same-length-4 : (t : ℕ) → expand-at-lts.Need-same-length-4 (
   put-atom-reads.Asked,
   put-atom-reads.Learnt,
@@ -174,7 +165,6 @@ expand-at-same-length-4 : (t : ℕ) → expand-at-lts.Need-same-length-4 (
 ) (expand-at-at t) expand-at.Post
 expand-at-same-length-4 t c = search needs
 
--- src/normal_form.rt:136:1
 expand-at-same-length-5 : (t : ℕ) → expand-at-lts.Need-same-length-5 (
   put-atom-reads.Asked,
   put-atom-reads.Learnt,
@@ -185,7 +175,6 @@ expand-at-same-length-5 : (t : ℕ) → expand-at-lts.Need-same-length-5 (
 ) (expand-at-at t) expand-at.Post
 expand-at-same-length-5 t c = search needs
 
--- src/normal_form.rt:136:1
 expand-at-returns-4 : (t : ℕ) → expand-at-lts.Need-returns-4 (
   put-atom-reads.Asked,
   put-atom-reads.Learnt,
@@ -194,7 +183,19 @@ expand-at-returns-4 : (t : ℕ) → expand-at-lts.Need-returns-4 (
   multiply-reads.Asked,
   multiply-reads.Learnt,
 ) (expand-at-at t) expand-at.Post
-expand-at-returns-4 t c = search needs
+expand-at-returns-4 t c =
+    let m = c .before .before .before .before in
+    let r = m .before .before .before .before .before .before .before .before in
+    let l = r .before .before .before .before .before .before .before in
+    let kept = l .expand-at .kept .1 .1 .1 .1 .0 in
+    expands-product
+    (l .before .before .before .if2 .left)
+    (l .expand-at .ensures)
+    (r .expand-at2 .ensures)
+    kept
+    (m .before .before .before .if3 .left)
+    (m .multiply .ensures)
+    (r .expand-at2 .kept .1 .1 .1 .1 .0 ∙ kept)
 
 pub +expand-at-spec : {M : Type 1} → statement M
 +expand-at-spec = close μ-expand-at λ t. expand-at-lts.spec (
