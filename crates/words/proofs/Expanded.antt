@@ -1,19 +1,18 @@
 -- A term in a run multiplied out: an atom, and a sum or product whose parts were.
-use Prim.Native.Nat.{ℕ, _+_, _*_, _≤_, _<_}
+use Prim.Native.Nat.{ℕ, _+_, _≤_, _<_}
 use native.Mathlib.Omega.{arith}
 use native.Mathlib.Nat.{le-refl}
-use mathlib.Core.Path.{_≡_, refl, sym, ap, subst, _∙_}
-use mathlib.Core.List.{List, [], _∷_, _++_}
+use mathlib.Core.Path.{_≡_, refl}
+use mathlib.Core.List.{List, _++_}
 use lib.ListN.{length, getD}
 use Rattle.terms.specs.Term as term
 use Rattle.terms.specs.Term.{Term, letter, add, mul, size}
 use Rattle.terms.specs.Run.{ZERO, ONE, ADD, run}
-use Rattle.terms.specs.Held.{Fine, IsRun, Holds}
+use Rattle.terms.specs.Held.{Fine, Holds}
 use Rattle.terms.proofs.Positions.{drop-head}
 use Rattle.terms.proofs.Held.{size-pos, holds-whole, holds-within, holds-add, holds-mul}
-use Rattle.words.specs.Words.{Word, products, expand}
-use Rattle.words.specs.Spelled.{words-in}
-use Rattle.words.specs.Multiply.{MOST, Between, Puts, Fits, PutsWords, Multiplies, atom-words, Room, Expands, MultipliesOut}
+use Rattle.words.specs.Words.{products, expand}
+use Rattle.words.specs.Multiply.{Puts, Fits, PutsWords, Multiplies, atom-words, Room, Expands, MultipliesOut}
 use Rattle.words.specs.Theory.Bound.{atoms, size-atoms, most, most-most, most-bound, expand-bound}
 use Rattle.words.specs.Theory.Longest.{longest-expand}
 use Rattle.words.specs.declared.normal_form.Expanded.{Expanded}
@@ -91,8 +90,8 @@ module _ {xs : List ℕ} {at : ℕ} {ws ss : List ℕ} {j : ℕ} where
         forward = omega arith;
         few = p .few;
         exact = λ t h r.
-          let a = atom-held t h q in
-          (omega (arith, a .0), rw (a .1) at (p .exact) (room-fits r));
+            let a = atom-held t h q in
+            (omega (arith, a .0), rw (a .1) at (p .exact) (room-fits r));
       }
 
   -- both parts multiplied out, one after the other
@@ -154,12 +153,12 @@ module _ {xs : List ℕ} {at : ℕ} {ws ss : List ℕ} {j : ℕ} where
           forward = omega (arith, L .forward, R .forward);
           few = m .few;
           exact = λ t h room.
-            let p = left-put t h room .1 in
-            let q = right-put t h room .1 in
-            let e = node t h room .product n in
-            let left = between-front ws₂ (l .count) (q .front) (le-refl (l .count)) (p .put) in
-            let put = m .exact (expand (node t h room .left)) (expand (node t h room .right)) left (q .put) (rw e at (fits t h room)) (omega (arith, room .scratch)) in
-            (whole t h room, rw e (puts-anew (puts-then p q) put));
+              let p = left-put t h room .1 in
+              let q = right-put t h room .1 in
+              let e = node t h room .product n in
+              let left = between-front ws₂ (l .count) (q .front) (le-refl (l .count)) (p .put) in
+              let put = m .exact (expand (node t h room .left)) (expand (node t h room .right)) left (q .put) (rw e at (fits t h room)) (omega (arith, room .scratch)) in
+              (whole t h room, rw e (puts-anew (puts-then p q) put));
         }
 
 pub multiplied-out : {xs ws ss ws′ : List ℕ} {r : Expanded} → Expands xs 0 ws ss 0 r ws′ → MultipliesOut xs ws ss (r .count) ws′
@@ -168,8 +167,8 @@ multiplied-out {ws = ws} {ss = ss} {r = r} e =
     record {
       few = e .few (omega arith);
       exact = λ t h small words scratch.
-        let room : Room t 0 ws ss = record { before = 0; few = omega arith; small = omega (arith, size-atoms t); words = words; scratch = scratch } in
-        let p = e .exact t (holds-whole h) room .1 .put in
-        let n : r .count ≡ length (expand t) = omega (arith, between-end p) in
-        (n, rw n (between-words p));
+          let room : Room t 0 ws ss = record { before = 0; few = omega arith; small = omega (arith, size-atoms t); words = words; scratch = scratch } in
+          let p = e .exact t (holds-whole h) room .1 .put in
+          let n : r .count ≡ length (expand t) = omega (arith, between-end p) in
+          (n, rw n (between-words p));
     }

@@ -1,16 +1,14 @@
 -- Words joined: a word to each of several, and each of several to each of others.
 use Prim.Native.Nat.{ℕ, _+_, _≤_, max}
 use native.Mathlib.Omega.{arith}
-use native.Mathlib.Nat.{le-refl}
 use native.Mathlib.Numerals.{add-one}
-use mathlib.Core.Path.{_≡_, refl, ap, subst, _∙_}
+use mathlib.Core.Path.{_≡_, refl, ap, _∙_}
 use mathlib.Core.List.{List, [], _∷_, _++_, map, map-append, append-nil}
-use lib.ListN.{length}
 use Rattle.words.specs.Words.{Word, products}
 use Rattle.words.specs.Spelled.{word-at}
 use Rattle.words.specs.Multiply.{Between, none, more, Puts, Fits, PutsWords, JoinsRow, Joins}
 use Rattle.words.specs.Theory.Products.{products-append}
-use Rattle.words.proofs.Stand.{in-slot-word, between-end, Last, between-last}
+use Rattle.words.proofs.Stand.{in-slot-word, between-end, between-last}
 use Rattle.words.proofs.Puts.{puts-none, puts-both}
 
 -- a step that puts more words puts all of them

@@ -1,15 +1,14 @@
 -- Multiplying in place, and the words of an atom.
-use Prim.Native.Nat.{ℕ, _+_, _*_, _≤_}
+use Prim.Native.Nat.{ℕ, _+_}
 use native.Mathlib.Omega.{arith}
-use mathlib.Core.Path.{_≡_, refl, sym, ap, subst, _∙_}
+use mathlib.Core.Path.{_≡_}
 use mathlib.Core.Bool.{true, false}
 use mathlib.Core.List.{List, [], _∷_, _++_, map, map-id}
-use lib.ListN.{length}
 use lib.Dec.{eqb}
 use borrow.Author.Tests.{ne-eqb}
 use Rattle.terms.specs.Run.{ZERO, ONE}
-use Rattle.words.specs.Words.{Word, products}
-use Rattle.words.specs.Multiply.{MOST, Between, Puts, Fits, PutsWords, JoinsRow, Joins, Multiplies, atom-words}
+use Rattle.words.specs.Words.{products}
+use Rattle.words.specs.Multiply.{PutsWords, JoinsRow, Joins, Multiplies, atom-words}
 use Rattle.words.proofs.Puts.{puts-none}
 
 -- the joined words copied back
@@ -19,9 +18,9 @@ multiplied {ws} {ws′ = ws′} {from = from} {k = k} p q =
     record {
       few = q .few;
       exact = λ us ts b c f h.
-        let joined = p .exact us ts b c (record { few = omega (arith, f .few); short = f .short; room = h }) in
-        let e : map (λ w. [] ++ w) (products us ts) ≡ products us ts = simp map-id in
-        rw e at (q .exact (products us ts) (joined .put)) f;
+          let joined = p .exact us ts b c (record { few = omega (arith, f .few); short = f .short; room = h }) in
+          let e : map (λ w. [] ++ w) (products us ts) ≡ products us ts = simp map-id in
+          rw e at (q .exact (products us ts) (joined .put)) f;
     }
 
 -- the word of a letter

@@ -128,7 +128,13 @@ struct Expanded {
 }
 
 // The term at a position multiplied out into the slots from `count` on. It calls itself twice for each sum and product.
-fn expand_at(run: &[u32], at: usize, words: &mut [u32], count: usize, scratch: &mut [u32]) -> Expanded
+fn expand_at(
+    run: &[u32],
+    at: usize,
+    words: &mut [u32],
+    count: usize,
+    scratch: &mut [u32],
+) -> Expanded
     ensures { λ r. ⌜ Expands (now (run .entry)) at (now (words .entry)) (now (scratch .entry)) count r (now (words .exit)) ⌝ }
 {
     if run.len() <= at {
