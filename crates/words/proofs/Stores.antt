@@ -16,7 +16,7 @@ sets-out xs i (v ∷ vs) h = rw (set-out xs i v h) (sets-out xs (suc i) vs (omeg
 -- the numbers from i on are still to be stored from p on
 module _ (xs ns ys : List ℕ) (p i : ℕ) (e : sets xs p (drop i ns) ≡ ys) where
   pub store-next : i < length ns → sets (set xs p (getD ns i 0)) (p + 1) (drop (i + 1) ns) ≡ ys
-  store-next h = rw (add-one, add-one) (rw (drop-cons ns i 0 h) at e)
+  store-next h = rw (add-one p, add-one i) (rw (drop-cons ns i 0 h) at e)
 
   pub store-full : length xs ≤ p → xs ≡ ys
   store-full h = sym (sets-out xs p (drop i ns) h) ∙ e

@@ -49,26 +49,26 @@ pub record PutsWords (us : List Word) (ws : List ℕ) (j k : ℕ) (ws′ : List 
   pub few : j ≤ MOST → k ≤ MOST
   pub exact : Fits us ws j → Puts us ws j k ws′
 
--- a word joined to each word in the slots from..to
-pub record JoinsRow (u : Word) (vs : List ℕ) (from to : ℕ) (ws : List ℕ) (j k : ℕ) (ws′ : List ℕ) : Type 0 where
+-- a word joined to each word in the slots from..to of xs
+pub record JoinsRow (u : Word) (xs : List ℕ) (from to : ℕ) (ws : List ℕ) (j k : ℕ) (ws′ : List ℕ) : Type 0 where
   pub few : j ≤ MOST → k ≤ MOST
-  pub exact : (us : List Word) → Between vs from to us → Fits (map (u ++_) us) ws j → Puts (map (u ++_) us) ws j k ws′
+  pub exact : (vs : List Word) → Between xs from to vs → Fits (map (u ++_) vs) ws j → Puts (map (u ++_) vs) ws j k ws′
 
--- each word in the slots from..middle joined to each in the slots right..to
-pub record Joins (vs : List ℕ) (from middle right to : ℕ) (ws : List ℕ) (j k : ℕ) (ws′ : List ℕ) : Type 0 where
+-- each word in the slots from..middle of xs joined to each in the slots right..to
+pub record Joins (xs : List ℕ) (from middle right to : ℕ) (ws : List ℕ) (j k : ℕ) (ws′ : List ℕ) : Type 0 where
   pub few : j ≤ MOST → k ≤ MOST
-  pub exact : (us ts : List Word) → Between vs from middle us → Between vs right to ts → Fits (products us ts) ws j → Puts (products us ts) ws j k ws′
+  pub exact : (us vs : List Word) → Between xs from middle us → Between xs right to vs → Fits (products us vs) ws j → Puts (products us vs) ws j k ws′
 
--- the same words, put in place of those that were joined
+-- each word in the slots from..middle joined to each in the slots middle..to, and put in place of them, by way of the scratch space ss
 pub record Multiplies (ws : List ℕ) (from middle to : ℕ) (ss : List ℕ) (k : ℕ) (ws′ : List ℕ) : Type 0 where
   pub few : from ≤ MOST → k ≤ MOST
-  pub exact : (us ts : List Word) → Between ws from middle us → Between ws middle to ts → Fits (products us ts) ws from → SLOT * MOST ≤ length ss → Puts (products us ts) ws from k ws′
+  pub exact : (us vs : List Word) → Between ws from middle us → Between ws middle to vs → Fits (products us vs) ws from → SLOT * MOST ≤ length ss → Puts (products us vs) ws from k ws′
 
 -- the words of an atom, by its number in a run
 unfoldable pub atom-words : ℕ → List Word
 atom-words x = elim (eqb x ZERO) [ true ↦ [] | false ↦ elim (eqb x ONE) [ true ↦ [] ∷ [] | false ↦ (x ∷ []) ∷ [] ] ]
 
--- room to multiply t out from slot j on: the words before it are no more than so many atoms give
+-- room to multiply t out from slot j on: there are no more words before it than `before` atoms give
 pub record Room (t : Term) (j : ℕ) (ws ss : List ℕ) : Type 0 where
   pub before : ℕ
   pub few : j ≤ most before
