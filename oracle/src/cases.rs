@@ -89,18 +89,12 @@ const D_PROVED: Due = Ok(
 );
 
 /// A none with these sides, expanded and cut.
+#[rustfmt::skip]
 macro_rules! none {
     ($left:literal, $right:literal, $expanded:literal, $cut:literal) => {
         Ok(concat!(
-            "answer=none\nleft=",
-            $left,
-            "\nright=",
-            $right,
-            "\nexpanded=",
-            $expanded,
-            "\ncut=",
-            $cut,
-            "\n"
+            "answer=none\nleft=", $left, "\nright=", $right,
+            "\nexpanded=", $expanded, "\ncut=", $cut, "\n"
         ))
     };
 }
@@ -114,65 +108,24 @@ pub fn cases() -> Vec<Case> {
     all
 }
 
+#[rustfmt::skip]
 fn searched() -> Vec<Case> {
-    let small = ["1", "3", "1", "1"];
+    const C_NONE_CUT: Due = none!("+ * v0 v1 0", "* v0 v1", "0", "yes");
     vec![
         find("A", A, LIMITS, A_PROVED),
         find("A, limits 0", A, ["0"; 4], A_PROVED),
         find("B", B, LIMITS, B_PROVED),
         find("C", C, LIMITS, C_PROVED),
-        find("C, small limits", C, small, C_PROVED),
-        find(
-            "C2",
-            C,
-            ["3", "2", "3", "1000"],
-            none!("+ * v0 v1 0", "* v0 v1", "1", "no"),
-        ),
-        find(
-            "C2, small limits",
-            C,
-            ["1", "2", "1", "1"],
-            none!("+ * v0 v1 0", "* v0 v1", "1", "yes"),
-        ),
-        find(
-            "C3",
-            C,
-            ["3", "7", "3", "0"],
-            none!("+ * v0 v1 0", "* v0 v1", "0", "yes"),
-        ),
-        find(
-            "C3, small limits",
-            C,
-            ["1", "3", "1", "0"],
-            none!("+ * v0 v1 0", "* v0 v1", "0", "yes"),
-        ),
+        find("C, small limits", C, ["1", "3", "1", "1"], C_PROVED),
+        find("C2", C, ["3", "2", "3", "1000"], none!("+ * v0 v1 0", "* v0 v1", "1", "no")),
+        find("C2, small limits", C, ["1", "2", "1", "1"], none!("+ * v0 v1 0", "* v0 v1", "1", "yes")),
+        find("C3", C, ["3", "7", "3", "0"], C_NONE_CUT),
+        find("C3, small limits", C, ["1", "3", "1", "0"], C_NONE_CUT),
         find("D", D, LIMITS, D_PROVED),
-        case(
-            "D, eight slots",
-            Call {
-                slots: 8,
-                ..call(Entry::Find, D, LIMITS)
-            },
-            D_PROVED,
-        ),
-        find(
-            "D2",
-            D,
-            ["1", "7", "3", "1000"],
-            none!("v0", "+ 0 v0", "1", "no"),
-        ),
-        find(
-            "D3",
-            D,
-            ["3", "7", "3", "1"],
-            none!("v0", "+ 0 v0", "1", "yes"),
-        ),
-        find(
-            "E",
-            E,
-            ["1", "7", "3", "1000"],
-            none!("+ v0 0", "+ v0 * 0 v1", "1", "no"),
-        ),
+        case("D, eight slots", Call { slots: 8, ..call(Entry::Find, D, LIMITS) }, D_PROVED),
+        find("D2", D, ["1", "7", "3", "1000"], none!("v0", "+ 0 v0", "1", "no")),
+        find("D3", D, ["3", "7", "3", "1"], none!("v0", "+ 0 v0", "1", "yes")),
+        find("E", E, ["1", "7", "3", "1000"], none!("+ v0 0", "+ v0 * 0 v1", "1", "no")),
     ]
 }
 
@@ -203,44 +156,20 @@ fn listed() -> Vec<Case> {
     ]
 }
 
+#[rustfmt::skip]
 fn refused() -> Vec<Case> {
     let find_a = || call(Entry::Find, A, LIMITS);
+    let find_d = || call(Entry::Find, D, LIMITS);
     let seven = "+ v0 + v1 + v2 + v3 + v4 + v5 v6";
     vec![
-        case(
-            "1, empty input",
-            Call {
-                job: Vec::new(),
-                ..find_a()
-            },
-            Err(1),
-        ),
-        find(
-            "2, an operator short of a part",
-            ["+ v0", "v0"],
-            LIMITS,
-            Err(2),
-        ),
+        case("1, empty input", Call { job: Vec::new(), ..find_a() }, Err(1)),
+        find("2, a sum short of a part", ["+ v0", "v0"], LIMITS, Err(2)),
         find("3, 33 nodes", [&sum_of(17), "v0"], LIMITS, Err(3)),
         find("4, seven letters", [seven, "0"], LIMITS, Err(4)),
         find("5, 17 steps", A, ["17", "7", "3", "1000"], Err(5)),
         find("6, equal sides", ["v0", "v0"], LIMITS, Err(6)),
-        case(
-            "7, D with 7 slots",
-            Call {
-                slots: 7,
-                ..call(Entry::Find, D, LIMITS)
-            },
-            Err(7),
-        ),
-        case(
-            "8, A with no room",
-            Call {
-                room: 0,
-                ..find_a()
-            },
-            Err(8),
-        ),
+        case("7, D with 7 slots", Call { slots: 7, ..find_d() }, Err(7)),
+        case("8, A with no room", Call { room: 0, ..find_a() }, Err(8)),
     ]
 }
 

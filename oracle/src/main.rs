@@ -24,7 +24,7 @@ oracle check OPTIONS
     Makes the same calls, compares both implementations and prints counts.
 
 OPTIONS: --seed S (default 1), --count N (default 1000), --kind K (default all, mixed),
-    --max-slots N, --max-room N (larger buffers are drawn as this).
+    --light (no heavy calls), --max-slots N, --max-room N (larger buffers are drawn as this).
 Entries in records: 1 find, 2 words, 3 rename. Number: 0, or the refusal's.
 
 Kinds, with their share in a thousand:
@@ -122,6 +122,7 @@ fn plan(options: &[&str]) -> Result<Plan, Failure> {
         match option {
             "--seed" => plan.seed = value(option, options.next())?,
             "--count" => plan.count = value(option, options.next())?,
+            "--light" => plan.light = true,
             "--max-slots" => plan.most_slots = value(option, options.next())?,
             "--max-room" => plan.most_room = value(option, options.next())?,
             "--kind" => {

@@ -2,7 +2,7 @@
 
 use std::collections::BTreeSet;
 
-use oracle::generate::{KINDS, Plan};
+use oracle::generate::{HEAVY, KINDS, Plan};
 use oracle::{Entry, Given, checked, list};
 
 /// The calls of a plan with what they give.
@@ -34,7 +34,7 @@ fn numbers(name: &str) -> BTreeSet<u8> {
 
 #[test]
 fn every_light_kind_agrees() {
-    for kind in KINDS.iter().filter(|kind| kind.name != "heavy") {
+    for kind in KINDS.iter().filter(|kind| kind.name != HEAVY) {
         answers(&of_kind(kind.name, 200));
     }
 }

@@ -26,7 +26,7 @@ pub fn lines(random: &mut Random) -> Call {
 }
 
 fn bad_digits(random: &mut Random, mut draft: Draft) -> Vec<u8> {
-    draft.0[random.from_to(2, 5)] = random.pick(&NO_NUMBERS).to_vec();
+    draft.0[random.between(2, 5)] = random.pick(&NO_NUMBERS).to_vec();
     draft.bytes()
 }
 
@@ -129,7 +129,7 @@ fn damage(random: &mut Random, text: &mut Vec<u8>) {
         return;
     }
     let at = random.below(text.len());
-    let end = (at + random.from_to(1, 8)).min(text.len());
+    let end = (at + random.between(1, 8)).min(text.len());
     match random.below(9) {
         0 => text[at] ^= 1 << random.below(8),
         1 => text[at] = random.byte(),

@@ -16,7 +16,7 @@ fn listed(random: &mut Random, left: &Term, right: &Term) -> Call {
 
 /// Products of sums, up to 324 words a side.
 pub fn words(random: &mut Random) -> Call {
-    let count = random.from_to(1, 6);
+    let count = random.between(1, 6);
     let pool = letters(random, count);
     let left = product_of_sums(random, &pool);
     let right = match random.below(3) {
@@ -34,7 +34,7 @@ fn product_of_sums(random: &mut Random, pool: &[u16]) -> Term {
     let mut widths = vec![3, 3, 3, 3, 4];
     match random.below(4) {
         0 => widths = vec![2; 8],
-        1 => widths.truncate(random.from_to(1, 4)),
+        1 => widths.truncate(random.between(1, 4)),
         _ => random.shuffle(&mut widths),
     }
     let factors = widths.iter().map(|&width| {

@@ -25,7 +25,7 @@ impl Random {
     }
 
     /// A number from `least` to `most`, both possible.
-    pub fn from_to(&mut self, least: usize, most: usize) -> usize {
+    pub fn between(&mut self, least: usize, most: usize) -> usize {
         least + self.below(most + 1 - least)
     }
 

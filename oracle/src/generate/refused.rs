@@ -8,70 +8,25 @@ use crate::Call;
 use crate::plain::job::{BOUNDS, MOST_LETTERS};
 
 /// Values that are no term.
+#[rustfmt::skip]
 const NO_TERMS: [&[u8]; 36] = [
-    b"",
-    b" ",
-    b"v",
-    b"v00",
-    b"v007",
-    b"v01",
-    b"v1000",
-    b"v65536",
-    b"v4294967296",
-    b"v-1",
-    b"v0x",
-    b"V0",
-    b"x0",
-    b"2",
-    b"10",
-    b"00",
-    b"01",
-    b"+*",
-    b"+v0 v1",
-    b"+ v0",
-    b"*",
-    b"+",
-    b"+ v0 v1 v2",
-    b"v0 v1",
-    b" v0",
-    b"v0 ",
-    b"+ v0  v1",
-    b"+  v0 v1",
-    b"- v0 v1",
-    b"v0\r",
-    b"v0\t",
-    b"\xff",
-    b"v0\0",
-    b"v 0",
-    b"+ 0 2",
-    b"* v999 v9990",
+    b"", b" ", b"v", b"v00", b"v007", b"v01", b"v1000", b"v65536", b"v4294967296", b"v-1",
+    b"v0x", b"V0", b"x0", b"2", b"10", b"00", b"01", b"+*", b"+v0 v1", b"+ v0", b"*", b"+",
+    b"+ v0 v1 v2", b"v0 v1", b" v0", b"v0 ", b"+ v0  v1", b"+  v0 v1", b"- v0 v1", b"v0\r",
+    b"v0\t", b"\xff", b"v0\0", b"v 0", b"+ 0 2", b"* v999 v9990",
 ];
 
 /// Items that are none.
+#[rustfmt::skip]
 const NO_ITEMS: [&[u8]; 10] = [
-    b"",
-    b"v",
-    b"v01",
-    b"v1000",
-    b"2",
-    b"00",
-    b"V1",
-    b"\x0b",
-    b"v1v",
-    b"18446744073709551616",
+    b"", b"v", b"v01", b"v1000", b"2", b"00", b"V1", b"\x0b", b"v1v", b"18446744073709551616",
 ];
 
 /// Limits too large, some of which wrap to small numbers.
+#[rustfmt::skip]
 const TOO_LARGE: [&str; 9] = [
-    "65536",
-    "65539",
-    "99999",
-    "4294967295",
-    "4294967296",
-    "4294967299",
-    "18446744073709551615",
-    "18446744073709551619",
-    "1000000000000000000000000000000003",
+    "65536", "65539", "99999", "4294967295", "4294967296", "4294967299",
+    "18446744073709551615", "18446744073709551619", "1000000000000000000000000000000003",
 ];
 
 /// One side, or both, no term.
@@ -127,7 +82,7 @@ pub fn nodes(random: &mut Random) -> Call {
 
 /// Five to eight letters, split over both sides.
 pub fn many_letters(random: &mut Random) -> Call {
-    let count = random.from_to(MOST_LETTERS - 1, MOST_LETTERS + 2);
+    let count = random.between(MOST_LETTERS - 1, MOST_LETTERS + 2);
     let pool = letters(random, count);
     let cut = random.below(count + 1);
     let overlap = random.below(cut + 1).min(random.below(3));
@@ -139,12 +94,12 @@ pub fn many_letters(random: &mut Random) -> Call {
 /// Limits at 0, 1, and about their bounds, the others small.
 pub fn limits(random: &mut Random) -> Call {
     let mut draft = searched::draft(random);
-    draft.set_limit(0, random.from_to(0, 2));
-    draft.set_limit(3, random.from_to(0, 50));
+    draft.set_limit(0, random.between(0, 2));
+    draft.set_limit(3, random.between(0, 50));
     let one = random.below(4);
     bound(random, &mut draft, one);
     if random.percent(30) {
-        draft.set_limit(1, random.from_to(0, 5));
+        draft.set_limit(1, random.between(0, 5));
         let other = random.below(4);
         bound(random, &mut draft, other);
     }
@@ -174,11 +129,11 @@ pub fn equal(random: &mut Random) -> Call {
 /// Two or three reasons at once, of which the lowest number counts.
 pub fn several(random: &mut Random) -> Call {
     let mut draft = searched::draft(random);
-    for _ in 0..random.from_to(2, 3) {
+    for _ in 0..random.between(2, 3) {
         let side = random.below(2);
         match random.below(6) {
             0 => {
-                draft.0[random.from_to(2, 5)] =
+                draft.0[random.between(2, 5)] =
                     random.pick(&[&b""[..], b"03", b"3 ", b"x"]).to_vec()
             }
             1 => spoil_side(random, &mut draft, side),
@@ -190,7 +145,7 @@ pub fn several(random: &mut Random) -> Call {
                 let pool = letters(random, 7);
                 draft.0[side] = holding(random, &pool).show().into_bytes();
             }
-            4 => draft.0[random.from_to(2, 5)] = random.pick(&TOO_LARGE).into(),
+            4 => draft.0[random.between(2, 5)] = random.pick(&TOO_LARGE).into(),
             _ => draft.0[side] = draft.0[1 - side].clone(),
         }
     }

@@ -15,7 +15,7 @@ use crate::plain::{
 };
 use crate::{Call, Entry};
 
-/// An equation, the most lines it is known to need, and the size and depth these lines reach.
+/// An equation, and the limits under which it is hoped to be proved.
 struct Equation {
     left: Term,
     right: Term,
@@ -99,11 +99,12 @@ fn law_instance(random: &mut Random) -> Equation {
 
 fn chain(random: &mut Random) -> Equation {
     let pool = letters(random, 3);
-    let count = random.from_to(1, 4);
+    let count = random.between(1, 4);
     let most = random.pick(&[3, 5, 7, 15]);
     let left = term_up_to(random, most, &pool);
     let mut right = left.clone();
-    let (mut size, mut depth) = (0, 0);
+    // left itself is never tested, unless the search starts at the other end
+    let (mut size, mut depth) = random.pick(&[(0, 0), (left.size(), left.depth())]);
     for _ in 0..count {
         right = rewritten(random, &right);
         size = size.max(right.size());
@@ -151,7 +152,7 @@ fn limited(random: &mut Random, equation: Equation) -> Draft {
         70..95 => 30_000,
         _ => 200_000,
     };
-    let nodes = random.from_to(1, (budget / (size * size)).clamp(2, 1_000));
+    let nodes = random.between(1, (budget / (size * size)).clamp(2, 1_000));
     let limits = [steps.min(16), size, depth.min(15), nodes];
     let (left, right) = (&equation.left, &equation.right);
     if random.percent(50) {
@@ -222,17 +223,17 @@ pub fn room(random: &mut Random) -> Call {
 /// Large sides and the largest limits: seconds each.
 pub fn heavy(random: &mut Random) -> Call {
     let pool = letters(random, 4);
-    let size = 2 * random.from_to(7, 15) + 1;
+    let size = 2 * random.between(7, 15) + 1;
     let left = term(random, size, &pool);
     let mut right = left.clone();
-    for _ in 0..random.from_to(3, 12) {
+    for _ in 0..random.between(3, 12) {
         right = rewritten(random, &right);
     }
     if left == right {
         return heavy(random);
     }
     let nodes = 4_096 - random.below(2);
-    let limits = [random.from_to(4, 16), 31, random.from_to(8, 15), nodes];
+    let limits = [random.between(4, 16), 31, random.between(8, 15), nodes];
     let slots = random.pick(&[400, 65_535, 65_536, 200_000]);
     Call {
         slots,
