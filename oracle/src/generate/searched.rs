@@ -99,7 +99,7 @@ fn law_instance(random: &mut Random) -> Equation {
 
 fn chain(random: &mut Random) -> Equation {
     let pool = letters(random, 3);
-    let count = random.between(1, 4);
+    let count = random.pick(&[1, 2, 3, 4, 4]);
     let most = random.pick(&[3, 5, 7, 15]);
     let left = term_up_to(random, most, &pool);
     let mut right = left.clone();
@@ -148,11 +148,11 @@ fn limited(random: &mut Random, equation: Equation) -> Draft {
     let size = equation.size.min(31);
     let depth = equation.depth + random.pick(&[0, 1, 2]);
     let budget = match random.below(100) {
-        0..70 => 5_000,
-        70..95 => 30_000,
-        _ => 200_000,
+        0..70 => 20_000,
+        70..95 => 100_000,
+        _ => 1_000_000,
     };
-    let nodes = random.between(1, (budget / (size * size)).clamp(2, 1_000));
+    let nodes = random.between(1, (budget / (size * size)).clamp(2, 4_096));
     let limits = [steps.min(16), size, depth.min(15), nodes];
     let (left, right) = (&equation.left, &equation.right);
     if random.percent(50) {
