@@ -12,7 +12,8 @@ pub fn write_call(out: &mut impl Write, call: &Call) -> io::Result<()> {
     out.write_all(&call.job)
 }
 
-/// Writes a call and what it gives: the header goes on with the refusal's number or 0, and the answer's length.
+/// Writes a call and what it gives. Its line goes on with the refusal's number, or 0, and the
+/// answer's length.
 pub fn write_record(out: &mut impl Write, call: &Call, given: &Given) -> io::Result<()> {
     let (number, answer) = match given {
         Ok(answer) => (0, &answer[..]),
