@@ -189,7 +189,7 @@ fn insert(out: &mut [u32], n: usize, x: u32) -> Listed
         if x == y {
             return Listed::All(end);
         }
-        if x < y {
+        if y > x {
             break;
         }
         i += 1;
