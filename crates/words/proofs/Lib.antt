@@ -1,2 +1,8 @@
 -- Laws that the proofs of several functions cite.
 pub mod Slots
+pub mod Stores
+pub mod Stand
+pub mod Puts
+pub mod Joined
+pub mod Multiplied
+pub mod Expanded
