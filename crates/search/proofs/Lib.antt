@@ -6,3 +6,5 @@ pub mod Slots
 pub mod Noting
 pub mod Sorting
 pub mod Keeping
+pub mod Tracing
+pub mod Turning
