@@ -8,3 +8,4 @@ pub mod Sorting
 pub mod Keeping
 pub mod Tracing
 pub mod Turning
+pub mod Traced

@@ -9,7 +9,7 @@ use Rattle.terms.proofs.Held.{holds-within}
 use Rattle.search.specs.Line.{Line}
 use Rattle.search.specs.Search.{Noted}
 use Rattle.search.specs.Slots.{SLOT, Spells, origin-of, distance-of, noted-at, Leads, Slots}
-use Rattle.search.specs.Traced.{Linked, Traced, none, more, Origins, Shows, Traces}
+use Rattle.search.specs.Traced.{Linked, Traced, none, more, Originates, Shows, Traces}
 use Rattle.search.specs.declared.bounded_search.Step.{Step}
 use Rattle.search.specs.declared.bounded_search.Origin.{Origin}
 use Rattle.search.specs.declared.bounded_search.Origin.the-variants.{Start, From}
@@ -27,7 +27,7 @@ module _ (ws : List ℕ) (k : ℕ) (xs : List ℕ) where
 pub shows-run : (ws : List ℕ) (k : ℕ) → Shows ws k (run-in ws k)
 shows-run ws k = record { exact = λ t s. run-spelled s }
 
-pub origin-missed : (ws : List ℕ) (k : ℕ) (o : Origin) → length ws < SLOT * k + 1 + 4 → Origins ws k o
+pub origin-missed : (ws : List ℕ) (k : ℕ) (o : Origin) → length ws < SLOT * k + 1 + 4 → Originates ws k o
 origin-missed ws k o h = record { exact = λ ns S q. absurd (omega (arith, holds-within (S .slot k q .run .held))) }
 
 -- what a slot comes from
@@ -44,6 +44,7 @@ module _ {ws : List ℕ} {ns : List Noted} (S : Slots ws ns) (k : ℕ) (h : k < 
     linked =
         record {
           within = h;
+          before = leads .before;
           line = record {
             run = subst (λ n. Spells ws k (n .term)) (leads .is) (S .slot k h .run);
             step = s;
@@ -67,6 +68,13 @@ module _ {ws : List ℕ} {ns : List Noted} (S : Slots ws ns) (k : ℕ) (h : k < 
       go : (o : Origin) → o ≡ origin-of ws k → (k ≡ 0) × (noted-at ns k .trail ≡ [])
       go Start e = from-start e
       go (From s) e = absurd (omega (arith, longer s e))
+
+pub start-trail : {ws : List ℕ} {ns : List Noted} → Slots ws ns → 0 < length ns → noted-at ns 0 .trail ≡ []
+start-trail {ws} {ns} S h = go (origin-of ws 0) refl
+  where
+    go : (o : Origin) → o ≡ origin-of ws 0 → noted-at ns 0 .trail ≡ []
+    go Start e = from-start S 0 h e .1
+    go (From s) e = absurd (omega (arith, leads S 0 h s e .before))
 
 -- slot k is `at` lines from the start, and the slots ks lead on from it to the last slot
 pub record Reaches (ws : List ℕ) (ns : List Noted) (last k at : ℕ) (ks : List ℕ) : Type 0 where
@@ -101,7 +109,7 @@ slice-put path m count x h k =
     slice-cons m count (set path m x) 0 h (omega (arith, length-set path m x))
     ∙ rw (getD-set-same path m x 0, take-set-lt count path m x, drop-set-lt (suc m) (take count path) m x)
 
-module _ (ws : List ℕ) (last k at : ℕ) (o : Origin) (O : Origins ws k o) (h : 0 < at) where
+module _ (ws : List ℕ) (last k at : ℕ) (o : Origin) (O : Originates ws k o) (h : 0 < at) where
   pub tracing-stuck : (ks path : List ℕ) → Tracing ws last k at ks → o ≡ Start → Traces ws last path 0
   tracing-stuck ks path T e =
       record {

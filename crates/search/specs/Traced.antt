@@ -20,6 +20,7 @@ use Rattle.search.specs.declared.path.Turn.the-variants.{Here, Left, Rig
 -- slot k has the term to which the line x leads from the term in slot j
 pub record Linked (ws : List ℕ) (ns : List Noted) (j k : ℕ) (x : Line) : Type 0 where
   pub within : k < length ns
+  pub before : j < k
   pub line : Result (noted-at ns j .term) j ws k x
   pub is : noted-at ns k ≡ entry (noted-at ns j .trail) x
 
@@ -45,7 +46,7 @@ line-of ws ns k = line-by (step-at ws (SLOT * k + 1)) ns (noted-at ns k .term)
 -- what the functions promise
 
 -- of `origin_of`
-pub record Origins (ws : List ℕ) (k : ℕ) (o : Origin) : Type 0 where
+pub record Originates (ws : List ℕ) (k : ℕ) (o : Origin) : Type 0 where
   pub exact : (ns : List Noted) → Slots ws ns → k < length ns → o ≡ origin-of ws k
 
 -- of `run_of`
@@ -65,10 +66,10 @@ pub record Enters (xs : List ℕ) (t : Term) (i : ℕ) (d : Side) (n at : ℕ) :
   pub inside : at - n < size part
   pub place : place-at t i ≡ d ∷ place-at part (at - n)
 
-abbrev pub Reads : List ℕ → ℕ → ℕ → Term → Turn → Type 0
-Reads xs from at t Here = place-at t (at - from) ≡ []
-Reads xs from at t (Left n) = Enters xs t (at - from) l n at
-Reads xs from at t (Right n) = Enters xs t (at - from) r n at
+abbrev pub Turned : List ℕ → ℕ → ℕ → Term → Turn → Type 0
+Turned xs from at t Here = place-at t (at - from) ≡ []
+Turned xs from at t (Left n) = Enters xs t (at - from) l n at
+Turned xs from at t (Right n) = Enters xs t (at - from) r n at
 
 -- a part starts after the term, and not after the place
 abbrev pub Nears : ℕ → ℕ → Turn → Type 0
@@ -79,4 +80,4 @@ Nears from at (Right n) = (from < n) × (n ≤ at)
 -- of `side_at`
 pub record Turns (xs : List ℕ) (from at : ℕ) (turn : Turn) : Type 0 where
   pub nears : Nears from at turn
-  pub exact : (t : Term) → Holds xs from t → at - from < size t → Reads xs from at t turn
+  pub exact : (t : Term) → Holds xs from t → at - from < size t → Turned xs from at t turn

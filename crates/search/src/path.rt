@@ -1,7 +1,7 @@
 // The path to a noted term, read back from the slots, and its places, read one side after another.
 ghost use mathlib.Core.Path.{_≡_};
 ghost use Rattle.search.specs.Slots.{distance-of};
-ghost use Rattle.search.specs.Traced.{Origins, Shows, Traces, Turns};
+ghost use Rattle.search.specs.Traced.{Originates, Shows, Traces, Turns};
 use crate::bounded_search;
 use crate::bounded_search::Origin;
 use crate::bounded_search::SLOT;
@@ -20,7 +20,7 @@ pub fn distance_of(ws: &[u32], k: u32) -> usize
 
 // What the term in a slot comes from: the start past the end.
 pub fn origin_of(ws: &[u32], k: u32) -> Origin
-    ensures { λ r. ⌜ Origins (now (ws .entry)) k r ⌝ }
+    ensures { λ r. ⌜ Originates (now (ws .entry)) k r ⌝ }
 {
     let at = SLOT * (k as usize) + 1;
     if ws.len() < at + 4 {
@@ -45,8 +45,8 @@ pub fn run_of(ws: &[u32], k: u32) -> &[u32]
     &ws[b..b + n]
 }
 
-// The slots of the terms on the way from the start to the term in slot `last`, from left to right, without the start: their numbers fill
-// the front of `path`, from the back. How many there are, or 0 where `path` is too short.
+// Fills the front of `path` with the slots of the terms on the way from the start to slot `last`, from left to right, the start left out.
+// How many there are: the distance of slot `last`, or 0 where `path` is shorter.
 pub fn path_of(ws: &[u32], last: u32, path: &mut [u32]) -> usize
     ensures { λ r. ⌜ Traces (now (ws .entry)) last (now (path .exit)) r ⌝ }
 {
@@ -67,14 +67,14 @@ pub fn path_of(ws: &[u32], last: u32, path: &mut [u32]) -> usize
     count
 }
 
-// A place of a term is its root, or is in a part that starts at a position.
+// Where a place of a term is: at its root, or in the part that starts at a position.
 pub enum Turn {
     Here,
     Left(usize),
     Right(usize),
 }
 
-// On which side of the term that starts at `from` the place `at` is.
+// Where the place `at` of the term that starts at `from` is.
 pub fn side_at(run: &[u32], from: usize, at: usize) -> Turn
     ensures { λ r. ⌜ Turns (now (run .entry)) from at r ⌝ }
 {
