@@ -1,2 +1,4 @@
 -- Laws that the proofs of several functions cite.
 pub mod Slots
+pub mod Decoded
+pub mod Coded
