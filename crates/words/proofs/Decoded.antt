@@ -1,15 +1,16 @@
 -- The permutations are those decoded from the numbers below the factorial, in order; so the least renaming is the least of the numbered candidates.
-use Prim.Native.Nat.{ℕ, zero, suc, _+_, _-_, _*_, _/_, _%_, _<_}
+use Prim.Native.Nat.{ℕ, zero, suc, _+_, _-_, _*_, _/_, _%_, _≤_, _<_}
 use native.Mathlib.Omega.{arith}
 use native.Mathlib.Nat.{suc-mul, mul-add-div-right, mul-add-mod-self-right, div-eq-of-lt, mod-eq-of-lt, mul-pos}
 use mathlib.Core.Path.{_≡_, refl, _∙_, ap, ap₂}
 use mathlib.Core.Logic.{_⊎_, inl, inr, ⊎-elim}
 use mathlib.Core.List.{List, [], _∷_, _++_, map, map-map, map-append, foldl, flatMap}
-use lib.ListN.{length, take, drop, length-append, length-take, length-drop, take-append-drop}
+use lib.ListN.{length, take, drop, getD, length-append, length-take, length-drop, take-append-drop}
 use Rattle.terms.specs.Lists.{_∈_, not-in-nil, cons-cases, append-cases, in-left, in-right}
 use Rattle.terms.specs.Compare.{Ordering}
 use Rattle.terms.specs.Equation.{Equation}
 use Rattle.words.specs.Rename.{count-from, everywhere, permutations, lesser, by-renaming, least}
+use Rattle.words.proofs.Renamed.{getD-map}
 use Rattle.words.specs.Decoded.{place-in, decoded, factorial, least-to}
 
 -- counting
@@ -138,3 +139,17 @@ module _ {A : Type 0} (o : A → A → Ordering) (rename : (ℕ → ℕ) → A �
       go : (n : ℕ) → 0 < n → pick (map numbered (count-from n 0)) ≡ least-to o numbered (n - 1)
       go zero h = absurd (omega arith)
       go (suc m) h = let e : 0 + m ≡ suc m - 1 = omega arith in fold-least-to o numbered m 0 ∙ rw e
+
+-- the factorials listed
+
+getD-count : (k i c : ℕ) → c < k → getD (count-from k i) c 0 ≡ i + c
+unfolding count-from
+getD-count zero i c h = absurd (omega arith)
+getD-count (suc k) i zero h = omega arith
+getD-count (suc k) i (suc c) h = omega (arith, getD-count k (suc i) c (omega arith))
+
+pub factorial-listed : (k : ℕ) → k ≤ 6 → getD (1 ∷ 1 ∷ 2 ∷ 6 ∷ 24 ∷ 120 ∷ 720 ∷ []) k 0 ≡ factorial k
+unfolding factorial count-from
+factorial-listed k h =
+    let e : getD (count-from 7 0) k 0 ≡ k = omega (arith, getD-count 7 0 k (omega arith)) in
+    getD-map factorial (count-from 7 0) k (omega arith) ∙ ap factorial e

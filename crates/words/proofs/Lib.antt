@@ -2,3 +2,5 @@
 pub mod Slots
 pub mod Decoded
 pub mod Coded
+pub mod Over
+pub mod Renamed

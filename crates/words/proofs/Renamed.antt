@@ -1,0 +1,58 @@
+-- The new name looked up from position i on, and runs renamed.
+use Prim.Native.Nat.{ℕ, zero, suc, _+_, _<_, _≤_}
+use native.Mathlib.Omega.{arith}
+use native.Mathlib.Numerals.{add-one}
+use mathlib.Core.Path.{_≡_, refl, sym, _∙_}
+use mathlib.Core.List.{List, [], _∷_, map}
+use lib.ListN.{length, drop, getD, set, drop-of-length-le, length-map}
+use lib.Seq.{drop-cons}
+use borrow.Author.Tests.{lt-ltb, le-ltb}
+use Rattle.terms.specs.Run.{ZERO}
+use Rattle.words.specs.Rename.{renamed}
+use Rattle.words.specs.RenameRun.{rename-number, rename-run}
+use Rattle.words.specs.Written.{Written}
+use Rattle.words.specs.Theory.Bijections.{renamed-first, renamed-later}
+use Rattle.words.proofs.Over.{Writing, writing-next, writing-ends}
+
+drop-one : (xs : List ℕ) (i : ℕ) → i < length xs → drop i xs ≡ getD xs i 0 ∷ drop (i + 1) xs
+drop-one xs i h = rw (add-one, drop-cons xs i 0)
+
+module _ (names numbers : List ℕ) (x i n : ℕ) (e : renamed (drop i names) (drop i numbers) x ≡ n) where
+  pub names-ended : length names ≤ i → x ≡ n
+  unfolding renamed
+  names-ended h = rw (drop-of-length-le names h) at e
+
+  module _ (h : i < length names) where
+    pub numbers-ended : length numbers ≤ i → x ≡ n
+    unfolding renamed
+    numbers-ended k = rw (drop-one names i h, drop-of-length-le numbers k) at e
+
+    module _ (k : i < length numbers) where
+      pub name-here : x ≡ getD names i 0 → getD numbers i 0 ≡ n
+      name-here p = rw (drop-one names i h, drop-one numbers i k, renamed-first (getD names i 0) (getD numbers i 0) (drop (i + 1) names) (drop (i + 1) numbers) x p) at e
+
+      pub name-later : (x ≡ getD names i 0 → ⊥) → renamed (drop (i + 1) names) (drop (i + 1) numbers) x ≡ n
+      name-later p = rw (drop-one names i h, drop-one numbers i k, renamed-later (getD names i 0) (getD numbers i 0) (drop (i + 1) names) (drop (i + 1) numbers) x p) at e
+
+module _ (f : ℕ → ℕ) (x : ℕ) where
+  pub letter-renamed : x < ZERO → f x ≡ rename-number f x
+  unfolding rename-number
+  letter-renamed h = rw (lt-ltb x ZERO h, rename-number)
+
+  pub other-stays : ZERO ≤ x → x ≡ rename-number f x
+  unfolding rename-number
+  other-stays h = rw (le-ltb x ZERO h, rename-number)
+
+-- a run renamed, one number after another
+
+pub getD-map : (f : ℕ → ℕ) (xs : List ℕ) (i : ℕ) → i < length xs → getD (map f xs) i 0 ≡ f (getD xs i 0)
+getD-map f [] i h = absurd (omega arith)
+getD-map f (x ∷ xs) zero h = refl
+getD-map f (x ∷ xs) (suc i) h = getD-map f xs i (omega arith)
+
+module _ (f : ℕ → ℕ) (xs : List ℕ) {out₀ out : List ℕ} {i : ℕ} (w : Writing (rename-run f xs) out₀ i out) where
+  pub renaming-next : {v : ℕ} → i < length xs → i < length out → v ≡ rename-number f (getD xs i 0) → Writing (rename-run f xs) out₀ (i + 1) (set out i v)
+  renaming-next h k e = writing-next w (rw (length-map xs (rename-number f)) h) k (e ∙ sym (getD-map (rename-number f) xs i h))
+
+  pub renaming-ends : length xs ≤ i → Written (rename-run f xs) out₀ i out
+  renaming-ends h = writing-ends w (rw (length-map xs (rename-number f)) h)
