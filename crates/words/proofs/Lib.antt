@@ -4,3 +4,7 @@ pub mod Decoded
 pub mod Coded
 pub mod Over
 pub mod Renamed
+pub mod Stores
+pub mod Stand
+pub mod Puts
+pub mod Joined
