@@ -78,7 +78,7 @@ split-length x ys i =
     omega (arith, length-append (take i ys) (x ∷ drop i ys), length-append (take i ys) (drop i ys), ap length (take-append-drop i ys))
 
 -- a list with room for one more
-put-in-room : (x : ℕ) (ys : List ℕ) (z i : ℕ) → i ≤ length ys → put-in i x (ys ++ (z ∷ [])) ≡ take i ys ++ (x ∷ drop i ys)
+pub put-in-room : (x : ℕ) (ys : List ℕ) (z i : ℕ) → i ≤ length ys → put-in i x (ys ++ (z ∷ [])) ≡ take i ys ++ (x ∷ drop i ys)
 unfolding put-in
 put-in-room x ys z i h =
     rw (take-append-le i ys (z ∷ []) h, drop-append-le i ys (z ∷ []) h, ← (append-assoc (take i ys) (x ∷ drop i ys) (z ∷ [])))

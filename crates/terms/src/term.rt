@@ -165,7 +165,7 @@ fn least(m: usize, n: usize) -> usize
 }
 
 // `x` put in at a position: what follows moves on by one, and the last number is lost.
-fn shift(s: &mut [u32], at: usize, x: u32)
+pub fn shift(s: &mut [u32], at: usize, x: u32)
     ensures { λ _. ⌜ now (s .exit) ≡ put-in at x (now (s .entry)) ⌝ }
 {
     let mut moved = x;

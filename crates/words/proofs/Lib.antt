@@ -2,9 +2,10 @@
 pub mod Slots
 pub mod Decoded
 pub mod Coded
-pub mod Over
 pub mod Renamed
 pub mod Stores
 pub mod Stand
 pub mod Puts
 pub mod Joined
+pub mod Kept
+pub mod Permuted

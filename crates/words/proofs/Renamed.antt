@@ -5,14 +5,13 @@ use native.Mathlib.Numerals.{add-one}
 use mathlib.Core.Path.{_≡_, refl, sym, _∙_}
 use mathlib.Core.List.{List, [], _∷_, map}
 use lib.ListN.{length, drop, getD, set, drop-of-length-le, length-map}
-use lib.Seq.{drop-cons}
+use lib.Seq.{sets, drop-cons}
 use borrow.Author.Tests.{lt-ltb, le-ltb}
 use Rattle.terms.specs.Run.{ZERO}
 use Rattle.words.specs.Rename.{renamed}
 use Rattle.words.specs.RenameRun.{rename-number, rename-run}
-use Rattle.words.specs.Written.{Written}
 use Rattle.words.specs.Theory.Bijections.{renamed-first, renamed-later}
-use Rattle.words.proofs.Over.{Writing, writing-next, writing-ends}
+use Rattle.words.proofs.Stores.{store-next, store-done}
 
 drop-one : (xs : List ℕ) (i : ℕ) → i < length xs → drop i xs ≡ getD xs i 0 ∷ drop (i + 1) xs
 drop-one xs i h = rw (add-one, drop-cons xs i 0)
@@ -50,9 +49,11 @@ getD-map f [] i h = absurd (omega arith)
 getD-map f (x ∷ xs) zero h = refl
 getD-map f (x ∷ xs) (suc i) h = getD-map f xs i (omega arith)
 
-module _ (f : ℕ → ℕ) (xs : List ℕ) {out₀ out : List ℕ} {i : ℕ} (w : Writing (rename-run f xs) out₀ i out) where
-  pub renaming-next : {v : ℕ} → i < length xs → i < length out → v ≡ rename-number f (getD xs i 0) → Writing (rename-run f xs) out₀ (i + 1) (set out i v)
-  renaming-next h k e = writing-next w (rw (length-map xs (rename-number f)) h) k (e ∙ sym (getD-map (rename-number f) xs i h))
+-- the numbers from i on are still to be stored
+module _ (f : ℕ → ℕ) (xs out zs : List ℕ) (i : ℕ) (e : sets out i (drop i (rename-run f xs)) ≡ zs) where
+  pub renaming-next : {v : ℕ} → i < length xs → v ≡ rename-number f (getD xs i 0) → sets (set out i v) (i + 1) (drop (i + 1) (rename-run f xs)) ≡ zs
+  renaming-next h p =
+      rw (p, ← getD-map (rename-number f) xs i h) (store-next out (rename-run f xs) zs i i e (rw (length-map xs (rename-number f)) h))
 
-  pub renaming-ends : length xs ≤ i → Written (rename-run f xs) out₀ i out
-  renaming-ends h = writing-ends w (rw (length-map xs (rename-number f)) h)
+  pub renaming-ends : length xs ≤ i → out ≡ zs
+  renaming-ends h = store-done out (rename-run f xs) zs i i e (rw (length-map xs (rename-number f)) h)

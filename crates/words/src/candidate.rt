@@ -1,10 +1,20 @@
 // The least equation over all renamings of its letters.
 ghost use mathlib.Core.Path.{_≡_};
-ghost use Prim.Native.Nat.{_≤_};
+ghost use Prim.Native.Nat.{_+_, _≤_};
+ghost use lib.ListN.{length, take};
+ghost use lib.Seq.{sets};
+ghost use Rattle.terms.specs.Compare.{order-numbers};
+ghost use Rattle.terms.specs.Equation.{orient};
+ghost use Rattle.terms.specs.Promises.{ordering-of};
 ghost use Rattle.words.specs.Rename.{renamed};
-ghost use Rattle.words.specs.Decoded.{decoded, factorial};
+ghost use Rattle.words.specs.Decoded.{decoded, factorial, renaming};
 ghost use Rattle.words.specs.RenameRun.{rename-number, rename-run};
-ghost use Rattle.words.specs.Written.{Written};
+ghost use Rattle.words.specs.Candidate.{Keeps, KeepsLesser, Visits, FindsLeast, CanonicalTerms, ordered};
+use terms::candidate::smaller;
+use terms::term;
+use terms::term::Comparison;
+use terms::term::Listed;
+use crate::normal_form::copy;
 
 // The numbers below it are letters.
 const ZERO: u32 = 4096;
@@ -12,12 +22,24 @@ const ZERO: u32 = 4096;
 // The first seven factorials: up to six letters are renamed.
 const FACTORIALS: [usize; 7] = [1, 1, 2, 6, 24, 120, 720];
 
-// How many permutations k letters have.
+// How many permutations k numbers have.
 pub fn factorial(k: usize) -> usize
     requires { ⌜ k ≤ 6 ⌝ }
     ensures { λ r. ⌜ r ≡ factorial k ⌝ }
 {
     FACTORIALS[k]
+}
+
+// Permutation number c of the k numbers from i on, at the front of a buffer.
+pub fn permutation(c: usize, k: usize, i: u32, out: &mut [u32])
+    requires { ⌜ (k ≤ length (now out)) × (i + k ≤ 6) ⌝ }
+    ensures { λ _. ⌜ take k (now (out .exit)) ≡ decoded k i c ⌝ }
+{
+    if k == 0 {
+        return;
+    }
+    permutation(c / k, k - 1, i + 1, out);
+    term::shift(&mut out[..k], c % k, i);
 }
 
 // The number beside a name, or the name itself if it is not listed.
@@ -48,31 +70,85 @@ fn new_number(names: &[u32], numbers: &[u32], x: u32) -> u32
 }
 
 // A run renamed into a buffer, as far as it fits.
-fn rename_run(run: &[u32], names: &[u32], numbers: &[u32], out: &mut [u32]) -> usize
-    ensures { λ r. ⌜ Written (rename-run (renamed (now (names .entry)) (now (numbers .entry))) (now (run .entry))) (now (out .entry)) r (now (out .exit)) ⌝ }
+fn rename_run(run: &[u32], names: &[u32], numbers: &[u32], out: &mut [u32])
+    ensures { λ _. ⌜ now (out .exit) ≡ sets (now (out .entry)) 0 (rename-run (renamed (now (names .entry)) (now (numbers .entry))) (now (run .entry))) ⌝ }
 {
     let mut i = 0;
     while i < run.len() {
         if out.len() <= i {
-            return i;
+            return;
         }
         out[i] = new_number(names, numbers, run[i]);
         i += 1;
     }
-    i
 }
 
-// A list copied into a buffer, as far as it fits.
-fn copy(from: &[u32], to: &mut [u32]) -> usize
-    ensures { λ r. ⌜ Written (now (from .entry)) (now (to .entry)) r (now (to .exit)) ⌝ }
+// The larger of two lent runs, the second if they are equal.
+fn larger<'a>(a: &'a [u32], b: &'a [u32]) -> &'a [u32]
+    ensures { λ r. ⌜ now r ≡ orient order-numbers (now (a .entry)) (now (b .entry)) .right ⌝ }
 {
-    let mut i = 0;
-    while i < from.len() {
-        if to.len() <= i {
-            return i;
-        }
-        to[i] = from[i];
-        i += 1;
+    match term::compare(a, b) {
+        Comparison::Less => b,
+        Comparison::Equal => b,
+        Comparison::Greater => a,
     }
-    i
+}
+
+// Which of two equations comes first, by left side, then right.
+fn compare_equations(a: &[u32], b: &[u32], c: &[u32], d: &[u32]) -> Comparison
+    ensures { λ r. ⌜ ordering-of r ≡ ordered (now (a .entry)) (now (b .entry)) (now (c .entry)) (now (d .entry)) ⌝ }
+{
+    match term::compare(a, c) {
+        Comparison::Less => Comparison::Less,
+        Comparison::Equal => term::compare(b, d),
+        Comparison::Greater => Comparison::Greater,
+    }
+}
+
+// The first n numbers of a list, or all if there are fewer.
+fn front(xs: &[u32], n: usize) -> &[u32]
+    ensures { λ r. ⌜ now r ≡ take n (now (xs .entry)) ⌝ }
+{
+    if xs.len() < n {
+        return xs;
+    }
+    &xs[..n]
+}
+
+// How long the two runs are that two buffers hold at their fronts.
+pub struct Lengths {
+    pub left: usize,
+    pub right: usize,
+}
+
+// Two runs kept in the buffers, the smaller on the left; nothing where there is no room.
+pub fn keep<'a>(x: &'a [u32], y: &'a [u32], left: &mut [u32], right: &mut [u32]) -> Lengths
+    ensures { λ r. ⌜ Keeps (now (x .entry)) (now (y .entry)) (now (left .entry)) (now (right .entry)) r (now (left .exit)) (now (right .exit)) ⌝ }
+{
+    let s = smaller(x, y);
+    let t = larger(x, y);
+    if left.len() < s.len() {
+        return Lengths { left: 0, right: 0 };
+    }
+    if right.len() < t.len() {
+        return Lengths { left: 0, right: 0 };
+    }
+    copy(left, 0, s);
+    copy(right, 0, t);
+    Lengths { left: s.len(), right: t.len() }
+}
+
+// Two runs kept in place of the equation that the buffers hold, if they make a lesser one.
+pub fn keep_lesser<'a>(x: &'a [u32], y: &'a [u32], left: &mut [u32], right: &mut [u32], best: Lengths) -> Lengths
+    ensures { λ r. ⌜ KeepsLesser (now (x .entry)) (now (y .entry)) (now (left .entry)) (now (right .entry)) best r (now (left .exit)) (now (right .exit)) ⌝ }
+{
+    let s = smaller(x, y);
+    let t = larger(x, y);
+    let m = best.left;
+    let n = best.right;
+    match compare_equations(front(&left[..], m), front(&right[..], n), s, t) {
+        Comparison::Less => best,
+        Comparison::Equal => best,
+        Comparison::Greater => keep(x, y, left, right),
+    }
 }

@@ -29,7 +29,7 @@ pub fn word_of(words: &[u32], k: usize) -> &[u32]
 }
 
 // Numbers stored one after the other from `at` on, as far as they fit.
-fn copy(out: &mut [u32], at: usize, numbers: &[u32])
+pub fn copy(out: &mut [u32], at: usize, numbers: &[u32])
     ensures { λ _. ⌜ now (out .exit) ≡ sets (now (out .entry)) at (now (numbers .entry)) ⌝ }
 {
     let mut p = at;

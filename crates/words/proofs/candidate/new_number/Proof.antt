@@ -9,7 +9,7 @@ new-name-requires : tie.Need-new-name-requires
 new-name-requires c κs = search needs
 
 returns : tie.Need-returns
-returns c = c .new-name .ensures ∙ letter-renamed _ _ (c .before .before .before .before .if1 .taken)
+returns c = c .new-name .ensures ∙ letter-renamed _ _ (c .before .if1 .taken)
 
 returns-2 : tie.Need-returns-2
 returns-2 c = other-stays _ _ (c .if1 .left)

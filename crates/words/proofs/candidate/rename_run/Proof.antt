@@ -1,28 +1,32 @@
--- `rename_run` writes one number after another. The loop's invariant: the first `i` are written.
+-- `rename_run` stores one new number after another. The loop's invariant: what is left to store makes of the buffer what all make of it.
 use Prim.Native.Nat.{_-_}
-use lib.ListN.{length}
+use mathlib.Core.Path.{_≡_}
+use lib.ListN.{length, drop}
+use lib.Seq.{sets}
 use Rattle.words.specs.Rename.{renamed}
 use Rattle.words.specs.RenameRun.{rename-run}
-use Rattle.words.proofs.Over.{Writing, writing-starts, writing-full}
+use Rattle.words.proofs.Stores.{store-full}
 use Rattle.words.proofs.Renamed.{renaming-next, renaming-ends}
 use borrow.Author.Needs.{needs}
 use Rattle.words.proofs.candidate.rename_run.Statement.{statement}
 use Rattle.words.proofs.candidate.rename_run.Tie as tie
 
 abbrev Inv-loop : tie.InvT-loop
-Inv-loop run names numbers out₀ i₀ out i = Writing (rename-run (renamed names numbers) run) out₀ i out
+Inv-loop run names numbers out₀ i₀ out i = 
+    let ys = rename-run (renamed names numbers) run in
+    (length out ≡ length out₀) × (sets out i (drop i ys) ≡ sets out₀ 0 ys)
 
 abbrev μ-loop : tie.MeasureT-loop
 μ-loop run names numbers out₀ i₀ out i = length run - i
 
 loop-holds : tie.Need-loop-holds Inv-loop μ-loop
-loop-holds c = search (writing-starts, needs)
+loop-holds c = search needs
 
 same-length : tie.Need-same-length Inv-loop μ-loop
 same-length c = search needs
 
 returns : tie.Need-returns Inv-loop μ-loop
-returns c = search (writing-full, needs)
+returns c = search (store-full, needs)
 
 mul-new-number : tie.Need-mul-new-number Inv-loop μ-loop
 mul-new-number c = search needs
