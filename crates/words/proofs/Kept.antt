@@ -1,18 +1,21 @@
 -- Equations of runs: their sides in order, which of two comes first, and the lesser kept in two buffers.
-use Prim.Native.Nat.{ℕ, _≤_, _<_}
+use Prim.Native.Nat.{ℕ, _+_, _≤_, _<_}
 use native.Mathlib.Omega.{arith}
 use mathlib.Core.Path.{_≡_, refl, sym, _∙_, ap}
 use mathlib.Core.List.{List}
-use lib.ListN.{length, take}
-use lib.Seq.{sets}
+use lib.ListN.{length, take, drop}
+use lib.Seq.{sets, take-append-seam}
 use denote.Ref.{RefT, now}
 use Rattle.terms.specs.Compare.{Ordering, lt, eq, gt, then, order-numbers}
 use Rattle.terms.specs.Equation.{Equation, orient}
+use Rattle.terms.specs.Theory.Equation.{orient-either}
 use Rattle.terms.specs.Promises.{ordering-of, Compares, smaller-of, Smaller}
 use Rattle.terms.specs.declared.term.Comparison.{Comparison}
 use Rattle.terms.specs.declared.term.Comparison.the-variants.{Less, Equal, Greater}
 use Rattle.words.specs.Rename.{order-equations, lesser}
-use Rattle.words.specs.Candidate.{ordered}
+use Rattle.words.specs.Candidate.{sides, Within, Room, ordered, Keeps, KeepsLesser}
+use Rattle.words.specs.declared.candidate.Lengths.{Lengths}
+use Rattle.words.proofs.Stores.{drop-sets}
 
 -- what was told of a comparison is the order
 told : {xs ys : List ℕ} {c r : Comparison} → Compares xs ys c → c ≡ r → order-numbers xs ys ≡ ordering-of r
@@ -63,3 +66,68 @@ module _ (xs ys us vs : List ℕ) {c : Comparison} (h : Compares xs us c) where
   pub left-equal : {d : Comparison} → c ≡ Equal → Compares ys vs d → ordering-of d ≡ ordered xs ys us vs
   unfolding order-equations
   left-equal e k = rw (told h e) (k .numbers)
+
+-- two runs kept
+
+sets-front : (xs vs : List ℕ) → length vs ≤ length xs → take (length vs) (sets xs 0 vs) ≡ vs
+sets-front xs vs h =
+    let e : 0 + length vs ≤ length xs = omega arith in
+    ap (take (length vs)) (drop-sets xs 0 vs e) ∙ take-append-seam vs (drop (0 + length vs) xs)
+
+module _ (xs ys : List ℕ) where
+  abbrev whole : Equation (List ℕ)
+  whole = orient order-numbers xs ys
+
+  room-sides : {n : ℕ} {left right : List ℕ} → Room n xs ys left right → (length (whole .left) ≤ n) × (length (whole .right) ≤ n)
+  room-sides {n} h = orient-either (λ us vs. (length us ≤ n) × (length vs ≤ n)) order-numbers xs ys (h .first, h .second) (h .second, h .first)
+
+  module _ (s t : List ℕ) (p : s ≡ whole .left) (q : t ≡ whole .right) where
+    both-sides : _≡_ {A = Equation (List ℕ)} (record { left = s; right = t }) whole
+    both-sides i = record { left = p i; right = q i }
+
+    module _ (left right : List ℕ) where
+      abbrev none : Lengths
+      none = record { left = 0; right = 0 }
+
+      none-within : Within left right none
+      none-within = record { left-side = omega arith; right-side = omega arith }
+
+      pub no-left-room : length left < length s → Keeps xs ys left right none left right
+      no-left-room h =
+          record {
+            within = none-within;
+            exact = λ n r. absurd (omega (arith, room-sides r .0, ap length p, r .left-room));
+          }
+
+      pub no-right-room : length right < length t → Keeps xs ys left right none left right
+      no-right-room h =
+          record {
+            within = none-within;
+            exact = λ n r. absurd (omega (arith, room-sides r .1, ap length q, r .right-room));
+          }
+
+      pub kept : {left′ right′ : List ℕ} → length s ≤ length left → length t ≤ length right → left′ ≡ sets left 0 s → right′ ≡ sets right 0 t
+          → Keeps xs ys left right (record { left = length s; right = length t }) left′ right′
+      kept h k d e =
+          record {
+            within = record { left-side = h; right-side = k };
+            exact = λ n r. rw (d, e, sets-front left s h, sets-front right t k) both-sides;
+          }
+
+      -- in place of the best so far, whose sides are u and v
+      module _ (best : Lengths) (u v : List ℕ) (a : u ≡ take (best .left) left) (b : v ≡ take (best .right) right)
+          {c : Comparison} (h : ordering-of c ≡ ordered u v s t) where
+        compared : {r : Comparison} → c ≡ r → order-equations order-numbers (sides best left right) whole ≡ ordering-of r
+        compared e = rw (← both-sides, ← a, ← b) (sym h ∙ ap ordering-of e)
+
+        pub stays-below : c ≡ Less → KeepsLesser xs ys left right best best left right
+        unfolding lesser
+        stays-below e = record { within = λ w. w; exact = λ n r. rw (compared e, lesser) }
+
+        pub stays-equal : c ≡ Equal → KeepsLesser xs ys left right best best left right
+        unfolding lesser
+        stays-equal e = record { within = λ w. w; exact = λ n r. rw (compared e, lesser) }
+
+        pub replaced : {r : Lengths} {left′ right′ : List ℕ} → c ≡ Greater → Keeps xs ys left right r left′ right′ → KeepsLesser xs ys left right best r left′ right′
+        unfolding lesser
+        replaced e k = record { within = λ w. k .within; exact = λ n r. rw (compared e, lesser) (k .exact n r) }

@@ -10,11 +10,11 @@ ghost use Rattle.words.specs.Rename.{renamed};
 ghost use Rattle.words.specs.Decoded.{decoded, factorial, renaming};
 ghost use Rattle.words.specs.RenameRun.{rename-number, rename-run};
 ghost use Rattle.words.specs.Candidate.{Keeps, KeepsLesser, Visits, FindsLeast, CanonicalTerms, ordered};
+use crate::normal_form::copy;
 use terms::candidate::smaller;
 use terms::term;
 use terms::term::Comparison;
 use terms::term::Listed;
-use crate::normal_form::copy;
 
 // The numbers below it are letters.
 const ZERO: u32 = 4096;
@@ -135,11 +135,20 @@ pub fn keep<'a>(x: &'a [u32], y: &'a [u32], left: &mut [u32], right: &mut [u32])
     }
     copy(left, 0, s);
     copy(right, 0, t);
-    Lengths { left: s.len(), right: t.len() }
+    Lengths {
+        left: s.len(),
+        right: t.len(),
+    }
 }
 
 // Two runs kept in place of the equation that the buffers hold, if they make a lesser one.
-pub fn keep_lesser<'a>(x: &'a [u32], y: &'a [u32], left: &mut [u32], right: &mut [u32], best: Lengths) -> Lengths
+pub fn keep_lesser<'a>(
+    x: &'a [u32],
+    y: &'a [u32],
+    left: &mut [u32],
+    right: &mut [u32],
+    best: Lengths,
+) -> Lengths
     ensures { λ r. ⌜ KeepsLesser (now (x .entry)) (now (y .entry)) (now (left .entry)) (now (right .entry)) best r (now (left .exit)) (now (right .exit)) ⌝ }
 {
     let s = smaller(x, y);

@@ -1,47 +1,45 @@
+-- `keep` copies the smaller run to the left and the larger to the right.
+use Rattle.words.proofs.Kept.{left-side, no-left-room, no-right-room, kept}
 use borrow.Author.Needs.{needs}
 use Rattle.words.proofs.candidate.keep.Statement.{statement}
 use Rattle.words.proofs.candidate.keep.Tie as tie
-use Rattle.words.proofs.candidate.keep.Reads as reads
-use Rattle.words.proofs.candidate.keep.Lts as lts
-use Rattle.terms.proofs.candidate.smaller.Reads as smaller-reads
-use Rattle.words.proofs.candidate.larger.Reads as larger-reads
-use Rattle.words.proofs.normal_form.copy.Reads as copy-reads
 
--- src/candidate.rt:128:9
 smaller-requires : tie.Need-smaller-requires
 smaller-requires c κs = search needs
 
--- src/candidate.rt:129:9
 larger-requires : tie.Need-larger-requires
 larger-requires c κs = search needs
 
--- src/candidate.rt:131:9
 returns : tie.Need-returns
-returns c = search needs
+returns c =
+    let d = c .before in
+    let a = d .before .before .before .before .before .before .args in
+    no-left-room (a .x .now) (a .y .now) _ _ (left-side (a .x) (a .y) _ (d .before .smaller .ensures)) (d .larger .ensures) (a .left .now) (a .right .now) (c .if1 .taken)
 
--- src/candidate.rt:134:9
 returns-2 : tie.Need-returns-2
-returns-2 c = search needs
+returns-2 c =
+    let d = c .before .before in
+    let a = d .before .before .before .before .before .before .args in
+    no-right-room (a .x .now) (a .y .now) _ _ (left-side (a .x) (a .y) _ (d .before .smaller .ensures)) (d .larger .ensures) (a .left .now) (a .right .now) (c .if2 .taken)
 
--- src/candidate.rt:136:5
 copy-requires : tie.Need-copy-requires
 copy-requires c κs = search needs
 
--- src/candidate.rt:137:5
 copy-requires-2 : tie.Need-copy-requires-2
 copy-requires-2 c κs = search needs
 
--- src/candidate.rt:125:1
 same-length : tie.Need-same-length
 same-length c = search needs
 
--- src/candidate.rt:125:1
 same-length-2 : tie.Need-same-length-2
 same-length-2 c = search needs
 
--- src/candidate.rt:125:1
 returns-3 : tie.Need-returns-3
-returns-3 c = search needs
+returns-3 c =
+    let f = c .before .before .before .before .before .before .before .before in
+    let d = f .before .before in
+    let a = d .before .before .before .before .before .before .args in
+    kept (a .x .now) (a .y .now) _ _ (left-side (a .x) (a .y) _ (d .before .smaller .ensures)) (d .larger .ensures) (a .left .now) (a .right .now) (f .before .if1 .left) (f .if2 .left) (c .before .before .before .before .before .before .copy .ensures) (c .before .before .copy2 .ensures)
 
 pub keep-spec : {M : Type 1} → statement M
 keep-spec =

@@ -12,7 +12,7 @@ use Rattle.words.proofs.candidate.rename_run.Statement.{statement}
 use Rattle.words.proofs.candidate.rename_run.Tie as tie
 
 abbrev Inv-loop : tie.InvT-loop
-Inv-loop run names numbers out₀ i₀ out i = 
+Inv-loop run names numbers out₀ i₀ out i =
     let ys = rename-run (renamed names numbers) run in
     (length out ≡ length out₀) × (sets out i (drop i ys) ≡ sets out₀ 0 ys)
 
