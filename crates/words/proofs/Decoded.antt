@@ -115,7 +115,7 @@ module _ {A : Type 0} (o : A → A → Ordering) where
   fold-least-to candidate zero j = let e : j + 0 ≡ j = omega arith in rw e
   fold-least-to candidate (suc m) j = let e : j + suc m ≡ suc j + m = omega arith in rw e (fold-least-to candidate m (suc j))
 
-factorial-positive : (k : ℕ) → 0 < factorial k
+pub factorial-positive : (k : ℕ) → 0 < factorial k
 unfolding factorial
 factorial-positive zero = omega arith
 factorial-positive (suc k) = mul-pos (factorial-positive k) (omega arith)

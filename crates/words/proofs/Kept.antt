@@ -69,7 +69,7 @@ module _ (xs ys us vs : List ℕ) {c : Comparison} (h : Compares xs us c) where
 
 -- two runs kept
 
-sets-front : (xs vs : List ℕ) → length vs ≤ length xs → take (length vs) (sets xs 0 vs) ≡ vs
+pub sets-front : (xs vs : List ℕ) → length vs ≤ length xs → take (length vs) (sets xs 0 vs) ≡ vs
 sets-front xs vs h =
     let e : 0 + length vs ≤ length xs = omega arith in
     ap (take (length vs)) (drop-sets xs 0 vs e) ∙ take-append-seam vs (drop (0 + length vs) xs)

@@ -9,3 +9,4 @@ pub mod Puts
 pub mod Joined
 pub mod Kept
 pub mod Permuted
+pub mod Visited

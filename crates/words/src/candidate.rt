@@ -161,3 +161,59 @@ pub fn keep_lesser<'a>(
         Comparison::Greater => keep(x, y, left, right),
     }
 }
+
+// Both sides by renaming number c, into two buffers.
+fn rename_both(a: &[u32], b: &[u32], names: &[u32], c: usize, x: &mut [u32], y: &mut [u32])
+    requires { ⌜ length (now names) ≤ 6 ⌝ }
+    ensures { λ _. ⌜ (now (x .exit) ≡ sets (now (x .entry)) 0 (rename-run (renaming (now (names .entry)) c) (now (a .entry)))) × (now (y .exit) ≡ sets (now (y .entry)) 0 (rename-run (renaming (now (names .entry)) c) (now (b .entry)))) ⌝ }
+{
+    let k = names.len();
+    let mut numbers = [0u32; 6];
+    permutation(c, k, 0, &mut numbers);
+    let used = front(&numbers, k);
+    rename_run(a, names, used, x);
+    rename_run(b, names, used, y);
+}
+
+// Renaming number c tried: kept if it is the first, or gives a lesser equation than the best so far. A side has at most 31 numbers.
+fn visit(a: &[u32], b: &[u32], names: &[u32], c: usize, left: &mut [u32], right: &mut [u32], best: Lengths) -> Lengths
+    requires { ⌜ length (now names) ≤ 6 ⌝ }
+    ensures { λ r. ⌜ Visits (now (a .entry)) (now (b .entry)) (now (names .entry)) c (now (left .entry)) (now (right .entry)) best r (now (left .exit)) (now (right .exit)) ⌝ }
+{
+    let mut x = [0u32; 31];
+    let mut y = [0u32; 31];
+    rename_both(a, b, names, c, &mut x, &mut y);
+    let u = front(&x, a.len());
+    let v = front(&y, b.len());
+    if c == 0 {
+        return keep(u, v, left, right);
+    }
+    keep_lesser(u, v, left, right, best)
+}
+
+// The least equation over all renamings of the names, kept in the buffers.
+fn least_renaming(a: &[u32], b: &[u32], names: &[u32], left: &mut [u32], right: &mut [u32]) -> Lengths
+    requires { ⌜ length (now names) ≤ 6 ⌝ }
+    ensures { λ r. ⌜ FindsLeast (now (a .entry)) (now (b .entry)) (now (names .entry)) (now (left .entry)) (now (right .entry)) r (now (left .exit)) (now (right .exit)) ⌝ }
+{
+    let count = factorial(names.len());
+    let mut best = Lengths { left: 0, right: 0 };
+    let mut c = 0;
+    while c < count {
+        best = visit(a, b, names, c, left, right, best);
+        c += 1;
+    }
+    best
+}
+
+// The least equation over all renamings of the letters of two terms; nothing if they are more than six.
+pub fn canonical_terms(a: &[u32], b: &[u32], left: &mut [u32], right: &mut [u32]) -> Lengths
+    ensures { λ r. ⌜ CanonicalTerms (now (a .entry)) (now (b .entry)) (now (left .entry)) (now (right .entry)) r (now (left .exit)) (now (right .exit)) ⌝ }
+{
+    let mut names = [0u32; 6];
+    let listed = term::letters(a, b, &mut names);
+    let Listed::All(k) = listed else {
+        return Lengths { left: 0, right: 0 };
+    };
+    least_renaming(a, b, front(&names, k), left, right)
+}
