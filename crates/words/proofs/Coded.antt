@@ -3,9 +3,8 @@ use Prim.Native.Nat.{ℕ, zero, suc, _-_}
 use mathlib.Core.Path.{_≡_, refl, _∙_, ap}
 use mathlib.Core.List.{List}
 use lib.ListN.{length}
-use Rattle.terms.specs.Compare.{Ordering, lt, eq, gt}
+use Rattle.terms.specs.Compare.{Ordering, lt, eq, gt, order-numbers}
 use Rattle.terms.specs.Equation.{Equation, orient}
-use Rattle.terms.specs.Theory.Coding.{order-numbers}
 use Rattle.terms.specs.Theory.Equation.{orient-either}
 use Rattle.words.specs.Rename.{order-equations, lesser, by-renaming, least}
 use Rattle.words.specs.Decoded.{both, renaming, factorial, least-to}

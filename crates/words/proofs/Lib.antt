@@ -10,3 +10,4 @@ pub mod Joined
 pub mod Kept
 pub mod Permuted
 pub mod Visited
+pub mod Canonical

@@ -176,7 +176,15 @@ fn rename_both(a: &[u32], b: &[u32], names: &[u32], c: usize, x: &mut [u32], y: 
 }
 
 // Renaming number c tried: kept if it is the first, or gives a lesser equation than the best so far. A side has at most 31 numbers.
-fn visit(a: &[u32], b: &[u32], names: &[u32], c: usize, left: &mut [u32], right: &mut [u32], best: Lengths) -> Lengths
+fn visit(
+    a: &[u32],
+    b: &[u32],
+    names: &[u32],
+    c: usize,
+    left: &mut [u32],
+    right: &mut [u32],
+    best: Lengths,
+) -> Lengths
     requires { ⌜ length (now names) ≤ 6 ⌝ }
     ensures { λ r. ⌜ Visits (now (a .entry)) (now (b .entry)) (now (names .entry)) c (now (left .entry)) (now (right .entry)) best r (now (left .exit)) (now (right .exit)) ⌝ }
 {
@@ -192,7 +200,13 @@ fn visit(a: &[u32], b: &[u32], names: &[u32], c: usize, left: &mut [u32], right:
 }
 
 // The least equation over all renamings of the names, kept in the buffers.
-fn least_renaming(a: &[u32], b: &[u32], names: &[u32], left: &mut [u32], right: &mut [u32]) -> Lengths
+fn least_renaming(
+    a: &[u32],
+    b: &[u32],
+    names: &[u32],
+    left: &mut [u32],
+    right: &mut [u32],
+) -> Lengths
     requires { ⌜ length (now names) ≤ 6 ⌝ }
     ensures { λ r. ⌜ FindsLeast (now (a .entry)) (now (b .entry)) (now (names .entry)) (now (left .entry)) (now (right .entry)) r (now (left .exit)) (now (right .exit)) ⌝ }
 {

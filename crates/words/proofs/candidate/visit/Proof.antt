@@ -52,7 +52,7 @@ renamed c =
     (renamed-front f (a .a .now) _ refl (d .rename-both .ensures .0) (c .before .before .front .ensures), renamed-front f (a .b .now) _ refl (d .rename-both .ensures .1) (c .front2 .ensures))
 
 returns : tie.Need-returns
-returns c = 
+returns c =
     let f = c .before .before .before .before .before .before .before .before in
     let a = f .before .before .before .before .before .before .before .before .before .before .before .before .before .before .args in
     let (first, second) = renamed f in
@@ -68,7 +68,7 @@ same-length-4 : tie.Need-same-length-4
 same-length-4 c = search needs
 
 returns-2 : tie.Need-returns-2
-returns-2 c = 
+returns-2 c =
     let f = c .before .before .before .before .before .before .before .before in
     let a = f .before .before .before .before .before .before .before .before .before .before .before .before .before .before .args in
     let (first, second) = renamed f in
