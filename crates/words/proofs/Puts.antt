@@ -4,15 +4,16 @@ use native.Mathlib.Omega.{arith}
 use native.Mathlib.Nat.{le-refl}
 use native.Mathlib.Numerals.{add-one}
 use mathlib.Core.Path.{_≡_, refl, sym, ap, _∙_}
-use mathlib.Core.List.{List, [], _∷_, _++_, append-assoc}
-use lib.ListN.{length, take, drop, getD, set, length-append}
+use mathlib.Core.List.{List, [], _∷_, _++_}
+use lib.ListN.{length, take, drop, set, length-append}
 use lib.Seq.{sets, length-sets, take-take, take-at}
+use Rattle.terms.proofs.Positions.{drop-head}
 use Rattle.words.specs.Words.{Word}
 use Rattle.words.specs.Spelled.{SLOT}
-use Rattle.words.specs.Multiply.{MOST, LONGEST, InSlot, Between, none, more, Puts, Fits, PutsWords}
-use Rattle.words.specs.Theory.Longest.{longest, longest-append}
+use Rattle.words.specs.Multiply.{MOST, LONGEST, InSlot, none, more, Puts, Fits, PutsWords}
+use Rattle.words.specs.Theory.Longest.{longest-append}
 use Rattle.words.proofs.Stores.{sets-append, take-sets, drop-sets}
-use Rattle.words.proofs.Stand.{drop-head, between-end, between-front, between-append}
+use Rattle.words.proofs.Stand.{between-end, between-front, between-append}
 
 pub puts-none : (ws : List ℕ) (j : ℕ) → Puts [] ws j j ws
 puts-none ws j = record { put = none refl; front = refl; room = refl }

@@ -1,34 +1,17 @@
 -- Words that stand in slots: which they are, and that they depend on the numbers up to their last slot only.
-use Prim.Native.Nat.{ℕ, zero, suc, _+_, _*_, _≤_, _<_}
+use Prim.Native.Nat.{ℕ, suc, _+_, _*_, _≤_}
 use native.Mathlib.Omega.{arith}
-use native.Mathlib.Nat.{zero-add, suc-add, eq-or-lt-of-le}
-use native.Mathlib.Numerals.{add-one}
+use native.Mathlib.Nat.{eq-or-lt-of-le}
 use mathlib.Core.Path.{_≡_, refl, sym, ap, ap₂, subst, _∙_}
 use mathlib.Core.Logic.{⊎-elim}
 use mathlib.Core.List.{List, [], _∷_, _++_}
-use lib.ListN.{length, take, drop, getD}
-use lib.Seq.{take-take, getD-take, take-nil}
+use lib.ListN.{length, take, drop}
+use lib.Seq.{take-take}
+use Rattle.terms.proofs.Positions.{drop-take, front-getD}
 use Rattle.words.specs.Words.{Word}
 use Rattle.words.specs.Rename.{count-from}
 use Rattle.words.specs.Spelled.{SLOT, word-at, words-at}
 use Rattle.words.specs.Multiply.{InSlot, Between, none, more}
-
-drop-head-suc : (xs : List ℕ) (i x : ℕ) (ys : List ℕ) → drop i xs ≡ x ∷ ys → (i < length xs) × (getD xs i 0 ≡ x) × (drop (suc i) xs ≡ ys)
-drop-head-suc [] zero x ys e = let z : _≡_ {A = ℕ} 0 1 = cc in (omega arith, omega arith, cc)
-drop-head-suc [] (suc i) x ys e = let z : _≡_ {A = ℕ} 0 1 = cc in (omega arith, omega arith, cc)
-drop-head-suc (a ∷ xs) zero x ys e = (omega arith, cc, cc)
-drop-head-suc (a ∷ xs) (suc i) x ys e = let p = drop-head-suc xs i x ys e in (omega arith, p .1, p .2)
-
-drop-take : (i m : ℕ) (xs : List ℕ) → drop i (take (i + m) xs) ≡ take m (drop i xs)
-drop-take zero m xs = rw zero-add
-drop-take (suc i) m [] = rw suc-add (sym (take-nil m))
-drop-take (suc i) m (x ∷ xs) = rw suc-add (drop-take i m xs)
-
-pub drop-head : (xs : List ℕ) (i x : ℕ) (ys : List ℕ) → drop i xs ≡ x ∷ ys → (i < length xs) × (getD xs i 0 ≡ x) × (drop (i + 1) xs ≡ ys)
-drop-head xs i x ys e = let p = drop-head-suc xs i x ys e in (p .0, p .1, rw add-one (p .2))
-
-front-getD : (xs ys : List ℕ) (n i : ℕ) → take n ys ≡ take n xs → i < n → getD ys i 0 ≡ getD xs i 0
-front-getD xs ys n i e h = sym (getD-take n ys i 0 h) ∙ ap (λ l. getD l i 0) e ∙ getD-take n xs i 0 h
 
 -- where the first n numbers of two lists agree
 front-part : (xs ys : List ℕ) (n i m : ℕ) → take n ys ≡ take n xs → i + m ≤ n → take m (drop i ys) ≡ take m (drop i xs)

@@ -1,6 +1,6 @@
 -- `copy` meets its contract. The loop's invariant: what is left to store makes of the list what all numbers make of it.
 -- The measure is what is left of the numbers.
-use Prim.Native.Nat.{_-_, _≤_}
+use Prim.Native.Nat.{_-_}
 use mathlib.Core.Path.{_≡_}
 use lib.ListN.{length, drop}
 use lib.Seq.{sets}
