@@ -19,13 +19,14 @@ use Rattle.terms.specs.Theory.Run.{run-order}
 use Rattle.terms.specs.Theory.Held.{fine-letters, size-of}
 use Rattle.terms.specs.declared.term.Listed.{Listed}
 use Rattle.terms.specs.declared.term.Listed.the-variants.{All, TooMany}
-use Rattle.words.specs.Rename.{renamed, by-renaming, least, rename-term, canonical-terms}
+use Rattle.words.specs.Rename.{renamed, least, rename-term, canonical-terms}
 use Rattle.words.specs.Decoded.{decoded, renaming, factorial, least-to, both}
 use Rattle.words.specs.RenameRun.{rename-number, rename-run}
-use Rattle.words.specs.Candidate.{sides, Within, Room, candidate, FindsLeast, CanonicalTerms}
+use Rattle.words.specs.Candidate.{sides, Within, Room, candidate, Finds, CanonicalTerms}
 use Rattle.words.specs.declared.candidate.Lengths.{Lengths}
-use Rattle.words.proofs.Decoded.{decoded-below, least-numbered}
+use Rattle.words.proofs.Decoded.{decoded-below}
 use Rattle.words.proofs.Coded.{code-least}
+use Rattle.words.proofs.Candidates.{least-candidate}
 use Rattle.words.proofs.Renamed.{letter-renamed, other-stays}
 
 -- a renamed term's run
@@ -77,11 +78,10 @@ module _ (names : List ℕ) (few : length names ≤ 6) (s t : Term) (f : Fine s)
   run-candidate c = rw (run-renamed (renaming names c) s f, run-renamed (renaming names c) t g)
 
   run-least : both run (least order rename-term names s t) ≡ least order-numbers rename-run names (run s) (run t)
-  unfolding by-renaming
   run-least =
       code-least run Fine run-carries rename-term names s t (λ c. renaming-fine names few c s f) (λ c. renaming-fine names few c t g)
       ∙ (λ i. least-to order-numbers (λ c. run-candidate c i) (factorial (length names) - 1))
-      ∙ sym (least-numbered order-numbers rename-run names (run s) (run t))
+      ∙ least-candidate names (run s) (run t)
 
 -- the promise, by what became of the letters
 
@@ -95,7 +95,7 @@ module _ (xs ys left right : List ℕ) where
       }
 
   pub all-listed : {names names′ used left′ right′ : List ℕ} {l : Listed} {k : ℕ} {r : Lengths} → Lists xs ys names l names′ → l ≡ All k → used ≡ take k names′
-      → FindsLeast xs ys used left right r left′ right′ → CanonicalTerms xs ys left right r left′ right′
+      → Finds (Room 31 xs ys left right) (least order-numbers rename-run used xs ys) left right r left′ right′ → CanonicalTerms xs ys left right r left′ right′
   unfolding canonical-terms
   all-listed {names} {names′} {used} {left′} {right′} {l} {k} {r} h p q found = record { within = found .within; exact = exact }
     where

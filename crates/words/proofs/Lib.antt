@@ -12,4 +12,5 @@ pub mod Permuted
 pub mod Coded
 pub mod Kept
 pub mod Visited
+pub mod Candidates
 pub mod Canonical

@@ -9,7 +9,7 @@ use Rattle.terms.specs.Term.{Term, size}
 use Rattle.terms.specs.Letters.{letters, rising}
 use Rattle.terms.specs.Run.{run}
 use Rattle.terms.specs.Held.{IsRun}
-use Rattle.words.specs.Rename.{order-equations, lesser, least, canonical-terms}
+use Rattle.words.specs.Rename.{order-equations, lesser, canonical-terms}
 use Rattle.words.specs.Decoded.{renaming, least-to}
 use Rattle.words.specs.RenameRun.{rename-run}
 use Rattle.words.specs.declared.candidate.Lengths.{Lengths}
@@ -41,21 +41,21 @@ pub record KeepsLesser (xs ys left right : List ℕ) (best r : Lengths) (left′
   pub within : Within left right best → Within left right r
   pub exact : (n : ℕ) → Room n xs ys left right → sides r left′ right′ ≡ lesser order-numbers (sides best left right) (orient order-numbers xs ys)
 
--- the equation that renaming number c makes of two runs
+-- the least of the candidates before c becomes the least of those up to c, if there is room
+pub record Visits (IsRoom : Type 0) (candidate : ℕ → Equation (List ℕ)) (c : ℕ) (left right : List ℕ) (best r : Lengths) (left′ right′ : List ℕ) : Type 0 where
+  pub within : Within left right best → Within left right r
+  pub exact : IsRoom → (0 < c → sides best left right ≡ least-to order-numbers candidate (c - 1)) → sides r left′ right′ ≡ least-to order-numbers candidate c
+
+-- an equation of runs is found, if there is room
+pub record Finds (IsRoom : Type 0) (e : Equation (List ℕ)) (left right : List ℕ) (r : Lengths) (left′ right′ : List ℕ) : Type 0 where
+  pub within : Within left right r
+  pub exact : IsRoom → sides r left′ right′ ≡ e
+
+-- the equation that renaming number c makes of the runs of two terms
 abbrev pub candidate : (names xs ys : List ℕ) → ℕ → Equation (List ℕ)
 candidate names xs ys c = orient order-numbers (rename-run (renaming names c) xs) (rename-run (renaming names c) ys)
 
--- the least of the candidates before c becomes the least of those up to c
-pub record Visits (xs ys names : List ℕ) (c : ℕ) (left right : List ℕ) (best r : Lengths) (left′ right′ : List ℕ) : Type 0 where
-  pub within : Within left right best → Within left right r
-  pub exact : Room 31 xs ys left right
-      → (0 < c → sides best left right ≡ least-to order-numbers (candidate names xs ys) (c - 1))
-      → sides r left′ right′ ≡ least-to order-numbers (candidate names xs ys) c
-
-pub record FindsLeast (xs ys names left right : List ℕ) (r : Lengths) (left′ right′ : List ℕ) : Type 0 where
-  pub within : Within left right r
-  pub exact : Room 31 xs ys left right → sides r left′ right′ ≡ least order-numbers rename-run names xs ys
-
+-- the canonical equation of two terms of at most 31 nodes with at most six letters
 pub record CanonicalTerms (xs ys left right : List ℕ) (r : Lengths) (left′ right′ : List ℕ) : Type 0 where
   pub within : Within left right r
   pub exact : (s t : Term) → IsRun xs s → IsRun ys t → size s ≤ 31 → size t ≤ 31

@@ -6,10 +6,10 @@ ghost use lib.Seq.{sets};
 ghost use Rattle.terms.specs.Compare.{order-numbers};
 ghost use Rattle.terms.specs.Equation.{orient};
 ghost use Rattle.terms.specs.Promises.{ordering-of};
-ghost use Rattle.words.specs.Rename.{renamed};
+ghost use Rattle.words.specs.Rename.{renamed, least};
 ghost use Rattle.words.specs.Decoded.{decoded, factorial, renaming};
 ghost use Rattle.words.specs.RenameRun.{rename-number, rename-run};
-ghost use Rattle.words.specs.Candidate.{Keeps, KeepsLesser, Visits, FindsLeast, CanonicalTerms, ordered};
+ghost use Rattle.words.specs.Candidate.{Room, ordered, Keeps, KeepsLesser, Visits, Finds, candidate, CanonicalTerms};
 use crate::normal_form::copy;
 use terms::candidate::smaller;
 use terms::term;
@@ -186,7 +186,7 @@ fn visit(
     best: Lengths,
 ) -> Lengths
     requires { ⌜ length (now names) ≤ 6 ⌝ }
-    ensures { λ r. ⌜ Visits (now (a .entry)) (now (b .entry)) (now (names .entry)) c (now (left .entry)) (now (right .entry)) best r (now (left .exit)) (now (right .exit)) ⌝ }
+    ensures { λ r. ⌜ Visits (Room 31 (now (a .entry)) (now (b .entry)) (now (left .entry)) (now (right .entry))) (candidate (now (names .entry)) (now (a .entry)) (now (b .entry))) c (now (left .entry)) (now (right .entry)) best r (now (left .exit)) (now (right .exit)) ⌝ }
 {
     let mut x = [0u32; 31];
     let mut y = [0u32; 31];
@@ -208,7 +208,7 @@ fn least_renaming(
     right: &mut [u32],
 ) -> Lengths
     requires { ⌜ length (now names) ≤ 6 ⌝ }
-    ensures { λ r. ⌜ FindsLeast (now (a .entry)) (now (b .entry)) (now (names .entry)) (now (left .entry)) (now (right .entry)) r (now (left .exit)) (now (right .exit)) ⌝ }
+    ensures { λ r. ⌜ Finds (Room 31 (now (a .entry)) (now (b .entry)) (now (left .entry)) (now (right .entry))) (least order-numbers rename-run (now (names .entry)) (now (a .entry)) (now (b .entry))) (now (left .entry)) (now (right .entry)) r (now (left .exit)) (now (right .exit)) ⌝ }
 {
     let count = factorial(names.len());
     let mut best = Lengths { left: 0, right: 0 };

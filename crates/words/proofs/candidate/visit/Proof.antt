@@ -1,10 +1,8 @@
 -- `visit` makes the candidate and keeps it, or the lesser of it and the best so far.
-use Prim.Native.Nat.{_≤_}
-use mathlib.Core.Path.{_≡_, refl}
-use lib.ListN.{length}
-use Rattle.words.specs.Decoded.{renaming}
-use Rattle.words.specs.RenameRun.{rename-run}
-use Rattle.words.proofs.Visited.{renamed-front, visit-first, visit-next}
+use mathlib.Core.Path.{refl}
+use Rattle.words.specs.Candidate.{Room, candidate}
+use Rattle.words.proofs.Visited.{Made, visit-first, visit-next}
+use Rattle.words.proofs.Candidates.{candidate-made}
 use borrow.Author.Needs.{needs}
 use Rattle.words.proofs.candidate.visit.Statement.{statement}
 use Rattle.words.proofs.candidate.visit.Tie as tie
@@ -39,24 +37,18 @@ same-length c = search needs
 same-length-2 : tie.Need-same-length-2
 same-length-2 c = search needs
 
--- the two renamed sides
-renamed : (c : tie.After-front2) →
+-- the two renamed sides are the candidate
+made : (c : tie.After-front2) →
     let a = c .before .before .before .before .before .before .before .before .before .before .before .before .before .before .args in
-    let f = renaming (a .names .now) (a .c) in
-    (length (a .a .now) ≤ 31 → c .before .before .front .result .now ≡ rename-run f (a .a .now))
-    × (length (a .b .now) ≤ 31 → c .front2 .result .now ≡ rename-run f (a .b .now))
-renamed c =
+    Room 31 (a .a .now) (a .b .now) (a .left .now) (a .right .now)
+    → Made 31 (candidate (a .names .now) (a .a .now) (a .b .now)) (a .c) (c .before .before .front .result .now) (c .front2 .result .now) (a .left .now) (a .right .now)
+made c =
     let d = c .before .before .before .before .before .before in
     let a = d .before .before .before .before .before .before .before .before .args in
-    let f = renaming (a .names .now) (a .c) in
-    (renamed-front f (a .a .now) _ refl (d .rename-both .ensures .0) (c .before .before .front .ensures), renamed-front f (a .b .now) _ refl (d .rename-both .ensures .1) (c .front2 .ensures))
+    candidate-made (a .names .now) (a .a .now) (a .b .now) _ _ (a .c) refl refl (d .rename-both .ensures) (c .before .before .front .ensures) (c .front2 .ensures)
 
 returns : tie.Need-returns
-returns c =
-    let f = c .before .before .before .before .before .before .before .before in
-    let a = f .before .before .before .before .before .before .before .before .before .before .before .before .before .before .args in
-    let (first, second) = renamed f in
-    visit-first (a .names .now) (a .a .now) (a .b .now) (a .c) _ _ (a .left .now) (a .right .now) first second (c .before .before .before .before .before .before .before .if1 .taken) (c .before .before .before .before .keep .ensures)
+returns c = let k = c .before .before .before .before in let f = k .before .before .before .before in visit-first (made f) (k .before .before .before .if1 .taken) (k .keep .ensures)
 
 keep-lesser-requires : tie.Need-keep-lesser-requires
 keep-lesser-requires c κs = search needs
@@ -68,11 +60,7 @@ same-length-4 : tie.Need-same-length-4
 same-length-4 c = search needs
 
 returns-2 : tie.Need-returns-2
-returns-2 c =
-    let f = c .before .before .before .before .before .before .before .before in
-    let a = f .before .before .before .before .before .before .before .before .before .before .before .before .before .before .args in
-    let (first, second) = renamed f in
-    visit-next (a .names .now) (a .a .now) (a .b .now) (a .c) _ _ (a .left .now) (a .right .now) first second (c .before .before .before .before .before .before .before .if1 .left) (c .before .before .before .before .keep-lesser .ensures)
+returns-2 c = let k = c .before .before .before .before in let f = k .before .before .before .before in visit-next (made f) (k .before .before .before .if1 .left) (k .keep-lesser .ensures)
 
 pub visit-spec : {M : Type 1} → statement M
 visit-spec =
