@@ -19,7 +19,10 @@ use Rattle.terms.specs.Theory.Run.{run-order}
 use Rattle.terms.specs.Theory.Held.{fine-letters, size-of}
 use Rattle.terms.specs.declared.term.Listed.{Listed}
 use Rattle.terms.specs.declared.term.Listed.the-variants.{All, TooMany}
-use Rattle.words.specs.Rename.{renamed, least, rename-term, canonical-terms}
+use Rattle.words.specs.Rename.{renamed, least, rename-term, rename-words, canonical-terms}
+use Rattle.words.specs.Words.{Word, order-lists}
+use Rattle.words.specs.Spelled.{spelled}
+use Rattle.words.specs.Theory.Spelled.{spelled-order}
 use Rattle.words.specs.Decoded.{decoded, renaming, factorial, least-to, both}
 use Rattle.words.specs.RenameRun.{rename-number, rename-run}
 use Rattle.words.specs.Candidate.{sides, Within, Room, candidate, Finds, CanonicalTerms}
@@ -110,3 +113,8 @@ module _ (xs ys left right : List ℕ) where
           let e : sides r left′ right′ ≡ both run (canonical-terms s t) =
           found .exact room ∙ rw (letters-used, u .whole, v .whole) (sym (run-least rs few s t (u .fine) (v .fine))) in
           (ap (λ (z : Equation (List ℕ)). z .left) e, ap (λ (z : Equation (List ℕ)). z .right) e)
+
+-- the least over all renamings of two lists of words, by their runs
+pub spelled-least : (names : List ℕ) (u v : List Word) → both spelled (least order-lists rename-words names u v)
+    ≡ least-to order-numbers (λ c. orient order-numbers (spelled (rename-words (renaming names c) u)) (spelled (rename-words (renaming names c) v))) (factorial (length names) - 1)
+spelled-least names u v = code-least spelled (λ w. Unit {0}) (λ x y p q. spelled-order x y) rename-words names u v (λ c. tt) (λ c. tt)
