@@ -1,0 +1,63 @@
+use borrow.Author.Needs.{needs}
+use Rattle.words.proofs.sort.number_slots.Statement.{statement}
+use Rattle.words.proofs.sort.number_slots.Tie as tie
+use Rattle.words.proofs.sort.number_slots.Reads as reads
+use Rattle.words.proofs.sort.number_slots.Lts as lts
+
+abbrev Inv-loop : tie.InvT-loop
+Inv-loop order₀ i₀ order i = ?
+
+abbrev μ-loop : tie.MeasureT-loop
+μ-loop order₀ i₀ order i = ?
+
+-- src/sort.rt:17:5
+loop-holds : tie.Need-loop-holds Inv-loop μ-loop
+loop-holds c = search needs
+
+-- src/sort.rt:18:20
+cast-order : tie.Need-cast-order Inv-loop μ-loop
+cast-order c = search needs
+
+-- src/sort.rt:18:9
+mul-order : tie.Need-mul-order Inv-loop μ-loop
+mul-order c = search needs
+
+-- src/sort.rt:18:9
+slice-write-order : tie.Need-slice-write-order Inv-loop μ-loop
+slice-write-order c = search needs
+
+-- src/sort.rt:19:9
+add-i : tie.Need-add-i Inv-loop μ-loop
+add-i c = search needs
+
+-- src/sort.rt:17:5
+loop-less : tie.Need-loop-less Inv-loop μ-loop
+loop-less c = search needs
+
+-- src/sort.rt:17:5
+loop-again : tie.Need-loop-again Inv-loop μ-loop
+loop-again c = search needs
+
+-- src/sort.rt:12:1
+same-length : tie.Need-same-length Inv-loop μ-loop
+same-length c = search needs
+
+-- src/sort.rt:12:1
+returns : tie.Need-returns Inv-loop μ-loop
+returns c = search needs
+
+pub number-slots-spec : {M : Type 1} → statement M
+number-slots-spec =
+    tie.close
+    (tie.spec
+    Inv-loop
+    μ-loop
+    loop-holds
+    cast-order
+    mul-order
+    slice-write-order
+    add-i
+    loop-less
+    loop-again
+    same-length
+    returns)

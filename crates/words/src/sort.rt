@@ -1,0 +1,63 @@
+// Words in slots, sorted by their numbers of slots, and written as a run.
+ghost use mathlib.Core.Path.{_≡_};
+ghost use Prim.Native.Nat.{_≤_};
+ghost use mathlib.Core.List.{[], _∷_};
+ghost use lib.ListN.{length};
+ghost use Rattle.words.specs.Rename.{count-from};
+ghost use Rattle.words.specs.Spelled.{words-at};
+ghost use Rattle.words.specs.Sort.{Spells};
+use super::normal_form::word_of;
+
+// The slots one after another: 0, 1, and so on.
+pub fn number_slots(order: &mut [u32])
+    requires { ⌜ length (now order) ≤ 4294967296 ⌝ }
+    ensures { λ _. ⌜ now (order .exit) ≡ count-from (length (now (order .entry))) 0 ⌝ }
+{
+    let mut i = 0;
+    while i < order.len() {
+        order[i] = i as u32;
+        i += 1;
+    }
+}
+
+fn copy(from: &[u32], to: &mut [u32])
+    requires { ⌜ length (now from) ≡ length (now to) ⌝ }
+    ensures { λ _. ⌜ now (to .exit) ≡ now (from .entry) ⌝ }
+{
+    let mut i = 0;
+    while i < to.len() {
+        to[i] = from[i];
+        i += 1;
+    }
+}
+
+// A word at the front of `out`: each letter plus 1, then 0. The answer is where it ends.
+fn spell_word(word: &[u32], out: &mut [u32]) -> usize
+    ensures { λ r. ⌜ Spells (now (word .entry) ∷ []) (now (out .entry)) r (now (out .exit)) ⌝ }
+{
+    let n = word.len();
+    if out.len() <= n {
+        return out.len();
+    }
+    let mut i = 0;
+    while i < n {
+        out[i] = std::num::wrapping_add_u32(word[i], 1);
+        i += 1;
+    }
+    out[n] = 0;
+    n + 1
+}
+
+// The words in the slots of `order`, one after another at the front of `out`. The answer is where they end.
+pub fn spell(words: &[u32], order: &[u32], out: &mut [u32]) -> usize
+    ensures { λ r. ⌜ Spells (words-at (now (words .entry)) (now (order .entry))) (now (out .entry)) r (now (out .exit)) ⌝ }
+{
+    let mut n = 0;
+    let mut i = 0;
+    while i < order.len() {
+        let word = word_of(words, order[i] as usize);
+        n += spell_word(word, &mut out[n..]);
+        i += 1;
+    }
+    n
+}
