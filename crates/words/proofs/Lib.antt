@@ -1,3 +1,7 @@
 -- Laws that the proofs of several functions cite.
 pub mod Slots
+pub mod Stores
+pub mod Parts
+pub mod Numbered
 pub mod Merging
+pub mod Spelling

@@ -3,6 +3,7 @@ ghost use mathlib.Core.Path.{_≡_};
 ghost use Prim.Native.Nat.{_≤_};
 ghost use mathlib.Core.List.{[], _∷_};
 ghost use lib.ListN.{length};
+ghost use lib.Seq.{sets};
 ghost use Rattle.words.specs.Rename.{count-from};
 ghost use Rattle.words.specs.Spelled.{words-at};
 ghost use Rattle.words.specs.Sort.{Spells};
@@ -20,13 +21,18 @@ pub fn number_slots(order: &mut [u32])
     }
 }
 
-fn copy(from: &[u32], to: &mut [u32])
-    requires { ⌜ length (now from) ≡ length (now to) ⌝ }
-    ensures { λ _. ⌜ now (to .exit) ≡ now (from .entry) ⌝ }
+// Numbers stored one after the other from `at` on, as far as they fit.
+fn copy(out: &mut [u32], at: usize, numbers: &[u32])
+    ensures { λ _. ⌜ now (out .exit) ≡ sets (now (out .entry)) at (now (numbers .entry)) ⌝ }
 {
+    let mut p = at;
     let mut i = 0;
-    while i < to.len() {
-        to[i] = from[i];
+    while i < numbers.len() {
+        if out.len() <= p {
+            return;
+        }
+        out[p] = numbers[i];
+        p += 1;
         i += 1;
     }
 }

@@ -1,3 +1,9 @@
+use Prim.Native.Nat.{_≤_, _-_}
+use native.Mathlib.Omega.{arith}
+use mathlib.Core.Path.{_≡_}
+use lib.ListN.{length, take}
+use Rattle.words.specs.Rename.{count-from}
+use Rattle.words.proofs.Numbered.{number-start, number-next, number-end}
 use borrow.Author.Needs.{needs}
 use Rattle.words.proofs.sort.number_slots.Statement.{statement}
 use Rattle.words.proofs.sort.number_slots.Tie as tie
@@ -5,14 +11,14 @@ use Rattle.words.proofs.sort.number_slots.Reads as reads
 use Rattle.words.proofs.sort.number_slots.Lts as lts
 
 abbrev Inv-loop : tie.InvT-loop
-Inv-loop order₀ i₀ order i = ?
+Inv-loop order₀ i₀ order i = (i ≤ length order₀) × (length order ≡ length order₀) × (take i order ≡ count-from i 0)
 
 abbrev μ-loop : tie.MeasureT-loop
-μ-loop order₀ i₀ order i = ?
+μ-loop order₀ i₀ order i = length order₀ - i
 
 -- src/sort.rt:17:5
 loop-holds : tie.Need-loop-holds Inv-loop μ-loop
-loop-holds c = search needs
+loop-holds c = search (number-start, needs)
 
 -- src/sort.rt:18:20
 cast-order : tie.Need-cast-order Inv-loop μ-loop
@@ -36,7 +42,7 @@ loop-less c = search needs
 
 -- src/sort.rt:17:5
 loop-again : tie.Need-loop-again Inv-loop μ-loop
-loop-again c = search needs
+loop-again c = search (number-next, needs)
 
 -- src/sort.rt:12:1
 same-length : tie.Need-same-length Inv-loop μ-loop
@@ -44,7 +50,7 @@ same-length c = search needs
 
 -- src/sort.rt:12:1
 returns : tie.Need-returns Inv-loop μ-loop
-returns c = search needs
+returns c = let l = c .before .loop in number-end (l .order) (l .i) _ (omega arith) (omega arith) (l .inv .2)
 
 pub number-slots-spec : {M : Type 1} → statement M
 number-slots-spec =

@@ -1,3 +1,8 @@
+use Prim.Native.Nat.{_≤_, _-_}
+use mathlib.Core.Path.{_≡_}
+use native.Mathlib.Omega.{arith}
+use lib.ListN.{length}
+use Rattle.words.proofs.Spelling.{LettersTo, no-room, letters-start, letter-next, word-end}
 use borrow.Author.Needs.{needs}
 use Rattle.words.proofs.sort.spell_word.Statement.{statement}
 use Rattle.words.proofs.sort.spell_word.Tie as tie
@@ -6,18 +11,18 @@ use Rattle.words.proofs.sort.spell_word.Lts as lts
 use Rattle.std.proofs.num.wrapping_add_u32.Reads as wrapping-add-u32-reads
 
 abbrev Inv-loop : tie.InvT-loop
-Inv-loop word out₀ n i₀ out i = ?
+Inv-loop word out₀ n i₀ out i = (i ≤ n) × (length out ≡ length out₀) × LettersTo word out₀ i out
 
 abbrev μ-loop : tie.MeasureT-loop
-μ-loop word out₀ n i₀ out i = ?
+μ-loop word out₀ n i₀ out i = n - i
 
 -- src/sort.rt:40:9
 returns : tie.Need-returns Inv-loop μ-loop
-returns c = search needs
+returns c = search (no-room, needs)
 
 -- src/sort.rt:43:5
 loop-holds : tie.Need-loop-holds Inv-loop μ-loop
-loop-holds c = search needs
+loop-holds c = search (letters-start, needs)
 
 -- src/sort.rt:44:45
 mul-wrapping-add-u32 : tie.Need-mul-wrapping-add-u32 Inv-loop μ-loop
@@ -49,7 +54,7 @@ loop-less c = search needs
 
 -- src/sort.rt:43:5
 loop-again : tie.Need-loop-again Inv-loop μ-loop
-loop-again c = search needs
+loop-again c = search (letter-next, needs)
 
 -- src/sort.rt:47:5
 mul-out-2 : tie.Need-mul-out-2 Inv-loop μ-loop
@@ -69,7 +74,10 @@ same-length c = search needs
 
 -- src/sort.rt:35:1
 returns-2 : tie.Need-returns-2 Inv-loop μ-loop
-returns-2 c = search needs
+returns-2 c =
+    let a = c .before .before .before .before .before .args in
+    let l = c .before .loop in
+    word-end (a .word .now) (a .out .now) (l .i) (l .out) (omega arith) (omega arith) (l .inv .2) (omega arith)
 
 pub spell-word-spec : {M : Type 1} → statement M
 spell-word-spec =
