@@ -13,7 +13,8 @@ use Rattle.terms.specs.Term.{Term, letter, zero, one, add, mul}
 use Rattle.terms.specs.Letters.{letters}
 use Rattle.terms.specs.Theory.Reflects.{Reflects, leb-reflects}
 use Rattle.text.specs.Bytes.{read-number, pieces}
-use Rattle.text.specs.TermText.{Token, atom, plus, times, letter-of, sign, token, operate, push, build, single, read-term}
+use Rattle.terms.specs.Build.{Token, atom, plus, times, operate, push, next, build, single, read}
+use Rattle.text.specs.TermText.{letter-of, sign, token, read-term}
 use Rattle.text.specs.Theory.TermText.{Readable}
 
 abbrev pub If-some : {A : Type 0} → (A → Type 0) → Option A → Type 0
@@ -80,27 +81,24 @@ push-readable (atom t) ok ts h = λ u i. ⊎-elim (λ e. rw e ok) (h u) (cons-ca
 push-readable plus ok ts h = operate-readable add add-readable ts h
 push-readable times ok ts h = operate-readable mul mul-readable ts h
 
-build-readable : (ps : List (List ℕ)) → If-some All-readable (build ps)
+next-readable : (k : Option Token) → If-some Ok-token k → (o : Option (List Term)) → If-some All-readable o → If-some All-readable (next k o)
+unfolding next
+next-readable none ok o h = tt
+next-readable (some k) ok none h = tt
+next-readable (some k) ok (some ts) h = push-readable k ok ts h
+
+build-readable : (ps : List (List ℕ)) → If-some All-readable (build token ps)
 unfolding build
 build-readable [] = λ t i. absurd (not-in-nil i)
-build-readable (p ∷ ps) = go (token p) (token-readable p) (build ps) (build-readable ps)
-  where
-    go : (k : Option Token) → If-some Ok-token k → (o : Option (List Term)) → If-some All-readable o
-        → If-some All-readable (elim k [ none ↦ none | some k ↦ elim o [ none ↦ none | some ts ↦ push k ts ] ])
-    go none ok o h = tt
-    go (some k) ok none h = tt
-    go (some k) ok (some ts) h = push-readable k ok ts h
+build-readable (p ∷ ps) = next-readable (token p) (token-readable p) (build token ps) (build-readable ps)
 
-single-readable : (ts : List Term) → All-readable ts → If-some Readable (single ts)
+single-readable : (o : Option (List Term)) → If-some All-readable o → If-some Readable (single o)
 unfolding single
-single-readable [] h = tt
-single-readable (t ∷ []) h = h t (here refl)
-single-readable (t ∷ u ∷ ts) h = tt
+single-readable none h = tt
+single-readable (some []) h = tt
+single-readable (some (t ∷ [])) h = h t (here refl)
+single-readable (some (t ∷ u ∷ ts)) h = tt
 
 pub read-readable : (bs : List ℕ) → If-some Readable (read-term bs)
-unfolding read-term
-read-readable bs = go (build (pieces (code " ") bs)) (build-readable (pieces (code " ") bs))
-  where
-    go : (o : Option (List Term)) → If-some All-readable o → If-some Readable (elim o [ none ↦ none | some ts ↦ single ts ])
-    go none h = tt
-    go (some ts) h = single-readable ts h
+unfolding read-term read
+read-readable bs = single-readable (build token (pieces (code " ") bs)) (build-readable (pieces (code " ") bs))

@@ -1,0 +1,75 @@
+-- What the functions promise of their answers.
+use Prim.Native.Nat.{ℕ, _+_, _<_, _≤_}
+use mathlib.Core.Path.{_≡_}
+use mathlib.Core.Bool.{Bool, true}
+use mathlib.Core.List.{List, _++_}
+use lib.Dec.{isEq}
+use lib.ListN.{length, drop}
+use Rattle.terms.specs.Compare.{Ordering, lt, eq, gt, order-numbers}
+use Rattle.terms.specs.Term.{Term, size, depth, order, same}
+use Rattle.terms.specs.Letters.{letters, rising}
+use Rattle.terms.specs.Held.{IsRun, Holds}
+use Rattle.terms.specs.Numbers.{read-run, is-some, end-at, depth-of, letters-of}
+use Rattle.terms.specs.declared.term.Comparison.{Comparison}
+use Rattle.terms.specs.declared.term.Comparison.the-variants.{Less, Equal, Greater}
+use Rattle.terms.specs.declared.term.Listed.{Listed}
+use Rattle.terms.specs.declared.term.Listed.the-variants.{All, TooMany}
+use Rattle.terms.specs.declared.term.Extent.{Extent}
+
+abbrev pub ordering-of : Comparison → Ordering
+ordering-of Less = lt
+ordering-of Equal = eq
+ordering-of Greater = gt
+
+pub record Compares (xs ys : List ℕ) (r : Comparison) : Type 0 where
+  pub numbers : ordering-of r ≡ order-numbers xs ys
+  pub terms : (s t : Term) → IsRun xs s → IsRun ys t → ordering-of r ≡ order s t
+
+pub record Equals (xs ys : List ℕ) (r : Bool) : Type 0 where
+  pub numbers : r ≡ isEq (order-numbers xs ys)
+  pub terms : (s t : Term) → IsRun xs s → IsRun ys t → r ≡ same s t
+
+-- the first of two unless the second comes before it
+abbrev pub smaller-of : {A : Type 0} → Ordering → A → A → A
+smaller-of lt a b = a
+smaller-of eq a b = a
+smaller-of gt a b = b
+
+-- a and b are lent runs with the numbers xs and ys
+pub record Smaller {A : Type 0} (xs ys : List ℕ) (a b r : A) : Type 0 where
+  pub numbers : r ≡ smaller-of (order-numbers xs ys) a b
+  pub terms : (s t : Term) → IsRun xs s → IsRun ys t → r ≡ smaller-of (order s t) a b
+
+pub record Ends (xs : List ℕ) (at r : ℕ) : Type 0 where
+  pub is : r ≡ end-at xs at
+  pub forward : at ≤ r
+  pub within : at ≤ length xs → r ≤ length xs
+  pub exact : (t : Term) → Holds xs at t → r ≡ at + size t
+
+pub record Sized (xs : List ℕ) (r : ℕ) : Type 0 where
+  pub is : r ≡ length xs
+  pub terms : (t : Term) → IsRun xs t → r ≡ size t
+
+pub record Extends (xs : List ℕ) (at : ℕ) (r : Extent) : Type 0 where
+  pub ends : r .end ≡ end-at xs at
+  pub deep : r .depth ≡ depth-of (drop at xs)
+  pub forward : at ≤ r .end
+  pub fits : r .depth ≤ length xs
+
+pub record Deep (xs : List ℕ) (r : ℕ) : Type 0 where
+  pub is : r ≡ depth-of xs
+  pub terms : (t : Term) → IsRun xs t → r ≡ depth t
+
+pub record Reads (xs : List ℕ) (r : Bool) : Type 0 where
+  pub is : r ≡ is-some (read-run xs)
+  pub sound : r ≡ true → (t : Term) × IsRun xs t
+  pub complete : (t : Term) → IsRun xs t → r ≡ true
+
+-- the list fills the front of out, and the rest is kept; or there is no room for it
+abbrev pub Fills : List ℕ → List ℕ → Listed → List ℕ → Type 0
+Fills xs out (All n) out′ = (n ≡ length xs) × (n ≤ length out) × (out′ ≡ xs ++ drop n out)
+Fills xs out TooMany out′ = (length out < length xs) × (length out′ ≡ length out)
+
+pub record Lists (xs ys out : List ℕ) (r : Listed) (out′ : List ℕ) : Type 0 where
+  pub numbers : Fills (rising (letters-of xs ++ letters-of ys)) out r out′
+  pub terms : (s t : Term) → IsRun xs s → IsRun ys t → Fills (rising (letters s ++ letters t)) out r out′
