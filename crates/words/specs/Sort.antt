@@ -18,6 +18,10 @@ first-next o [] ys = false
 first-next o (x ∷ xs) [] = true
 first-next o (x ∷ xs) (y ∷ ys) = before kept (o x y)
 
+-- of the slots in a from i on, and in b from j on, whether the next by its word is a's
+abbrev pub from-first : List ℕ → List ℕ → List ℕ → ℕ → ℕ → Bool
+from-first ws a b i j = first-next order-words (words-at ws (drop i a)) (words-at ws (drop j b))
+
 -- the words in the slots a and b, where each list is sorted, are those in the slots c, in order
 abbrev pub Merges : List ℕ → List ℕ → List ℕ → List ℕ → Type 0
 Merges ws a b c =

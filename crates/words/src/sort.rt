@@ -1,13 +1,17 @@
 // Words in slots, sorted by their numbers of slots, and written as a run.
 ghost use mathlib.Core.Path.{_≡_};
-ghost use Prim.Native.Nat.{_≤_};
+ghost use Prim.Native.Nat.{_+_, _≤_};
 ghost use mathlib.Core.List.{[], _∷_};
 ghost use lib.ListN.{length};
 ghost use lib.Seq.{sets};
+ghost use Rattle.terms.specs.Sort.{kept};
+ghost use Rattle.words.specs.Words.{normal};
 ghost use Rattle.words.specs.Rename.{count-from};
 ghost use Rattle.words.specs.Spelled.{words-at};
-ghost use Rattle.words.specs.Sort.{Spells};
+ghost use Rattle.words.specs.Sort.{from-first, Merges, Spells};
 use super::normal_form::word_of;
+use terms::term::Comparison;
+use terms::term::compare;
 
 // The slots one after another: 0, 1, and so on.
 pub fn number_slots(order: &mut [u32])
@@ -35,6 +39,61 @@ fn copy(out: &mut [u32], at: usize, numbers: &[u32])
         p += 1;
         i += 1;
     }
+}
+
+// Whether the next of two lists to be merged is the first's.
+fn takes_first(words: &[u32], a: &[u32], i: usize, b: &[u32], j: usize) -> bool
+    ensures { λ r. ⌜ r ≡ from-first (now (words .entry)) (now (a .entry)) (now (b .entry)) i j ⌝ }
+{
+    if a.len() <= i {
+        return false;
+    }
+    if b.len() <= j {
+        return true;
+    }
+    let u = word_of(words, a[i] as usize);
+    let v = word_of(words, b[j] as usize);
+    match compare(u, v) {
+        Comparison::Less => true,
+        Comparison::Equal => true,
+        Comparison::Greater => false,
+    }
+}
+
+// Two lists of slots, each sorted by its words, merged into one.
+fn merge(words: &[u32], a: &[u32], b: &[u32], out: &mut [u32])
+    requires { ⌜ length (now out) ≡ length (now a) + length (now b) ⌝ }
+    ensures { λ _. ⌜ Merges (now (words .entry)) (now (a .entry)) (now (b .entry)) (now (out .exit)) ⌝ }
+{
+    let mut i = 0;
+    let mut j = 0;
+    while i + j < out.len() {
+        let k = i + j;
+        if takes_first(words, a, i, b, j) {
+            out[k] = a[i];
+            i += 1;
+        } else {
+            out[k] = b[j];
+            j += 1;
+        }
+    }
+}
+
+// The slots of `order` sorted by their words, repeats kept: both halves are sorted, then merged.
+pub fn sort(words: &[u32], order: &mut [u32], spare: &mut [u32])
+    requires { ⌜ length (now order) ≤ length (now spare) ⌝ }
+    ensures { λ _. ⌜ words-at (now (words .entry)) (now (order .exit)) ≡ normal kept (words-at (now (words .entry)) (now (order .entry))) ⌝ }
+{
+    let n = order.len();
+    if n < 2 {
+        return;
+    }
+    let mid = n / 2;
+    sort(words, &mut order[..mid], spare);
+    sort(words, &mut order[mid..], spare);
+    copy(spare, 0, order);
+    let halves = &spare[..n];
+    merge(words, &halves[..mid], &halves[mid..], order);
 }
 
 // A word at the front of `out`: each letter plus 1, then 0. The answer is where it ends.
