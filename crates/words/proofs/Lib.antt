@@ -4,4 +4,5 @@ pub mod Stores
 pub mod Parts
 pub mod Numbered
 pub mod Merging
+pub mod Sorting
 pub mod Spelling

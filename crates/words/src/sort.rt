@@ -2,7 +2,7 @@
 ghost use mathlib.Core.Path.{_≡_};
 ghost use Prim.Native.Nat.{_+_, _≤_};
 ghost use mathlib.Core.List.{[], _∷_};
-ghost use lib.ListN.{length};
+ghost use lib.ListN.{length, take, drop};
 ghost use lib.Seq.{sets};
 ghost use Rattle.terms.specs.Sort.{kept};
 ghost use Rattle.words.specs.Words.{normal};
@@ -79,6 +79,17 @@ fn merge(words: &[u32], a: &[u32], b: &[u32], out: &mut [u32])
     }
 }
 
+// The two parts of `order`, each sorted by its words, merged.
+fn merge_parts(words: &[u32], order: &mut [u32], mid: usize, spare: &mut [u32])
+    requires { ⌜ (mid ≤ length (now order)) × (length (now order) ≤ length (now spare)) ⌝ }
+    ensures { λ _. ⌜ Merges (now (words .entry)) (take mid (now (order .entry))) (drop mid (now (order .entry))) (now (order .exit)) ⌝ }
+{
+    let n = order.len();
+    copy(spare, 0, order);
+    let parts = &spare[..n];
+    merge(words, &parts[..mid], &parts[mid..], order);
+}
+
 // The slots of `order` sorted by their words, repeats kept: both halves are sorted, then merged.
 pub fn sort(words: &[u32], order: &mut [u32], spare: &mut [u32])
     requires { ⌜ length (now order) ≤ length (now spare) ⌝ }
@@ -91,9 +102,7 @@ pub fn sort(words: &[u32], order: &mut [u32], spare: &mut [u32])
     let mid = n / 2;
     sort(words, &mut order[..mid], spare);
     sort(words, &mut order[mid..], spare);
-    copy(spare, 0, order);
-    let halves = &spare[..n];
-    merge(words, &halves[..mid], &halves[mid..], order);
+    merge_parts(words, order, mid, spare);
 }
 
 // A word at the front of `out`: each letter plus 1, then 0. The answer is where it ends.
