@@ -1,9 +1,9 @@
 -- Sorting slots by their words: both halves, then merged.
-use Prim.Native.Nat.{ℕ, suc, _-_, _<_, _≤_}
+use Prim.Native.Nat.{ℕ, _-_, _<_, _≤_}
 use native.Mathlib.Omega.{arith}
 use mathlib.Core.Path.{_≡_, refl, sym, ap, _∙_}
 use mathlib.Core.List.{List, [], _∷_, _++_, map-append}
-use lib.ListN.{length, take, drop, length-drop, take-append-drop}
+use lib.ListN.{length, take, drop, take-append-drop}
 use lib.Seq.{take-at, drop-at, length-take-le}
 use borrow.Rule.Slice.PartMut.{midOf, putMid}
 use Rattle.terms.specs.Sort.{kept, insert}

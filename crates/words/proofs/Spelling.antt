@@ -5,13 +5,11 @@ use native.Mathlib.Numerals.{add-one}
 use native.Mathlib.Omega.{arith}
 use mathlib.Core.Path.{_≡_, refl, sym, ap, _∙_}
 use mathlib.Core.List.{List, [], _∷_, _++_, map, flatMap, map-append, append-nil, append-assoc}
-use lib.ListN.{length, take, drop, getD, set, length-append, length-drop, length-map, drop-of-length-le, take-append-drop}
+use lib.ListN.{length, take, drop, getD, set, length-append, length-drop, length-map}
 use lib.Seq.{take-suc, take-suc-set, drop-set-lt, take-all, take-append-add, drop-append-add, drop-drop, length-take-le, take-length, split-at}
 use borrow.Rule.Slice.PartMut.{midOf, putMid, same-len-mid}
 use Rattle.terms.specs.Lists.{_∈_, here, there, in-map, in-cast, only-one}
-use Rattle.terms.specs.Run.{ZERO}
 use Rattle.words.specs.Words.{Word}
-use Rattle.words.specs.Rename.{count-from}
 use Rattle.words.specs.Spelled.{spelled-word, spelled, word-at, words-at}
 use Rattle.words.specs.Sort.{Front, Lettered, Spells}
 use Rattle.words.proofs.Parts.{end-lent, end-back}

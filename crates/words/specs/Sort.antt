@@ -10,7 +10,7 @@ use Rattle.terms.specs.Run.{ZERO}
 use Rattle.terms.specs.Sort.{kept}
 use Rattle.terms.specs.Theory.Sorted.{before, Sorted}
 use Rattle.words.specs.Words.{Word, order-words, normal}
-use Rattle.words.specs.Spelled.{spelled-word, spelled, words-at}
+use Rattle.words.specs.Spelled.{spelled, words-at}
 
 -- of two lists to be merged the first gives the next item: unless it has none, or the second's comes before it
 unfoldable pub first-next : {A : Type 0} → (A → A → Ordering) → List A → List A → Bool

@@ -1,4 +1,4 @@
-// Words in slots, sorted by their numbers of slots, and written as a run.
+// Slots sorted by the words in them, and the words written as a run.
 ghost use mathlib.Core.Path.{_≡_};
 ghost use Prim.Native.Nat.{_+_, _≤_};
 ghost use mathlib.Core.List.{[], _∷_};
@@ -105,7 +105,7 @@ pub fn sort(words: &[u32], order: &mut [u32], spare: &mut [u32])
     merge_parts(words, order, mid, spare);
 }
 
-// A word at the front of `out`: each letter plus 1, then 0. The answer is where it ends.
+// A word at the front of `out`, each letter plus 1, then 0, if there is room: where it ends.
 fn spell_word(word: &[u32], out: &mut [u32]) -> usize
     ensures { λ r. ⌜ Spells (now (word .entry) ∷ []) (now (out .entry)) r (now (out .exit)) ⌝ }
 {
@@ -122,7 +122,7 @@ fn spell_word(word: &[u32], out: &mut [u32]) -> usize
     n + 1
 }
 
-// The words in the slots of `order`, one after another at the front of `out`. The answer is where they end.
+// The words in the slots of `order`, one after another at the front of `out`, if there is room: where they end.
 pub fn spell(words: &[u32], order: &[u32], out: &mut [u32]) -> usize
     ensures { λ r. ⌜ Spells (words-at (now (words .entry)) (now (order .entry))) (now (out .entry)) r (now (out .exit)) ⌝ }
 {

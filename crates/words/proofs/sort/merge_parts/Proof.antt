@@ -1,6 +1,6 @@
 -- `merge_parts` meets its contract: what is merged are the parts of a copy of the order.
 use native.Mathlib.Omega.{arith}
-use mathlib.Core.Path.{_≡_, ap, sym, _∙_}
+use mathlib.Core.Path.{_≡_, ap, sym}
 use lib.ListN.{length, take}
 use lib.Seq.{length-take-le}
 use Rattle.words.proofs.Parts.{two-parts, front-stored}
@@ -8,16 +8,10 @@ use Rattle.words.proofs.Sorting.{parts-merged}
 use borrow.Author.Needs.{needs}
 use Rattle.words.proofs.sort.merge_parts.Statement.{statement}
 use Rattle.words.proofs.sort.merge_parts.Tie as tie
-use Rattle.words.proofs.sort.merge_parts.Reads as reads
-use Rattle.words.proofs.sort.merge_parts.Lts as lts
-use Rattle.words.proofs.sort.copy.Reads as copy-reads
-use Rattle.words.proofs.sort.merge.Reads as merge-reads
 
--- src/sort.rt:88:5
 copy-requires : tie.Need-copy-requires
 copy-requires c κs = search needs
 
--- src/sort.rt:89:17
 slice-reshare-prefix-parts : tie.Need-slice-reshare-prefix-parts
 slice-reshare-prefix-parts c = search needs
 
@@ -25,43 +19,33 @@ slice-reshare-prefix-parts c = search needs
 copied : (c : tie.After-copy) → let a = c .before .before .before .before .before .before .args in take (length (a .order .now)) (c .copy .last .0) ≡ a .order .now
 copied c = rw (c .copy .ensures) (front-stored _ _ (c .before .before .before .before .before .before .pre .1))
 
--- src/sort.rt:89:9
 slice-aggregate-parts : tie.Need-slice-aggregate-parts
 slice-aggregate-parts c = sym (ap length (copied (c .before .before .before)))
 
--- src/sort.rt:90:18
 slice-aggregate-merge : tie.Need-slice-aggregate-merge
 slice-aggregate-merge c = rw (copied (c .before .before .before .before)) (sym (length-take-le _ _ (c .before .before .before .before .before .before .before .before .before .before .pre .0)))
 
--- src/sort.rt:90:33
 mul-merge : tie.Need-mul-merge
 mul-merge c = search needs
 
--- src/sort.rt:90:33
 sub-merge : tie.Need-sub-merge
 sub-merge c = rw (copied (c .before .before .before .before)) (c .before .before .before .before .before .before .before .before .before .before .pre .0)
 
--- src/sort.rt:90:33
 part-merge-start : tie.Need-part-merge-start
 part-merge-start c = omega (arith, ap length (copied (c .before .before .before .before)), c .before .before .before .before .before .before .before .before .before .before .pre .0)
 
--- src/sort.rt:90:33
 part-merge-end : tie.Need-part-merge-end
 part-merge-end c = search needs
 
--- src/sort.rt:90:5
 merge-requires : tie.Need-merge-requires
 merge-requires c κs = rw (copied (c .before .before .before .before .before .before)) (two-parts _ _ (c .before .before .before .before .before .before .before .before .before .before .before .before .pre .0))
 
--- src/sort.rt:83:1
 same-length : tie.Need-same-length
 same-length c = search needs
 
--- src/sort.rt:83:1
 same-length-2 : tie.Need-same-length-2
 same-length-2 c = search needs
 
--- src/sort.rt:83:1
 returns : tie.Need-returns
 returns c = parts-merged _ _ (c .before .before .merge .last .1 .1 .1 .0) _ (copied (c .before .before .before .before .before .before .before .before .before)) (c .before .before .merge .ensures)
 

@@ -1,3 +1,4 @@
+-- `number_slots` meets its contract. The loop's invariant: what stands before `i` counts up to `i`.
 use Prim.Native.Nat.{_≤_, _-_}
 use native.Mathlib.Omega.{arith}
 use mathlib.Core.Path.{_≡_}
@@ -7,8 +8,6 @@ use Rattle.words.proofs.Numbered.{number-start, number-next, number-end
 use borrow.Author.Needs.{needs}
 use Rattle.words.proofs.sort.number_slots.Statement.{statement}
 use Rattle.words.proofs.sort.number_slots.Tie as tie
-use Rattle.words.proofs.sort.number_slots.Reads as reads
-use Rattle.words.proofs.sort.number_slots.Lts as lts
 
 abbrev Inv-loop : tie.InvT-loop
 Inv-loop order₀ i₀ order i = (i ≤ length order₀) × (length order ≡ length order₀) × (take i order ≡ count-from i 0)
@@ -16,39 +15,30 @@ Inv-loop order₀ i₀ order i = (i ≤ length order₀) × (length order ≡ le
 abbrev μ-loop : tie.MeasureT-loop
 μ-loop order₀ i₀ order i = length order₀ - i
 
--- src/sort.rt:17:5
 loop-holds : tie.Need-loop-holds Inv-loop μ-loop
 loop-holds c = search (number-start, needs)
 
--- src/sort.rt:18:20
 cast-order : tie.Need-cast-order Inv-loop μ-loop
 cast-order c = search needs
 
--- src/sort.rt:18:9
 mul-order : tie.Need-mul-order Inv-loop μ-loop
 mul-order c = search needs
 
--- src/sort.rt:18:9
 slice-write-order : tie.Need-slice-write-order Inv-loop μ-loop
 slice-write-order c = search needs
 
--- src/sort.rt:19:9
 add-i : tie.Need-add-i Inv-loop μ-loop
 add-i c = search needs
 
--- src/sort.rt:17:5
 loop-less : tie.Need-loop-less Inv-loop μ-loop
 loop-less c = search needs
 
--- src/sort.rt:17:5
 loop-again : tie.Need-loop-again Inv-loop μ-loop
 loop-again c = search (number-next, needs)
 
--- src/sort.rt:12:1
 same-length : tie.Need-same-length Inv-loop μ-loop
 same-length c = search needs
 
--- src/sort.rt:12:1
 returns : tie.Need-returns Inv-loop μ-loop
 returns c = let l = c .before .loop in number-end (l .order) (l .i) _ (omega arith) (omega arith) (l .inv .2)
 

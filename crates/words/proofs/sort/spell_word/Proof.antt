@@ -1,3 +1,4 @@
+-- `spell_word` meets its contract. The loop's invariant: what stands before `i` are the first `i` letters, each plus 1, and what follows the word is kept.
 use Prim.Native.Nat.{_≤_, _-_}
 use mathlib.Core.Path.{_≡_}
 use native.Mathlib.Omega.{arith}
@@ -6,9 +7,6 @@ use Rattle.words.proofs.Spelling.{LettersTo, no-room, letters-start, le
 use borrow.Author.Needs.{needs}
 use Rattle.words.proofs.sort.spell_word.Statement.{statement}
 use Rattle.words.proofs.sort.spell_word.Tie as tie
-use Rattle.words.proofs.sort.spell_word.Reads as reads
-use Rattle.words.proofs.sort.spell_word.Lts as lts
-use Rattle.std.proofs.num.wrapping_add_u32.Reads as wrapping-add-u32-reads
 
 abbrev Inv-loop : tie.InvT-loop
 Inv-loop word out₀ n i₀ out i = (i ≤ n) × (length out ≡ length out₀) × LettersTo word out₀ i out
@@ -16,63 +14,48 @@ Inv-loop word out₀ n i₀ out i = (i ≤ n) × (length out ≡ length out₀) 
 abbrev μ-loop : tie.MeasureT-loop
 μ-loop word out₀ n i₀ out i = n - i
 
--- src/sort.rt:40:9
 returns : tie.Need-returns Inv-loop μ-loop
 returns c = search (no-room, needs)
 
--- src/sort.rt:43:5
 loop-holds : tie.Need-loop-holds Inv-loop μ-loop
 loop-holds c = search (letters-start, needs)
 
--- src/sort.rt:44:45
 mul-wrapping-add-u32 : tie.Need-mul-wrapping-add-u32 Inv-loop μ-loop
 mul-wrapping-add-u32 c = search needs
 
--- src/sort.rt:44:45
 shared-slice-read-wrapping-add-u32 : tie.Need-shared-slice-read-wrapping-add-u32 Inv-loop μ-loop
 shared-slice-read-wrapping-add-u32 c = search needs
 
--- src/sort.rt:44:18
 wrapping-add-u32-requires : tie.Need-wrapping-add-u32-requires Inv-loop μ-loop
 wrapping-add-u32-requires c κs = search needs
 
--- src/sort.rt:44:9
 mul-out : tie.Need-mul-out Inv-loop μ-loop
 mul-out c = search needs
 
--- src/sort.rt:44:9
 slice-write-out : tie.Need-slice-write-out Inv-loop μ-loop
 slice-write-out c = search needs
 
--- src/sort.rt:45:9
 add-i : tie.Need-add-i Inv-loop μ-loop
 add-i c = search needs
 
--- src/sort.rt:43:5
 loop-less : tie.Need-loop-less Inv-loop μ-loop
 loop-less c = search needs
 
--- src/sort.rt:43:5
 loop-again : tie.Need-loop-again Inv-loop μ-loop
 loop-again c = search (letter-next, needs)
 
--- src/sort.rt:47:5
 mul-out-2 : tie.Need-mul-out-2 Inv-loop μ-loop
 mul-out-2 c = search needs
 
--- src/sort.rt:47:5
 slice-write-out-2 : tie.Need-slice-write-out-2 Inv-loop μ-loop
 slice-write-out-2 c = search needs
 
--- src/sort.rt:48:5
 add-result : tie.Need-add-result Inv-loop μ-loop
 add-result c = search needs
 
--- src/sort.rt:35:1
 same-length : tie.Need-same-length Inv-loop μ-loop
 same-length c = search needs
 
--- src/sort.rt:35:1
 returns-2 : tie.Need-returns-2 Inv-loop μ-loop
 returns-2 c =
     let a = c .before .before .before .before .before .args in

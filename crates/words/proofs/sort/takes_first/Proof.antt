@@ -11,64 +11,46 @@ use Rattle.words.proofs.Merging.{no-first, no-second, both-there}
 use borrow.Author.Needs.{needs}
 use Rattle.words.proofs.sort.takes_first.Statement.{statement}
 use Rattle.words.proofs.sort.takes_first.Tie as tie
-use Rattle.words.proofs.sort.takes_first.Reads as reads
-use Rattle.words.proofs.sort.takes_first.Lts as lts
-use Rattle.terms.proofs.term.compare.Reads as compare-reads
-use Rattle.words.proofs.normal_form.word_of.Reads as word-of-reads
 
--- src/sort.rt:49:9
 returns : tie.Need-returns
 returns c = sym (search (no-first, needs))
 
--- src/sort.rt:52:9
 returns-2 : tie.Need-returns-2
 returns-2 c = sym (search (no-second, needs))
 
--- src/sort.rt:54:28
 mul-word-of : tie.Need-mul-word-of
 mul-word-of c = search needs
 
--- src/sort.rt:54:28
 shared-slice-read-word-of : tie.Need-shared-slice-read-word-of
 shared-slice-read-word-of c = search needs
 
--- src/sort.rt:54:28
 cast-word-of : tie.Need-cast-word-of
 cast-word-of c = omega (arith, c .shared-slice-known4 .given (c .before .before .before .before .before .before .args .i))
 
--- src/sort.rt:54:9
 word-of-requires : tie.Need-word-of-requires
 word-of-requires c κs = search needs
 
--- src/sort.rt:55:28
 mul-word-of-2 : tie.Need-mul-word-of-2
 mul-word-of-2 c = search needs
 
--- src/sort.rt:55:28
 shared-slice-read-word-of-2 : tie.Need-shared-slice-read-word-of-2
 shared-slice-read-word-of-2 c = search needs
 
--- src/sort.rt:55:28
 cast-word-of-2 : tie.Need-cast-word-of-2
 cast-word-of-2 c = omega (arith, c .shared-slice-known5 .given (c .before .before .before .before .before .before .before .before .args .j))
 
--- src/sort.rt:55:9
 word-of-requires-2 : tie.Need-word-of-requires-2
 word-of-requires-2 c κs = search needs
 
--- src/sort.rt:56:11
 compare-requires : tie.Need-compare-requires
 compare-requires c κs = search needs
 
--- src/sort.rt:57:29
 enum-told : tie.Need-enum-told
 enum-told c = search needs
 
--- src/sort.rt:58:30
 enum-told-2 : tie.Need-enum-told-2
 enum-told-2 c = search needs
 
--- src/sort.rt:59:32
 enum-told-3 : tie.Need-enum-told-3
 enum-told-3 c = search needs
 
