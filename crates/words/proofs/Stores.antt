@@ -1,9 +1,9 @@
 -- Numbers stored one after the other.
-use Prim.Native.Nat.{ℕ, zero, suc, _+_, _≤_, _<_}
+use Prim.Native.Nat.{ℕ, suc, _+_, _≤_, _<_}
 use native.Mathlib.Omega.{arith}
 use native.Mathlib.Nat.{add-zero}
 use native.Mathlib.Numerals.{add-one}
-use mathlib.Core.Path.{_≡_, refl, sym, ap, _∙_}
+use mathlib.Core.Path.{_≡_, refl, sym, _∙_}
 use mathlib.Core.List.{List, [], _∷_, _++_, append-assoc}
 use lib.ListN.{length, take, drop, getD, set, drop-of-length-le}
 use lib.Seq.{sets, sets-eq, set-out, drop-cons, take-at, drop-at, length-take-le}
@@ -16,7 +16,7 @@ sets-out xs i (v ∷ vs) h = rw (set-out xs i v h) (sets-out xs (suc i) vs (omeg
 -- the numbers from i on are still to be stored from p on
 module _ (xs ns ys : List ℕ) (p i : ℕ) (e : sets xs p (drop i ns) ≡ ys) where
   pub store-next : i < length ns → sets (set xs p (getD ns i 0)) (p + 1) (drop (i + 1) ns) ≡ ys
-  store-next h = rw (add-one, add-one) (rw (drop-cons ns i 0 h) at e)
+  store-next h = rw (add-one p, add-one i) (rw (drop-cons ns i 0 h) at e)
 
   pub store-full : length xs ≤ p → xs ≡ ys
   store-full h = sym (sets-out xs p (drop i ns) h) ∙ e

@@ -3,12 +3,12 @@ ghost use mathlib.Core.Path.{_≡_};
 ghost use Prim.Native.Nat.{_+_, _≤_};
 ghost use mathlib.Core.List.{[], _∷_};
 ghost use lib.ListN.{length, take, drop};
-ghost use lib.Seq.{sets};
 ghost use Rattle.terms.specs.Sort.{kept};
 ghost use Rattle.words.specs.Words.{normal};
 ghost use Rattle.words.specs.Rename.{count-from};
 ghost use Rattle.words.specs.Spelled.{words-at};
 ghost use Rattle.words.specs.Sort.{from-first, Merges, Spells};
+use super::normal_form::copy;
 use super::normal_form::word_of;
 use terms::term::Comparison;
 use terms::term::compare;
@@ -21,22 +21,6 @@ pub fn number_slots(order: &mut [u32])
     let mut i = 0;
     while i < order.len() {
         order[i] = i as u32;
-        i += 1;
-    }
-}
-
-// Numbers stored one after the other from `at` on, as far as they fit.
-fn copy(out: &mut [u32], at: usize, numbers: &[u32])
-    ensures { λ _. ⌜ now (out .exit) ≡ sets (now (out .entry)) at (now (numbers .entry)) ⌝ }
-{
-    let mut p = at;
-    let mut i = 0;
-    while i < numbers.len() {
-        if out.len() <= p {
-            return;
-        }
-        out[p] = numbers[i];
-        p += 1;
         i += 1;
     }
 }

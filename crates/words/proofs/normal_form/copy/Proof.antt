@@ -1,13 +1,13 @@
 -- `copy` meets its contract. The loop's invariant: what is left to store makes of the list what all numbers make of it.
 -- The measure is what is left of the numbers.
-use Prim.Native.Nat.{_-_, _≤_}
+use Prim.Native.Nat.{_-_}
 use mathlib.Core.Path.{_≡_}
 use lib.ListN.{length, drop}
 use lib.Seq.{sets}
 use Rattle.words.proofs.Stores.{store-next, store-full, store-done}
 use borrow.Author.Needs.{needs}
-use Rattle.words.proofs.sort.copy.Statement.{statement}
-use Rattle.words.proofs.sort.copy.Tie as tie
+use Rattle.words.proofs.normal_form.copy.Statement.{statement}
+use Rattle.words.proofs.normal_form.copy.Tie as tie
 
 abbrev Inv-loop : tie.InvT-loop
 Inv-loop out₀ at numbers p₀ i₀ out p i = (length out ≡ length out₀) × (sets out p (drop i numbers) ≡ sets out₀ at numbers)
