@@ -1,0 +1,30 @@
+//! Lists of calls with their answers, as records that a program replays byte by byte.
+//!
+//! A record is one line of decimal numbers parted by a space, then the job's bytes, then the answer's.
+
+use std::io::{self, Write};
+
+use crate::{Call, Given};
+
+/// Writes a call: entry (1 FIND, 2 WORDS, 3 RENAME), slots, room, job's length; then the job.
+pub fn write_call(out: &mut impl Write, call: &Call) -> io::Result<()> {
+    writeln!(out, "{}", header(call))?;
+    out.write_all(&call.job)
+}
+
+/// Writes a call and what it gives. Its line goes on with the refusal's number, or 0, and the
+/// answer's length.
+pub fn write_record(out: &mut impl Write, call: &Call, given: &Given) -> io::Result<()> {
+    let (number, answer) = match given {
+        Ok(answer) => (0, &answer[..]),
+        Err(number) => (*number, &[][..]),
+    };
+    writeln!(out, "{} {number} {}", header(call), answer.len())?;
+    out.write_all(&call.job)?;
+    out.write_all(answer)
+}
+
+fn header(call: &Call) -> String {
+    let entry = call.entry as usize + 1;
+    format!("{entry} {} {} {}", call.slots, call.room, call.job.len())
+}

@@ -1,0 +1,186 @@
+//! The oracle's command line.
+
+use std::io::{self, BufWriter, Read, Write};
+use std::process::ExitCode;
+use std::time::Instant;
+
+use oracle::generate::{KINDS, Plan};
+use oracle::tally::Tally;
+use oracle::{Call, Entry, PROGRAM_ROOM, PROGRAM_SLOTS, cases::cases, checked, list};
+
+const HELP: &str = "\
+oracle answer ENTRY [--slots N] [--room N] [--number]
+    Reads one job on standard input and prints what the call gives, or the refusal.
+    ENTRY is find, words or rename. 400 slots and 32768 bytes of room unless said.
+    --number prints the number that the call returns instead.
+oracle cases
+    Runs document 01's cases.
+oracle generate OPTIONS
+    Writes calls: a line `entry slots room job_length`, then the job's bytes.
+oracle list OPTIONS
+    Writes calls with their answers: a line
+    `entry slots room job_length number answer_length`, then the job's and the answer's bytes.
+oracle check OPTIONS
+    Makes the same calls, compares both implementations and prints counts.
+
+OPTIONS: --seed S (default 1), --count N (default 1000), --kind K (default all, mixed),
+    --light (no heavy calls), --max-slots N, --max-room N (larger buffers are drawn as this).
+Entries in records: 1 find, 2 words, 3 rename. Number: 0, or the refusal's.
+
+Kinds, with their share in a thousand:
+";
+
+type Failure = Box<dyn std::error::Error>;
+
+fn main() -> ExitCode {
+    let words: Vec<String> = std::env::args().skip(1).collect();
+    match run(&words) {
+        Ok(true) => ExitCode::SUCCESS,
+        Ok(false) => ExitCode::FAILURE,
+        Err(failure) => {
+            eprintln!("{failure}");
+            ExitCode::from(2)
+        }
+    }
+}
+
+/// Runs a command; says no where something differs from what is due.
+fn run(words: &[String]) -> Result<bool, Failure> {
+    let words: Vec<&str> = words.iter().map(String::as_str).collect();
+    match words[..] {
+        ["answer", entry, ref options @ ..] => answer(entry, options),
+        ["cases"] => Ok(run_cases()),
+        ["generate", ref options @ ..] => generate(&plan(options)?),
+        ["list", ref options @ ..] => write_list(&plan(options)?),
+        ["check", ref options @ ..] => check(&plan(options)?),
+        ["--help" | "help"] => {
+            print!("{}", help());
+            Ok(true)
+        }
+        _ => Err(help().into()),
+    }
+}
+
+fn help() -> String {
+    let kinds = KINDS
+        .iter()
+        .map(|kind| format!("    {:8} {:4}  {}\n", kind.name, kind.share, kind.what));
+    HELP.to_owned() + &kinds.collect::<String>()
+}
+
+fn answer(entry: &str, options: &[&str]) -> Result<bool, Failure> {
+    let entry = Entry::named(entry).ok_or("ENTRY is find, words or rename")?;
+    let mut call = Call {
+        entry,
+        slots: PROGRAM_SLOTS,
+        room: PROGRAM_ROOM,
+        job: Vec::new(),
+    };
+    let mut number = false;
+    let mut options = options.iter();
+    while let Some(&option) = options.next() {
+        match option {
+            "--slots" => call.slots = value(option, options.next())?,
+            "--room" => call.room = value(option, options.next())?,
+            "--number" => number = true,
+            _ => return Err(unknown(option)),
+        }
+    }
+    io::stdin().read_to_end(&mut call.job)?;
+    let given = match checked::answer(&call) {
+        Ok(given) => given,
+        Err(difference) => {
+            eprint!("{difference}");
+            return Ok(false);
+        }
+    };
+    match given {
+        Ok(text) if number => println!("{}", 100 + text.len()),
+        Err(refusal) if number => println!("{refusal}"),
+        given => print!("{}", checked::show(&given)),
+    }
+    Ok(true)
+}
+
+fn run_cases() -> bool {
+    let all = cases();
+    let mut failed = 0;
+    for case in &all {
+        if let Some(fault) = case.fault() {
+            failed += 1;
+            println!("case {}\n{fault}", case.name);
+        }
+    }
+    println!("{} passed, {failed} failed", all.len() - failed);
+    failed == 0
+}
+
+fn plan(options: &[&str]) -> Result<Plan, Failure> {
+    let mut plan = Plan::default();
+    let mut options = options.iter();
+    while let Some(&option) = options.next() {
+        match option {
+            "--seed" => plan.seed = value(option, options.next())?,
+            "--count" => plan.count = value(option, options.next())?,
+            "--light" => plan.light = true,
+            "--max-slots" => plan.most_slots = value(option, options.next())?,
+            "--max-room" => plan.most_room = value(option, options.next())?,
+            "--kind" => {
+                let name: String = value(option, options.next())?;
+                let kind = KINDS.iter().position(|kind| kind.name == name);
+                plan.kind = Some(kind.ok_or_else(|| format!("there is no kind {name}"))?);
+            }
+            _ => return Err(unknown(option)),
+        }
+    }
+    Ok(plan)
+}
+
+fn value<T: std::str::FromStr>(option: &str, word: Option<&&str>) -> Result<T, Failure> {
+    let parsed = word.and_then(|word| word.parse().ok());
+    parsed.ok_or_else(|| format!("{option} needs a value").into())
+}
+
+fn unknown(option: &str) -> Failure {
+    format!("there is no option {option}").into()
+}
+
+fn generate(plan: &Plan) -> Result<bool, Failure> {
+    let mut out = BufWriter::new(io::stdout().lock());
+    for (_, call) in plan.calls() {
+        list::write_call(&mut out, &call)?;
+    }
+    out.flush()?;
+    Ok(true)
+}
+
+fn write_list(plan: &Plan) -> Result<bool, Failure> {
+    let mut out = BufWriter::new(io::stdout().lock());
+    for (_, call) in plan.calls() {
+        match checked::answer(&call) {
+            Ok(given) => list::write_record(&mut out, &call, &given)?,
+            Err(difference) => {
+                eprint!("{difference}");
+                return Ok(false);
+            }
+        }
+    }
+    out.flush()?;
+    Ok(true)
+}
+
+fn check(plan: &Plan) -> Result<bool, Failure> {
+    let start = Instant::now();
+    let mut tally = Tally::default();
+    for (kind, call) in plan.calls() {
+        match checked::answer(&call) {
+            Ok(given) => tally.count(kind, &call, &given),
+            Err(difference) => {
+                eprint!("kind={}\n{difference}", KINDS[kind].name);
+                return Ok(false);
+            }
+        }
+    }
+    println!("{tally}, no difference, {} s", start.elapsed().as_secs());
+    Ok(true)
+}

@@ -1,0 +1,140 @@
+//! Answers made from the Rust sources, for jobs that pass refusals 1 to 6.
+
+mod readback;
+
+use upstream::{
+    BoundedRewriteProof, BoundedRewriteResult, EquationCandidate, Monomial, RewriteSearchLimits,
+    SemiringNormalForm, Term, search_bounded_rewrite,
+};
+
+use crate::plain::{
+    job::{Job, Limits},
+    term::{ONE, PRODUCT, SUM, ZERO, part},
+    within,
+};
+use crate::{Entry, Given};
+
+/// The Rust's answer in document 01's text. It has no slots; refusals 1 to 6 and 8 are not its own.
+pub fn answer(entry: Entry, job: &[u8], room: usize) -> Given {
+    let job = Job::read(job)?;
+    let equation = EquationCandidate::new(tree(job.left.run()), tree(job.right.run()))
+        .expect("a job's sides differ");
+    let text = match entry {
+        Entry::Find => find_text(&equation, &job.limits),
+        Entry::Words => words_text(&equation),
+        Entry::Rename => rename_text(&equation),
+    };
+    within(room, text.into_bytes())
+}
+
+fn find_text(equation: &EquationCandidate, limits: &Limits) -> String {
+    let bounds = RewriteSearchLimits {
+        max_steps: limits.steps,
+        max_term_size: limits.size,
+        max_term_depth: limits.depth,
+        max_nodes: limits.nodes,
+    };
+    let Ok(result) = search_bounded_rewrite("oracle", equation, bounds);
+    let sides = format!(
+        "left={}\nright={}\n",
+        show(equation.lhs()),
+        show(equation.rhs())
+    );
+    match result {
+        BoundedRewriteResult::Proved(proof) => proved_text(equation, &sides, &proof),
+        BoundedRewriteResult::NotProved { nodes_expanded } => {
+            let cut = if nodes_expanded == limits.nodes {
+                "yes"
+            } else {
+                "no"
+            };
+            format!("answer=none\n{sides}expanded={nodes_expanded}\ncut={cut}\n")
+        }
+    }
+}
+
+fn proved_text(equation: &EquationCandidate, sides: &str, proof: &BoundedRewriteProof) -> String {
+    let uses: Vec<&str> = proof.dependencies().iter().map(|law| law.name()).collect();
+    format!(
+        "answer=proved\n{sides}steps={}\nexpanded={}\nuses={}\n{}proof={}\n",
+        proof.steps(),
+        proof.nodes_expanded(),
+        uses.join(","),
+        readback::step_lines(proof.proof_term(), equation),
+        proof.proof_term()
+    )
+}
+
+fn words_text(equation: &EquationCandidate) -> String {
+    let (same, left, right) = match equation.semiring_normalize() {
+        Some(lists) => ("no", lists.lhs().clone(), lists.rhs().clone()),
+        None => {
+            let left = SemiringNormalForm::from_term(equation.lhs());
+            let right = SemiringNormalForm::from_term(equation.rhs());
+            ("yes", left, right)
+        }
+    };
+    let (left, right) = (show_words(&left), show_words(&right));
+    format!("same={same}\nleft={left}\nright={right}\n")
+}
+
+fn rename_text(equation: &EquationCandidate) -> String {
+    let least = equation.canonicalize_variables();
+    let (wleft, wright) = match equation.semiring_normalize() {
+        Some(lists) => {
+            let least = lists.canonicalize_variables();
+            (show_words(least.lhs()), show_words(least.rhs()))
+        }
+        None => ("-".to_owned(), "-".to_owned()),
+    };
+    format!(
+        "left={}\nright={}\nwleft={wleft}\nwright={wright}\n",
+        show(least.lhs()),
+        show(least.rhs())
+    )
+}
+
+/// The Rust's term of a run.
+fn tree(run: &[u16]) -> Term {
+    match run[0] {
+        ZERO => Term::Zero,
+        ONE => Term::One,
+        node @ (SUM | PRODUCT) => {
+            let left = part(run, 1);
+            let right = Box::new(tree(part(run, 1 + left.len())));
+            let left = Box::new(tree(left));
+            if node == SUM {
+                Term::Add(left, right)
+            } else {
+                Term::Mul(left, right)
+            }
+        }
+        letter => Term::Var(u32::from(letter)),
+    }
+}
+
+fn show(term: &Term) -> String {
+    match term {
+        Term::Var(letter) => format!("v{letter}"),
+        Term::Zero => "0".to_owned(),
+        Term::One => "1".to_owned(),
+        Term::Add(left, right) => format!("+ {} {}", show(left), show(right)),
+        Term::Mul(left, right) => format!("* {} {}", show(left), show(right)),
+    }
+}
+
+fn show_words(list: &SemiringNormalForm) -> String {
+    let words: Vec<String> = list.summands().iter().map(show_word).collect();
+    match words.len() {
+        0 => "0".to_owned(),
+        _ => words.join(";"),
+    }
+}
+
+fn show_word(word: &Monomial) -> String {
+    let letters: Vec<String> = word.factors().iter().map(|l| format!("v{l}")).collect();
+    match letters.len() {
+        0 => "1".to_owned(),
+        _ => letters.join(" "),
+    }
+}
