@@ -52,7 +52,8 @@ depths-within (x ∷ xs) k =
     ⊎-elim
     (λ h. rw (depths-atom x xs h) (within-one 0 (depths xs) (depths-within xs) (omega arith) k))
     (λ h. let ds = depths xs in
-    rw (depths-two x xs h) (within-one (1 + max (getD ds 0 0) (getD ds 1 0)) (drop 2 ds) (λ j. rw (getD-drop 2 ds j 0) (depths-within xs (2 + j))) (omega (arith, depths-within xs 0, depths-within xs 1)) k))
+    let later : (j : ℕ) → getD (drop 2 ds) j 0 ≤ length xs = λ j. rw (getD-drop 2 ds j 0) (depths-within xs (2 + j)) in
+    rw (depths-two x xs h) (within-one (1 + max (getD ds 0 0) (getD ds 1 0)) (drop 2 ds) later (omega (arith, depths-within xs 0, depths-within xs 1)) k))
     (below? x ADD)
 
 depths-parts : (x : ℕ) (s t : Term) (ys : List ℕ) → ADD ≤ x → depths (run s ++ (run t ++ ys)) ≡ depth s ∷ depths (run t ++ ys) → depths (run t ++ ys) ≡ depth t ∷ depths ys

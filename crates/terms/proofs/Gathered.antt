@@ -40,7 +40,7 @@ letters-append (x ∷ xs) ys =
     (λ h. rw (letters-other x (xs ++ ys) h, letters-other x xs h, letters-append xs ys))
     (below? x ZERO)
 
-letters-run : (t : Term) → Fine t → letters-of (run t) ≡ letters t
+pub letters-run : (t : Term) → Fine t → letters-of (run t) ≡ letters t
 unfolding letters-of run letters Fine
 letters-run (letter n) f = letters-small n [] f
 letters-run zero f = refl

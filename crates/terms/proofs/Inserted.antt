@@ -20,7 +20,8 @@ module _ (s : List ℕ) (i x : ℕ) (l : List ℕ) (e : put-in i x s ≡ l) wher
   pub put-next : i < length s → put-in (i + 1) (getD s i 0) (set s i x) ≡ l
   unfolding put-in
   put-next h =
-      rw (length-set s i x, add-one i, take-suc-set s i x h, drop-set-lt (suc i) s i x (omega arith), append-snoc (take i s) x (getD s i 0 ∷ drop (suc i) s), ← (drop-cons s i 0 h)) e
+      let front : take (suc i) (set s i x) ++ drop i s ≡ take i s ++ (x ∷ drop i s) = rw (take-suc-set s i x h) (append-snoc (take i s) x (drop i s)) in
+      rw (length-set s i x, add-one i, drop-set-lt (suc i) s i x (omega arith), ← (drop-cons s i 0 h), front) e
 
   pub put-end : length s ≤ i → s ≡ l
   unfolding put-in
@@ -84,7 +85,7 @@ put-in-room x ys z i h =
     rw (take-append-le i ys (z ∷ []) h, drop-append-le i ys (z ∷ []) h, ← (append-assoc (take i ys) (x ∷ drop i ys) (z ∷ [])))
     (take-at (take i ys ++ (x ∷ drop i ys)) (z ∷ []) (length (ys ++ (z ∷ []))) (split-length x ys i ∙ sym (length-append ys (z ∷ []))))
 
-pub front-rest : (n : ℕ) (xs : List ℕ) → take n xs ++ drop (length (take n xs)) xs ≡ xs
+front-rest : (n : ℕ) (xs : List ℕ) → take n xs ++ drop (length (take n xs)) xs ≡ xs
 front-rest zero xs = refl
 front-rest (suc n) [] = refl
 front-rest (suc n) (x ∷ xs) = ap (λ l. x ∷ l) (front-rest n xs)

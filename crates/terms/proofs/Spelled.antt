@@ -78,34 +78,38 @@ module _ (k : ℕ) (b : Option (List Term)) where
 
 -- the test from position i on, with k terms to come and the answer b, one number further
 module _ (xs : List ℕ) (i k : ℕ) (b : Bool) (e : spells (drop i xs) k ≡ b) where
-  here : i < length xs → counts k (next (token (getD xs i 0)) (build token (drop (i + 1) xs))) ≡ b
+  abbrev x : ℕ
+  x = getD xs i 0
+
+  abbrev rest : Option (List Term)
+  rest = build token (drop (i + 1) xs)
+
+  here : i < length xs → counts k (next (token x) rest) ≡ b
   unfolding spells build
   here h = rw (drop-one xs i h) at e
 
-  pub spells-atom : i < length xs → (k ≡ 0 → ⊥) → getD xs i 0 < ADD → spells (drop (i + 1) xs) (k - 1) ≡ b
+  pub spells-atom : i < length xs → (k ≡ 0 → ⊥) → x < ADD → spells (drop (i + 1) xs) (k - 1) ≡ b
   unfolding spells
   spells-atom h p q = go k p (here h)
     where
-      go : (k : ℕ) → (k ≡ 0 → ⊥) → counts k (next (token (getD xs i 0)) (build token (drop (i + 1) xs))) ≡ b
-          → counts (k - 1) (build token (drop (i + 1) xs)) ≡ b
+      go : (k : ℕ) → (k ≡ 0 → ⊥) → counts k (next (token x) rest) ≡ b → counts (k - 1) rest ≡ b
       go zero p e = absurd (p refl)
-      go (suc k) p e = rw sub-one (sym (code-atom k (build token (drop (i + 1) xs)) (code (getD xs i 0)) q) ∙ e)
+      go (suc k) p e = rw sub-one (sym (code-atom k rest (code x) q) ∙ e)
 
-  pub spells-two : i < length xs → (k ≡ 0 → ⊥) → getD xs i 0 ≤ MUL → ADD ≤ getD xs i 0 → spells (drop (i + 1) xs) (k + 1) ≡ b
+  pub spells-two : i < length xs → (k ≡ 0 → ⊥) → x ≤ MUL → ADD ≤ x → spells (drop (i + 1) xs) (k + 1) ≡ b
   unfolding spells
   spells-two h p m q = go k p (here h)
     where
-      go : (k : ℕ) → (k ≡ 0 → ⊥) → counts k (next (token (getD xs i 0)) (build token (drop (i + 1) xs))) ≡ b
-          → counts (k + 1) (build token (drop (i + 1) xs)) ≡ b
+      go : (k : ℕ) → (k ≡ 0 → ⊥) → counts k (next (token x) rest) ≡ b → counts (k + 1) rest ≡ b
       go zero p e = absurd (p refl)
-      go (suc k) p e = rw (add-one (suc k)) (sym (code-two k (build token (drop (i + 1) xs)) (code (getD xs i 0)) q m) ∙ e)
+      go (suc k) p e = rw (add-one (suc k)) (sym (code-two k rest (code x) q m) ∙ e)
 
   pub spells-over : i < length xs → k ≡ 0 → false ≡ b
-  spells-over h p = sym (counts-over (token (getD xs i 0)) (build token (drop (i + 1) xs))) ∙ (rw p at (here h))
+  spells-over h p = sym (counts-over (token x) rest) ∙ (rw p at (here h))
 
-  pub spells-foul : i < length xs → MUL < getD xs i 0 → false ≡ b
+  pub spells-foul : i < length xs → MUL < x → false ≡ b
   unfolding next counts
-  spells-foul h m = rw (token-none (getD xs i 0) m) at (here h)
+  spells-foul h m = rw (token-none x m) at (here h)
 
   pub spells-end : length xs ≤ i → eqb k 0 ≡ b
   unfolding spells build

@@ -33,7 +33,7 @@ unfoldable pub is-some : {A : Type 0} → Option A → Bool
 is-some none = false
 is-some (some x) = true
 
--- the terms still to come after a number: an atom is one of them, an operator asks for one more
+-- the terms still to come after a number, where k and one more were: an atom is one, an operator asks for two
 abbrev pub more : Bool → ℕ → ℕ
 more true k = k
 more false k = suc (suc k)

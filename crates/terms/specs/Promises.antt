@@ -1,4 +1,4 @@
--- What the functions promise of their answers.
+-- What each function promises of its answer r, on lists of numbers and on the runs of terms.
 use Prim.Native.Nat.{ℕ, _+_, _<_, _≤_}
 use mathlib.Core.Path.{_≡_}
 use mathlib.Core.Bool.{Bool, true}
@@ -21,10 +21,12 @@ ordering-of Less = lt
 ordering-of Equal = eq
 ordering-of Greater = gt
 
+-- of `compare`
 pub record Compares (xs ys : List ℕ) (r : Comparison) : Type 0 where
   pub numbers : ordering-of r ≡ order-numbers xs ys
   pub terms : (s t : Term) → IsRun xs s → IsRun ys t → ordering-of r ≡ order s t
 
+-- of `equal`
 pub record Equals (xs ys : List ℕ) (r : Bool) : Type 0 where
   pub numbers : r ≡ isEq (order-numbers xs ys)
   pub terms : (s t : Term) → IsRun xs s → IsRun ys t → r ≡ same s t
@@ -35,41 +37,47 @@ smaller-of lt a b = a
 smaller-of eq a b = a
 smaller-of gt a b = b
 
--- a and b are lent runs with the numbers xs and ys
+-- of `smaller`, where a and b are lent runs with the numbers xs and ys
 pub record Smaller {A : Type 0} (xs ys : List ℕ) (a b r : A) : Type 0 where
   pub numbers : r ≡ smaller-of (order-numbers xs ys) a b
   pub terms : (s t : Term) → IsRun xs s → IsRun ys t → r ≡ smaller-of (order s t) a b
 
+-- of `end_of`
 pub record Ends (xs : List ℕ) (at r : ℕ) : Type 0 where
   pub is : r ≡ end-at xs at
   pub forward : at ≤ r
   pub within : at ≤ length xs → r ≤ length xs
   pub exact : (t : Term) → Holds xs at t → r ≡ at + size t
 
+-- of `size`
 pub record Sized (xs : List ℕ) (r : ℕ) : Type 0 where
   pub is : r ≡ length xs
   pub terms : (t : Term) → IsRun xs t → r ≡ size t
 
+-- of `extent_of`
 pub record Extends (xs : List ℕ) (at : ℕ) (r : Extent) : Type 0 where
   pub ends : r .end ≡ end-at xs at
   pub deep : r .depth ≡ depth-of (drop at xs)
   pub forward : at ≤ r .end
   pub fits : r .depth ≤ length xs
 
+-- of `depth`
 pub record Deep (xs : List ℕ) (r : ℕ) : Type 0 where
   pub is : r ≡ depth-of xs
   pub terms : (t : Term) → IsRun xs t → r ≡ depth t
 
+-- of `is_run`
 pub record Reads (xs : List ℕ) (r : Bool) : Type 0 where
   pub is : r ≡ is-some (read-run xs)
   pub sound : r ≡ true → (t : Term) × IsRun xs t
   pub complete : (t : Term) → IsRun xs t → r ≡ true
 
--- the list fills the front of out, and the rest is kept; or there is no room for it
+-- of `insert` and `gather`: the list fills the front of out, whose rest is kept; or it is longer than out
 abbrev pub Fills : List ℕ → List ℕ → Listed → List ℕ → Type 0
 Fills xs out (All n) out′ = (n ≡ length xs) × (n ≤ length out) × (out′ ≡ xs ++ drop n out)
 Fills xs out TooMany out′ = (length out < length xs) × (length out′ ≡ length out)
 
+-- of `letters`
 pub record Lists (xs ys out : List ℕ) (r : Listed) (out′ : List ℕ) : Type 0 where
   pub numbers : Fills (rising (letters-of xs ++ letters-of ys)) out r out′
   pub terms : (s t : Term) → IsRun xs s → IsRun ys t → Fills (rising (letters s ++ letters t)) out r out′

@@ -155,6 +155,7 @@ pub enum Listed {
     TooMany,
 }
 
+// The smaller of two numbers.
 fn least(m: usize, n: usize) -> usize
     ensures { λ r. ⌜ r ≡ min m n ⌝ }
 {
@@ -189,7 +190,7 @@ fn insert(out: &mut [u32], n: usize, x: u32) -> Listed
         if x == y {
             return Listed::All(end);
         }
-        if x < y {
+        if y > x {
             break;
         }
         i += 1;
@@ -223,6 +224,7 @@ fn gather(s: &[u32], out: &mut [u32], n: usize) -> Listed
 }
 
 // The different letters of two runs, rising, in the front of `out`, whose rest is kept.
+// Where there are more of them than `out` has room for, its contents are free.
 pub fn letters(a: &[u32], b: &[u32], out: &mut [u32]) -> Listed
     ensures { λ r. ⌜ Lists (now (a .entry)) (now (b .entry)) (now (out .entry)) r (now (out .exit)) ⌝ }
 {

@@ -93,7 +93,8 @@ spelled-two {x} f r g (u ∷ v ∷ ts) {us} (h, w) e =
     all : f u v ∷ ts ≡ us
     all = cc
 
-spelled-next : {x : ℕ} {k : Option Token} → Code x k → {xs : List ℕ} (b : Option (List Term)) → ((ts : List Term) → b ≡ some ts → Spelled xs ts) → {us : List Term} → next k b ≡ some us → Spelled (x ∷ xs) us
+spelled-next : {x : ℕ} {k : Option Token} → Code x k → {xs : List ℕ} (b : Option (List Term)) → ((ts : List Term) → b ≡ some ts → Spelled xs ts)
+    → {us : List Term} → next k b ≡ some us → Spelled (x ∷ xs) us
 unfolding next push run Fine
 spelled-next (letter-code {n = n} h) b f e = let (ts, d, p) = next-some (atom (letter n)) b e in spelled-atom (letter n) h refl ts (f ts d) p
 spelled-next zero-code b f e = let (ts, d, p) = next-some (atom zero) b e in spelled-atom zero tt refl ts (f ts d) p

@@ -1,3 +1,4 @@
+-- `insert` meets its contract. The loop's invariant: `x` goes behind the first `i` numbers of the front.
 use Prim.Native.Nat.{_≤_, _-_}
 use native.Mathlib.Omega.{arith}
 use mathlib.Core.Logic.{⊎-elim}
