@@ -6,6 +6,11 @@ pub mod Puts
 pub mod Joined
 pub mod Multiplied
 pub mod Expanded
+pub mod Parts
+pub mod Numbered
+pub mod Merging
+pub mod Sorting
+pub mod Spelling
 pub mod Renamed
 pub mod Decoded
 pub mod Permuted
