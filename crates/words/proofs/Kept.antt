@@ -3,8 +3,8 @@ use Prim.Native.Nat.{ℕ, _+_, _≤_, _<_}
 use native.Mathlib.Omega.{arith}
 use mathlib.Core.Path.{_≡_, refl, sym, _∙_, ap}
 use mathlib.Core.List.{List}
-use lib.ListN.{length, take, drop}
-use lib.Seq.{sets, take-append-seam}
+use lib.ListN.{length, take}
+use lib.Seq.{sets}
 use denote.Ref.{RefT, now}
 use Rattle.terms.specs.Compare.{Ordering, lt, eq, gt, then, order-numbers}
 use Rattle.terms.specs.Equation.{Equation, orient}
@@ -15,7 +15,7 @@ use Rattle.terms.specs.declared.term.Comparison.the-variants.{Less, Equal, Grea
 use Rattle.words.specs.Rename.{order-equations, lesser}
 use Rattle.words.specs.Candidate.{sides, Within, Room, ordered, Keeps, KeepsLesser}
 use Rattle.words.specs.declared.candidate.Lengths.{Lengths}
-use Rattle.words.proofs.Stores.{drop-sets}
+use Rattle.words.proofs.Parts.{front-stored}
 
 -- what was told of a comparison is the order
 told : {xs ys : List ℕ} {c r : Comparison} → Compares xs ys c → c ≡ r → order-numbers xs ys ≡ ordering-of r
@@ -69,11 +69,6 @@ module _ (xs ys us vs : List ℕ) {c : Comparison} (h : Compares xs us c) where
 
 -- two runs kept
 
-pub sets-front : (xs vs : List ℕ) → length vs ≤ length xs → take (length vs) (sets xs 0 vs) ≡ vs
-sets-front xs vs h =
-    let e : 0 + length vs ≤ length xs = omega arith in
-    ap (take (length vs)) (drop-sets xs 0 vs e) ∙ take-append-seam vs (drop (0 + length vs) xs)
-
 module _ (xs ys : List ℕ) where
   abbrev whole : Equation (List ℕ)
   whole = orient order-numbers xs ys
@@ -111,7 +106,7 @@ module _ (xs ys : List ℕ) where
       kept h k d e =
           record {
             within = record { left-side = h; right-side = k };
-            exact = λ n r. rw (d, e, sets-front left s h, sets-front right t k) both-sides;
+            exact = λ n r. rw (d, e, front-stored left s h, front-stored right t k) both-sides;
           }
 
       -- in place of the best so far, whose sides are u and v

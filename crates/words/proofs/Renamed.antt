@@ -1,20 +1,17 @@
 -- The new name looked up from position i on, and runs renamed.
 use Prim.Native.Nat.{ℕ, zero, suc, _+_, _<_, _≤_}
 use native.Mathlib.Omega.{arith}
-use native.Mathlib.Numerals.{add-one}
 use mathlib.Core.Path.{_≡_, refl, sym, _∙_}
 use mathlib.Core.List.{List, [], _∷_, map}
 use lib.ListN.{length, drop, getD, set, drop-of-length-le, length-map}
-use lib.Seq.{sets, drop-cons}
+use lib.Seq.{sets}
 use borrow.Author.Tests.{lt-ltb, le-ltb}
 use Rattle.terms.specs.Run.{ZERO}
+use Rattle.terms.proofs.Positions.{drop-one}
 use Rattle.words.specs.Rename.{renamed}
 use Rattle.words.specs.RenameRun.{rename-number, rename-run}
 use Rattle.words.specs.Theory.Bijections.{renamed-first, renamed-later}
 use Rattle.words.proofs.Stores.{store-next, store-done}
-
-drop-one : (xs : List ℕ) (i : ℕ) → i < length xs → drop i xs ≡ getD xs i 0 ∷ drop (i + 1) xs
-drop-one xs i h = rw (add-one, drop-cons xs i 0)
 
 module _ (names numbers : List ℕ) (x i n : ℕ) (e : renamed (drop i names) (drop i numbers) x ≡ n) where
   pub names-ended : length names ≤ i → x ≡ n

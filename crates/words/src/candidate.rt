@@ -10,14 +10,12 @@ ghost use Rattle.words.specs.Rename.{renamed, least};
 ghost use Rattle.words.specs.Decoded.{decoded, factorial, renaming};
 ghost use Rattle.words.specs.RenameRun.{rename-number, rename-run};
 ghost use Rattle.words.specs.Candidate.{Room, ordered, Keeps, KeepsLesser, Visits, Finds, candidate, CanonicalTerms};
-use crate::normal_form::copy;
+use super::normal_form::ZERO;
+use super::normal_form::copy;
 use terms::candidate::smaller;
 use terms::term;
 use terms::term::Comparison;
 use terms::term::Listed;
-
-// The numbers below it are letters.
-const ZERO: u32 = 4096;
 
 // The first seven factorials: up to six letters are renamed.
 const FACTORIALS: [usize; 7] = [1, 1, 2, 6, 24, 120, 720];

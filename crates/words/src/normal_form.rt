@@ -9,7 +9,7 @@ ghost use Rattle.words.specs.Multiply.{atom-words, PutsWords, JoinsRow, 
 const MOST: usize = 324;
 
 // In a run the numbers below it are letters, and it is 0.
-const ZERO: u32 = 4096;
+pub const ZERO: u32 = 4096;
 
 const ONE: u32 = 4097;
 
