@@ -44,8 +44,21 @@ oriented xs ys = go (order-numbers xs ys)
 pub right-side : (xs ys : List ℕ) {c r : Comparison} → Compares xs ys c → c ≡ r → larger-of (ordering-of r) xs ys ≡ orient order-numbers xs ys .right
 right-side xs ys h e = rw (oriented xs ys, told h e)
 
-pub left-side : (a b r : RefT (List ℕ)) → Smaller (now a) (now b) a b r → now r ≡ orient order-numbers (now a) (now b) .left
-left-side a b r h = ap now (h .numbers) ∙ go (order-numbers (now a) (now b)) ∙ ap (λ (e : Equation (List ℕ)). e .left) (sym (oriented (now a) (now b)))
+-- s and t are the sides of the equation that xs and ys make
+pub record Sides (xs ys s t : List ℕ) : Type 0 where
+  pub left : s ≡ orient order-numbers xs ys .left
+  pub right : t ≡ orient order-numbers xs ys .right
+
+pub two-sides : {a b r : RefT (List ℕ)} {t : List ℕ} → Smaller (now a) (now b) a b r → t ≡ orient order-numbers (now a) (now b) .right
+    → Sides (now a) (now b) (now r) t
+two-sides {a} {b} h p =
+    record {
+      left =
+          ap now (h .numbers)
+          ∙ go (order-numbers (now a) (now b))
+          ∙ ap (λ (e : Equation (List ℕ)). e .left) (sym (oriented (now a) (now b)));
+      right = p;
+    }
   where
     go : (c : Ordering) → now (smaller-of c a b) ≡ smaller-of c (now a) (now b)
     go lt = refl
@@ -69,60 +82,65 @@ module _ (xs ys us vs : List ℕ) {c : Comparison} (h : Compares xs us c) where
 
 -- two runs kept
 
-module _ (xs ys : List ℕ) where
-  abbrev whole : Equation (List ℕ)
-  whole = orient order-numbers xs ys
+abbrev none : Lengths
+none = record { left = 0; right = 0 }
 
-  room-sides : {n : ℕ} {left right : List ℕ} → Room n xs ys left right → (length (whole .left) ≤ n) × (length (whole .right) ≤ n)
-  room-sides {n} h = orient-either (λ us vs. (length us ≤ n) × (length vs ≤ n)) order-numbers xs ys (h .first, h .second) (h .second, h .first)
+none-within : (left right : List ℕ) → Within left right none
+none-within left right = record { left-side = omega arith; right-side = omega arith }
 
-  module _ (s t : List ℕ) (p : s ≡ whole .left) (q : t ≡ whole .right) where
-    both-sides : _≡_ {A = Equation (List ℕ)} (record { left = s; right = t }) whole
-    both-sides i = record { left = p i; right = q i }
+room-sides : {n : ℕ} {xs ys left right : List ℕ} → Room n xs ys left right
+    → (length (orient order-numbers xs ys .left) ≤ n) × (length (orient order-numbers xs ys .right) ≤ n)
+room-sides {n} {xs} {ys} h = orient-either (λ us vs. (length us ≤ n) × (length vs ≤ n)) order-numbers xs ys (h .first, h .second) (h .second, h .first)
 
-    module _ (left right : List ℕ) where
-      abbrev none : Lengths
-      none = record { left = 0; right = 0 }
+-- how the best so far compares with the equation of xs and ys
+pub record Against (xs ys left right : List ℕ) (best : Lengths) (c : Comparison) : Type 0 where
+  pub told : ordering-of c ≡ order-equations order-numbers (sides best left right) (orient order-numbers xs ys)
 
-      none-within : Within left right none
-      none-within = record { left-side = omega arith; right-side = omega arith }
+module _ {xs ys s t : List ℕ} (p : Sides xs ys s t) where
+  both-sides : _≡_ {A = Equation (List ℕ)} (record { left = s; right = t }) (orient order-numbers xs ys)
+  both-sides i = record { left = p .left i; right = p .right i }
 
-      pub no-left-room : length left < length s → Keeps xs ys left right none left right
-      no-left-room h =
-          record {
-            within = none-within;
-            exact = λ n r. absurd (omega (arith, room-sides r .0, ap length p, r .left-room));
-          }
+  module _ {left right : List ℕ} where
+    pub no-left-room : length left < length s → Keeps xs ys left right none left right
+    no-left-room h =
+        record {
+          within = none-within left right;
+          exact = λ n r. absurd (omega (arith, room-sides r .0, ap length (p .left), r .left-room));
+        }
 
-      pub no-right-room : length right < length t → Keeps xs ys left right none left right
-      no-right-room h =
-          record {
-            within = none-within;
-            exact = λ n r. absurd (omega (arith, room-sides r .1, ap length q, r .right-room));
-          }
+    pub no-right-room : length right < length t → Keeps xs ys left right none left right
+    no-right-room h =
+        record {
+          within = none-within left right;
+          exact = λ n r. absurd (omega (arith, room-sides r .1, ap length (p .right), r .right-room));
+        }
 
-      pub kept : {left′ right′ : List ℕ} → length s ≤ length left → length t ≤ length right → left′ ≡ sets left 0 s → right′ ≡ sets right 0 t
-          → Keeps xs ys left right (record { left = length s; right = length t }) left′ right′
-      kept h k d e =
-          record {
-            within = record { left-side = h; right-side = k };
-            exact = λ n r. rw (d, e, front-stored left s h, front-stored right t k) both-sides;
-          }
+    pub kept : {left′ right′ : List ℕ} → length s ≤ length left → length t ≤ length right → left′ ≡ sets left 0 s → right′ ≡ sets right 0 t
+        → Keeps xs ys left right (record { left = length s; right = length t }) left′ right′
+    kept h k d e =
+        record {
+          within = record { left-side = h; right-side = k };
+          exact = λ n r. rw (d, e, front-stored left s h, front-stored right t k) both-sides;
+        }
 
-      -- in place of the best so far, whose sides are u and v
-      module _ (best : Lengths) (u v : List ℕ) (a : u ≡ take (best .left) left) (b : v ≡ take (best .right) right)
-          {c : Comparison} (h : ordering-of c ≡ ordered u v s t) where
-        compared : {r : Comparison} → c ≡ r → order-equations order-numbers (sides best left right) whole ≡ ordering-of r
-        compared e = rw (← both-sides, ← a, ← b) (sym h ∙ ap ordering-of e)
+  -- u and v are the sides of the best so far
+  pub against : (left right : List ℕ) (best : Lengths) {u v : List ℕ} {c : Comparison} → u ≡ take (best .left) left → v ≡ take (best .right) right
+      → ordering-of c ≡ ordered u v s t → Against xs ys left right best c
+  against left right best a b h = record { told = rw (← both-sides, ← a, ← b) h }
 
-        pub stays-below : c ≡ Less → KeepsLesser xs ys left right best best left right
-        unfolding lesser
-        stays-below e = record { within = λ w. w; exact = λ n r. rw (compared e, lesser) }
+module _ {xs ys left right : List ℕ} {best : Lengths} {c : Comparison} (h : Against xs ys left right best c) where
+  compared : {r : Comparison} → c ≡ r → order-equations order-numbers (sides best left right) (orient order-numbers xs ys) ≡ ordering-of r
+  compared e = sym (h .told) ∙ ap ordering-of e
 
-        pub stays-equal : c ≡ Equal → KeepsLesser xs ys left right best best left right
-        unfolding lesser
-        stays-equal e = record { within = λ w. w; exact = λ n r. rw (compared e, lesser) }
+  pub stays-below : c ≡ Less → KeepsLesser xs ys left right best best left right
+  unfolding lesser
+  stays-below e = record { within = λ w. w; exact = λ n r. rw (compared e, lesser) }
 
-        pub replaced : {r : Lengths} {left′ right′ : List ℕ} → c ≡ Greater → Keeps xs ys left right r left′ right′ → KeepsLesser xs ys left right best r left′ right′
-        unfolding lesser
-        replaced e k = record { within = λ w. k .within; exact = λ n r. rw (compared e, lesser) (k .exact n r) }
+  pub stays-equal : c ≡ Equal → KeepsLesser xs ys left right best best left right
+  unfolding lesser
+  stays-equal e = record { within = λ w. w; exact = λ n r. rw (compared e, lesser) }
+
+  pub replaced : {r : Lengths} {left′ right′ : List ℕ} → c ≡ Greater → Keeps xs ys left right r left′ right′
+      → KeepsLesser xs ys left right best r left′ right′
+  unfolding lesser
+  replaced e k = record { within = λ w. k .within; exact = λ n r. rw (compared e, lesser) (k .exact n r) }

@@ -1,3 +1,4 @@
+-- `permutation` puts the first number into a permutation of the others. The measure is how many numbers there are.
 use native.Mathlib.Omega.{arith}
 use lib.ListN.{length-take}
 use Rattle.words.proofs.Permuted.{none-permuted, one-more-permuted}
@@ -23,7 +24,6 @@ abbrev permutation-below : ℕ → In 1 permutation-kinds.ps
 permutation-below t =
     and 1 permutation-kinds.ps (falls 1 permutation-kinds.ps _<_ μ-permutation t) permutation.Pre
 
--- src/candidate.rt:39:9
 permutation-returns : (t : ℕ) → permutation-lts.Need-returns (
   permutation-below t,
   permutation.Post,
@@ -32,7 +32,6 @@ permutation-returns : (t : ℕ) → permutation-lts.Need-returns (
 ) (permutation-at t) permutation.Post
 permutation-returns t c = none-permuted _ _ _ _ (c .if1 .taken)
 
--- src/candidate.rt:41:17
 permutation-div-permutation : (t : ℕ) → permutation-lts.Need-div-permutation (
   permutation-below t,
   permutation.Post,
@@ -41,7 +40,6 @@ permutation-div-permutation : (t : ℕ) → permutation-lts.Need-div-permutation
 ) (permutation-at t) permutation.Post
 permutation-div-permutation t c = search needs
 
--- src/candidate.rt:41:24
 permutation-sub-permutation : (t : ℕ) → permutation-lts.Need-sub-permutation (
   permutation-below t,
   permutation.Post,
@@ -50,7 +48,6 @@ permutation-sub-permutation : (t : ℕ) → permutation-lts.Need-sub-permutation
 ) (permutation-at t) permutation.Post
 permutation-sub-permutation t c = search needs
 
--- src/candidate.rt:41:31
 permutation-add-permutation : (t : ℕ) → permutation-lts.Need-add-permutation (
   permutation-below t,
   permutation.Post,
@@ -59,7 +56,6 @@ permutation-add-permutation : (t : ℕ) → permutation-lts.Need-add-permutation
 ) (permutation-at t) permutation.Post
 permutation-add-permutation t c = search needs
 
--- src/candidate.rt:41:5
 permutation-permutation-requires : (t : ℕ) → permutation-lts.Need-permutation-requires (
   permutation-below t,
   permutation.Post,
@@ -68,7 +64,6 @@ permutation-permutation-requires : (t : ℕ) → permutation-lts.Need-permutatio
 ) (permutation-at t) permutation.Post
 permutation-permutation-requires t c κs = search needs
 
--- src/candidate.rt:42:17
 permutation-slice-relend-prefix-shift : (t : ℕ) → permutation-lts.Need-slice-relend-prefix-shift (
   permutation-below t,
   permutation.Post,
@@ -77,7 +72,6 @@ permutation-slice-relend-prefix-shift : (t : ℕ) → permutation-lts.Need-slice
 ) (permutation-at t) permutation.Post
 permutation-slice-relend-prefix-shift t c = search needs
 
--- src/candidate.rt:42:17
 permutation-slice-aggregate-shift : (t : ℕ) → permutation-lts.Need-slice-aggregate-shift (
   permutation-below t,
   permutation.Post,
@@ -86,7 +80,6 @@ permutation-slice-aggregate-shift : (t : ℕ) → permutation-lts.Need-slice-agg
 ) (permutation-at t) permutation.Post
 permutation-slice-aggregate-shift t c = simp length-take (omega arith)
 
--- src/candidate.rt:42:32
 permutation-rem-shift : (t : ℕ) → permutation-lts.Need-rem-shift (
   permutation-below t,
   permutation.Post,
@@ -95,7 +88,6 @@ permutation-rem-shift : (t : ℕ) → permutation-lts.Need-rem-shift (
 ) (permutation-at t) permutation.Post
 permutation-rem-shift t c = search needs
 
--- src/candidate.rt:42:5
 permutation-shift-requires : (t : ℕ) → permutation-lts.Need-shift-requires (
   permutation-below t,
   permutation.Post,
@@ -104,7 +96,6 @@ permutation-shift-requires : (t : ℕ) → permutation-lts.Need-shift-requires (
 ) (permutation-at t) permutation.Post
 permutation-shift-requires t c κs = search needs
 
--- src/candidate.rt:34:1
 permutation-same-length : (t : ℕ) → permutation-lts.Need-same-length (
   permutation-below t,
   permutation.Post,
@@ -113,7 +104,6 @@ permutation-same-length : (t : ℕ) → permutation-lts.Need-same-length (
 ) (permutation-at t) permutation.Post
 permutation-same-length t c = search needs
 
--- src/candidate.rt:34:1
 permutation-returns-2 : (t : ℕ) → permutation-lts.Need-returns-2 (
   permutation-below t,
   permutation.Post,

@@ -1,5 +1,5 @@
 -- `keep_lesser` compares what the buffers hold with the two runs, smaller first, and keeps the lesser equation.
-use Rattle.words.proofs.Kept.{left-side, stays-below, stays-equal, replaced}
+use Rattle.words.proofs.Kept.{Against, two-sides, against, stays-below, stays-equal, replaced}
 use borrow.Author.Needs.{needs}
 use Rattle.words.proofs.candidate.keep_lesser.Statement.{statement}
 use Rattle.words.proofs.candidate.keep_lesser.Tie as tie
@@ -37,12 +37,18 @@ same-length c = search needs
 same-length-2 : tie.Need-same-length-2
 same-length-2 c = search needs
 
-returns : tie.Need-returns
-returns c =
-    let f = c .before .before .before in
-    let d = f .before .before .before .before in
+-- what the buffers hold was compared with the equation of the two runs
+compared : (c : tie.After-compare-equations) →
+    let a = c .before .before .before .before .before .before .before .before .before .before .before .args in
+    Against (a .x .now) (a .y .now) (a .left .now) (a .right .now) (a .best) (c .compare-equations .result)
+compared c =
+    let d = c .before .before .before .before .before in
     let a = d .before .before .before .before .before .before .args in
-    stays-below (a .x .now) (a .y .now) _ _ (left-side (a .x) (a .y) _ (d .before .smaller .ensures)) (d .larger .ensures) (a .left .now) (a .right .now) (a .best) _ _ (f .before .before .front .ensures) (f .front2 .ensures) (c .before .before .compare-equations .ensures) (c .enum-told .given .1)
+    against (two-sides (d .before .smaller .ensures) (d .larger .ensures)) (a .left .now) (a .right .now) (a .best)
+    (c .before .before .before .front .ensures) (c .before .front2 .ensures) (c .compare-equations .ensures)
+
+returns : tie.Need-returns
+returns c = stays-below (compared (c .before .before)) (c .enum-told .given .1)
 
 same-length-3 : tie.Need-same-length-3
 same-length-3 c = search needs
@@ -51,11 +57,7 @@ same-length-4 : tie.Need-same-length-4
 same-length-4 c = search needs
 
 returns-2 : tie.Need-returns-2
-returns-2 c =
-    let f = c .before .before .before in
-    let d = f .before .before .before .before in
-    let a = d .before .before .before .before .before .before .args in
-    stays-equal (a .x .now) (a .y .now) _ _ (left-side (a .x) (a .y) _ (d .before .smaller .ensures)) (d .larger .ensures) (a .left .now) (a .right .now) (a .best) _ _ (f .before .before .front .ensures) (f .front2 .ensures) (c .before .before .compare-equations .ensures) (c .enum-told2 .given .1)
+returns-2 c = stays-equal (compared (c .before .before)) (c .enum-told2 .given .1)
 
 same-length-5 : tie.Need-same-length-5
 same-length-5 c = search needs
@@ -65,11 +67,9 @@ same-length-6 c = search needs
 
 returns-3 : tie.Need-returns-3
 returns-3 c =
-    let e = c .before .before .before .before .before .before .before in
-    let f = e .before .before .before in
-    let d = f .before .before .before .before in
-    let a = d .before .before .before .before .before .before .args in
-    replaced (a .x .now) (a .y .now) _ _ (left-side (a .x) (a .y) _ (d .before .smaller .ensures)) (d .larger .ensures) (a .left .now) (a .right .now) (a .best) _ _ (f .before .before .front .ensures) (f .front2 .ensures) (e .before .before .compare-equations .ensures) (e .enum-told3 .given .1) (c .before .before .before .before .keep .ensures)
+    let k = c .before .before .before .before in
+    let e = k .before .before .before in
+    replaced (compared (e .before .before)) (e .enum-told3 .given .1) (k .keep .ensures)
 
 pub keep-lesser-spec : {M : Type 1} → statement M
 keep-lesser-spec =
