@@ -16,10 +16,11 @@ use Rattle.words.proofs.Parts.{front-stored}
 use Rattle.words.proofs.Visited.{Made}
 
 -- a side renamed at the front of a buffer of 31 numbers
-module _ (f : ℕ → ℕ) (xs buffer : List ℕ) {x u : List ℕ} (b : length buffer ≡ 31) (e : x ≡ sets buffer 0 (rename-run f xs)) (d : u ≡ take (length xs) x)
-    (h : length xs ≤ 31) where
+module _ (f : ℕ → ℕ) (xs buffer : List ℕ) {x u : List ℕ} (b : length buffer ≡ 31)
+    (e : x ≡ sets buffer 0 (rename-run f xs)) (d : u ≡ take (length xs) x) (h : length xs ≤ 31) where
   renamed-front : u ≡ rename-run f xs
-  renamed-front = d ∙ rw (e, ← length-map xs (rename-number f)) (front-stored buffer (rename-run f xs) (omega (arith, length-map xs (rename-number f))))
+  renamed-front =
+      d ∙ rw (e, ← length-map xs (rename-number f)) (front-stored buffer (rename-run f xs) (omega (arith, length-map xs (rename-number f))))
 
   renamed-short : length u ≤ 31
   renamed-short = omega (arith, ap length renamed-front, length-map xs (rename-number f))
@@ -41,7 +42,8 @@ module _ (names xs ys bx by : List ℕ) (c : ℕ) {x y u v left right : List ℕ
         equation = ap₂ (orient order-numbers) (renamed-front f xs bx p (e .0) d₁ (h .first)) (renamed-front f ys by q (e .1) d₂ (h .second));
       }
 
-pub room-as-long : {n : ℕ} {xs ys left right left₀ right₀ : List ℕ} → length left ≡ length left₀ → length right ≡ length right₀ → Room n xs ys left₀ right₀ → Room n xs ys left right
+pub room-as-long : {n : ℕ} {xs ys left right left₀ right₀ : List ℕ} → length left ≡ length left₀ → length right ≡ length right₀
+    → Room n xs ys left₀ right₀ → Room n xs ys left right
 room-as-long p q h =
     record {
       first = h .first;

@@ -3,7 +3,7 @@ use Prim.Native.Nat.{ℕ, _-_, _≤_, _<_}
 use native.Mathlib.Omega.{arith}
 use mathlib.Core.Path.{_≡_, refl, sym, _∙_, ap, ap₂}
 use mathlib.Core.Bool.{Bool, true, false}
-use mathlib.Core.List.{List, [], _∷_, _++_, map, map-append}
+use mathlib.Core.List.{List, [], _∷_, _++_, map-append}
 use lib.Dec.{eqb}
 use lib.ListN.{length, take, drop}
 use lib.Seq.{take-at}
@@ -14,7 +14,7 @@ use Rattle.terms.specs.Term.{Term, letter, zero, one, add, mul, size, order, su
 use Rattle.terms.specs.Letters.{letters, rising}
 use Rattle.terms.specs.Run.{ZERO, ONE, ADD, MUL, run}
 use Rattle.terms.specs.Held.{Fine, IsRun}
-use Rattle.terms.specs.Promises.{Lists, Fills}
+use Rattle.terms.specs.Promises.{Lists}
 use Rattle.terms.specs.Theory.Run.{run-order}
 use Rattle.terms.specs.Theory.Held.{fine-letters, size-of}
 use Rattle.terms.specs.declared.term.Listed.{Listed}
@@ -25,7 +25,7 @@ use Rattle.words.specs.Spelled.{spelled}
 use Rattle.words.specs.Theory.Spelled.{spelled-order}
 use Rattle.words.specs.Decoded.{decoded, renaming, factorial, least-to, both}
 use Rattle.words.specs.RenameRun.{rename-number, rename-run}
-use Rattle.words.specs.Candidate.{sides, Within, Room, candidate, Finds, CanonicalTerms}
+use Rattle.words.specs.Candidate.{sides, Room, candidate, Finds, CanonicalTerms}
 use Rattle.words.specs.declared.candidate.Lengths.{Lengths}
 use Rattle.words.proofs.Decoded.{decoded-below}
 use Rattle.words.proofs.Coded.{code-least}
@@ -77,7 +77,8 @@ run-carries : (s t : Term) → Fine s → Fine t → order-numbers (run s) (run 
 run-carries s t f g = run-order s t (fine-letters s f) (fine-letters t g)
 
 module _ (names : List ℕ) (few : length names ≤ 6) (s t : Term) (f : Fine s) (g : Fine t) where
-  run-candidate : (c : ℕ) → orient order-numbers (run (rename-term (renaming names c) s)) (run (rename-term (renaming names c) t)) ≡ candidate names (run s) (run t) c
+  run-candidate : (c : ℕ)
+      → orient order-numbers (run (rename-term (renaming names c) s)) (run (rename-term (renaming names c) t)) ≡ candidate names (run s) (run t) c
   run-candidate c = rw (run-renamed (renaming names c) s f, run-renamed (renaming names c) t g)
 
   run-least : both run (least order rename-term names s t) ≡ least order-numbers rename-run names (run s) (run t)
@@ -97,8 +98,10 @@ module _ (xs ys left right : List ℕ) where
         exact = λ s t u v a b few c d. absurd (omega (arith, (rw p at (h .terms s t u v)) .0));
       }
 
-  pub all-listed : {names names′ used left′ right′ : List ℕ} {l : Listed} {k : ℕ} {r : Lengths} → Lists xs ys names l names′ → l ≡ All k → used ≡ take k names′
-      → Finds (Room 31 xs ys left right) (least order-numbers rename-run used xs ys) left right r left′ right′ → CanonicalTerms xs ys left right r left′ right′
+  pub all-listed : {names names′ used left′ right′ : List ℕ} {l : Listed} {k : ℕ} {r : Lengths}
+      → Lists xs ys names l names′ → l ≡ All k → used ≡ take k names′
+      → Finds (Room 31 xs ys left right) (least order-numbers rename-run used xs ys) left right r left′ right′
+      → CanonicalTerms xs ys left right r left′ right′
   unfolding canonical-terms
   all-listed {names} {names′} {used} {left′} {right′} {l} {k} {r} h p q found = record { within = found .within; exact = exact }
     where
@@ -116,5 +119,6 @@ module _ (xs ys left right : List ℕ) where
 
 -- the least over all renamings of two lists of words, by their runs
 pub spelled-least : (names : List ℕ) (u v : List Word) → both spelled (least order-lists rename-words names u v)
-    ≡ least-to order-numbers (λ c. orient order-numbers (spelled (rename-words (renaming names c) u)) (spelled (rename-words (renaming names c) v))) (factorial (length names) - 1)
+    ≡ least-to order-numbers (λ c. orient order-numbers (spelled (rename-words (renaming names c) u)) (spelled (rename-words (renaming names c) v)))
+    (factorial (length names) - 1)
 spelled-least names u v = code-least spelled (λ w. Unit {0}) (λ x y p q. spelled-order x y) rename-words names u v (λ c. tt) (λ c. tt)

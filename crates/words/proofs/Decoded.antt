@@ -23,7 +23,11 @@ map-counts f g (suc k) i j h =
     let a : i + 0 ≡ i = omega arith in
     let b : j + 0 ≡ j = omega arith in
     ap₂ _∷_ (rw (a, b) at (h 0 (omega arith)))
-    (map-counts f g k (suc i) (suc j) (λ r l. let c : suc i + r ≡ i + suc r = omega arith in let d : suc j + r ≡ j + suc r = omega arith in rw (c, d) (h (suc r) (omega arith))))
+    (map-counts f g k (suc i) (suc j)
+    (λ r l.
+    let c : suc i + r ≡ i + suc r = omega arith in
+    let d : suc j + r ≡ j + suc r = omega arith in
+    rw (c, d) (h (suc r) (omega arith))))
 
 count-from-add : (k m i : ℕ) → count-from (k + m) i ≡ count-from k i ++ count-from m (i + k)
 unfolding count-from
@@ -110,7 +114,8 @@ permutations-decoded (suc k) i =
 -- the least of the candidates
 
 module _ {A : Type 0} (o : A → A → Ordering) where
-  fold-least-to : (candidate : ℕ → Equation A) (m j : ℕ) → foldl (lesser o) (least-to o candidate j) (map candidate (count-from m (suc j))) ≡ least-to o candidate (j + m)
+  fold-least-to : (candidate : ℕ → Equation A) (m j : ℕ)
+      → foldl (lesser o) (least-to o candidate j) (map candidate (count-from m (suc j))) ≡ least-to o candidate (j + m)
   unfolding count-from least-to
   fold-least-to candidate zero j = let e : j + 0 ≡ j = omega arith in rw e
   fold-least-to candidate (suc m) j = let e : j + suc m ≡ suc j + m = omega arith in rw e (fold-least-to candidate m (suc j))

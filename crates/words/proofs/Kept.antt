@@ -1,12 +1,12 @@
 -- Equations of runs: their sides in order, which of two comes first, and the lesser kept in two buffers.
-use Prim.Native.Nat.{ℕ, _+_, _≤_, _<_}
+use Prim.Native.Nat.{ℕ, _≤_, _<_}
 use native.Mathlib.Omega.{arith}
 use mathlib.Core.Path.{_≡_, refl, sym, _∙_, ap}
 use mathlib.Core.List.{List}
 use lib.ListN.{length, take}
 use lib.Seq.{sets}
 use denote.Ref.{RefT, now}
-use Rattle.terms.specs.Compare.{Ordering, lt, eq, gt, then, order-numbers}
+use Rattle.terms.specs.Compare.{Ordering, lt, eq, gt, order-numbers}
 use Rattle.terms.specs.Equation.{Equation, orient}
 use Rattle.terms.specs.Theory.Equation.{orient-either}
 use Rattle.terms.specs.Promises.{ordering-of, Compares, smaller-of, Smaller}

@@ -1,10 +1,10 @@
 -- A permutation made from one of the numbers after the first: the first number is put in at its place.
-use Prim.Native.Nat.{ℕ, zero, suc, _+_, _-_, _/_, _%_, _≤_, _<_}
+use Prim.Native.Nat.{ℕ, zero, suc, _+_, _-_, _/_, _%_, _≤_}
 use native.Mathlib.Omega.{arith}
 use native.Mathlib.Nat.{mod-lt}
 use native.Mathlib.Numerals.{add-one}
-use mathlib.Core.Path.{_≡_, refl, sym, _∙_, ap}
-use mathlib.Core.List.{List, [], _∷_, _++_}
+use mathlib.Core.Path.{_≡_, refl, _∙_, ap}
+use mathlib.Core.List.{List, _++_}
 use lib.ListN.{length, take, drop, getD}
 use lib.Seq.{take-suc, take-at, length-take-le}
 use Rattle.terms.specs.Numbers.{put-in}
@@ -29,6 +29,5 @@ one-more-permuted (suc k) i c out s h l e p =
 
     made : s ≡ decoded (suc k) i c
     made =
-        p
-        ∙ rw (take-suc out k 0 l, put-in-room i (take k out) (getD out k 0) (c % suc k) (omega (arith, mod-lt c {m = suc k} (omega arith), length-take-le k out (omega arith))))
-        (rw before)
+        let h : c % suc k ≤ length (take k out) = omega (arith, mod-lt c {m = suc k} (omega arith), length-take-le k out (omega arith)) in
+        p ∙ rw (take-suc out k 0 l, put-in-room i (take k out) (getD out k 0) (c % suc k) h) (rw before)

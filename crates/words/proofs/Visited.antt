@@ -12,7 +12,8 @@ use Rattle.words.specs.Candidate.{sides, Within, Room, Keeps, KeepsLesse
 use Rattle.words.specs.declared.candidate.Lengths.{Lengths}
 use Rattle.words.proofs.Decoded.{factorial-positive}
 
-least-next : {A : Type 0} (o : A → A → Ordering) (g : ℕ → Equation A) (c : ℕ) → (c ≡ 0 → ⊥) → lesser o (least-to o g (c - 1)) (g c) ≡ least-to o g c
+least-next : {A : Type 0} (o : A → A → Ordering) (g : ℕ → Equation A) (c : ℕ) → (c ≡ 0 → ⊥)
+    → lesser o (least-to o g (c - 1)) (g c) ≡ least-to o g c
 unfolding least-to
 least-next o g zero h = absurd (h refl)
 least-next o g (suc c) h = let e : suc c - 1 ≡ c = omega arith in rw e
@@ -44,7 +45,8 @@ pub record Visited (IsRoom : Type 0) (g : ℕ → Equation (List ℕ)) (left₀ 
   pub within : Within left₀ right₀ best
   pub exact : IsRoom → 0 < c → sides best left right ≡ least-to order-numbers g (c - 1)
 
-within-as-long : {left right left₀ right₀ : List ℕ} {r : Lengths} → length left ≡ length left₀ → length right ≡ length right₀ → Within left right r → Within left₀ right₀ r
+within-as-long : {left right left₀ right₀ : List ℕ} {r : Lengths} → length left ≡ length left₀ → length right ≡ length right₀
+    → Within left right r → Within left₀ right₀ r
 within-as-long p q w = record { left-side = omega (arith, w .left-side); right-side = omega (arith, w .right-side) }
 
 module _ {IsRoom : Type 0} {g : ℕ → Equation (List ℕ)} {left₀ right₀ : List ℕ} where
@@ -58,7 +60,8 @@ module _ {IsRoom : Type 0} {g : ℕ → Equation (List ℕ)} {left₀ right₀ :
       }
 
   module _ {left right : List ℕ} {best : Lengths} {c : ℕ} (v : Visited IsRoom g left₀ right₀ left right best c) where
-    pub one-more-visited : {IsRoom′ : Type 0} {left′ right′ : List ℕ} {r : Lengths} → (IsRoom → IsRoom′) → Visits IsRoom′ g c left right best r left′ right′
+    pub one-more-visited : {IsRoom′ : Type 0} {left′ right′ : List ℕ} {r : Lengths}
+        → (IsRoom → IsRoom′) → Visits IsRoom′ g c left right best r left′ right′
         → length left′ ≡ length left → length right′ ≡ length right → Visited IsRoom g left₀ right₀ left′ right′ r (c + 1)
     one-more-visited still k p q =
         record {
@@ -68,5 +71,6 @@ module _ {IsRoom : Type 0} {g : ℕ → Equation (List ℕ)} {left₀ right₀ :
           exact = λ h z. let d : c + 1 - 1 ≡ c = omega arith in rw d (k .exact (still h) (v .exact h));
         }
 
-    pub all-visited : (k : ℕ) {e : Equation (List ℕ)} → c ≡ factorial k → least-to order-numbers g (factorial k - 1) ≡ e → Finds IsRoom e left₀ right₀ best left right
+    pub all-visited : (k : ℕ) {e : Equation (List ℕ)} → c ≡ factorial k → least-to order-numbers g (factorial k - 1) ≡ e
+        → Finds IsRoom e left₀ right₀ best left right
     all-visited k p q = record { within = v .within; exact = λ h. v .exact h (omega (arith, factorial-positive k)) ∙ rw p q }

@@ -42,9 +42,11 @@ pub record KeepsLesser (xs ys left right : List ℕ) (best r : Lengths) (left′
   pub exact : (n : ℕ) → Room n xs ys left right → sides r left′ right′ ≡ lesser order-numbers (sides best left right) (orient order-numbers xs ys)
 
 -- the least of the candidates before c becomes the least of those up to c, if there is room
-pub record Visits (IsRoom : Type 0) (candidate : ℕ → Equation (List ℕ)) (c : ℕ) (left right : List ℕ) (best r : Lengths) (left′ right′ : List ℕ) : Type 0 where
+pub record Visits (IsRoom : Type 0) (candidate : ℕ → Equation (List ℕ)) (c : ℕ)
+    (left right : List ℕ) (best r : Lengths) (left′ right′ : List ℕ) : Type 0 where
   pub within : Within left right best → Within left right r
-  pub exact : IsRoom → (0 < c → sides best left right ≡ least-to order-numbers candidate (c - 1)) → sides r left′ right′ ≡ least-to order-numbers candidate c
+  pub exact : IsRoom → (0 < c → sides best left right ≡ least-to order-numbers candidate (c - 1))
+      → sides r left′ right′ ≡ least-to order-numbers candidate c
 
 -- an equation of runs is found, if there is room
 pub record Finds (IsRoom : Type 0) (e : Equation (List ℕ)) (left right : List ℕ) (r : Lengths) (left′ right′ : List ℕ) : Type 0 where

@@ -113,7 +113,8 @@ permutation-returns-2 : (t : ℕ) → permutation-lts.Need-returns-2 (
 permutation-returns-2 t c =
     let p = c .before .before .before .before .before .before in
     let a = p .before .before .before .before .args in
-    one-more-permuted (a .k) (a .i) (a .c) (p .permutation .last .1 .1 .1 .0) (c .before .before .shift .last .0) (p .before .before .if1 .left) (omega arith) (p .permutation .ensures) (c .before .before .shift .ensures)
+    one-more-permuted (a .k) (a .i) (a .c) (p .permutation .last .1 .1 .1 .0) (c .before .before .shift .last .0) (p .before .before .if1 .left)
+    (omega arith) (p .permutation .ensures) (c .before .before .shift .ensures)
 
 pub +permutation-spec : {M : Type 1} → statement M
 +permutation-spec = close μ-permutation λ t. permutation-lts.spec (

@@ -47,7 +47,8 @@ returns-2 c =
     let f = c .before .before .before .before .before .before .before in
     let l = f .before .before .before .before .before .before in
     let a = l .before .before .before .before .before .before .args in
-    all-listed (a .a .now) (a .b .now) (a .left .now) (a .right .now) (l .letters .ensures) (f .before .before .before .listed .given .1) (f .front .ensures) (c .before .before .before .before .least-renaming .ensures)
+    all-listed (a .a .now) (a .b .now) (a .left .now) (a .right .now) (l .letters .ensures)
+    (f .before .before .before .listed .given .1) (f .front .ensures) (c .before .before .before .before .least-renaming .ensures)
 
 pub canonical-terms-spec : {M : Type 1} → statement M
 canonical-terms-spec =

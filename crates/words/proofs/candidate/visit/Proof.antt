@@ -41,7 +41,8 @@ same-length-2 c = search needs
 made : (c : tie.After-front2) →
     let a = c .before .before .before .before .before .before .before .before .before .before .before .before .before .before .args in
     Room 31 (a .a .now) (a .b .now) (a .left .now) (a .right .now)
-    → Made 31 (candidate (a .names .now) (a .a .now) (a .b .now)) (a .c) (c .before .before .front .result .now) (c .front2 .result .now) (a .left .now) (a .right .now)
+    → Made 31 (candidate (a .names .now) (a .a .now) (a .b .now)) (a .c)
+    (c .before .before .front .result .now) (c .front2 .result .now) (a .left .now) (a .right .now)
 made c =
     let d = c .before .before .before .before .before .before in
     let a = d .before .before .before .before .before .before .before .before .args in
