@@ -11,3 +11,8 @@ pub mod Splicing
 pub mod Rewriting
 pub mod Trying
 pub mod Directing
+pub mod Origins
+pub mod Slots
+pub mod Noting
+pub mod Sorting
+pub mod Keeping

@@ -1,0 +1,70 @@
+-- A result put among those in term order.
+use Prim.Native.Nat.{ℕ, suc, _+_, _*_, _≤_, _<_}
+use native.Mathlib.Omega.{arith}
+use native.Mathlib.Numerals.{add-one}
+use mathlib.Core.Path.{_≡_, refl, sym, ap, _∙_}
+use mathlib.Core.List.{List, [], _∷_, _++_}
+use lib.ListN.{length, take, drop, getD, length-take}
+use lib.Seq.{take-suc, take-at, length-take-le}
+use Rattle.terms.specs.Term.{Term}
+use Rattle.terms.specs.Held.{IsRun}
+use Rattle.terms.specs.Numbers.{put-in}
+use Rattle.terms.proofs.Inserted.{put-in-room}
+use Rattle.search.specs.Line.{Line}
+use Rattle.search.specs.Slots.{SLOT, Marks, Writes}
+use Rattle.search.specs.Ordered.{Result, Ordered, none, more, inserted, Goes, Spotted, Keeps}
+use Rattle.search.specs.declared.bounded_search.Step.{Step}
+use Rattle.search.specs.declared.bounded_search.Origin.the-variants.{From}
+use Rattle.search.specs.declared.bounded_search.Spot.{Spot}
+use Rattle.search.specs.declared.bounded_search.Spot.the-variants.{At, Already}
+use Rattle.search.proofs.Slots.{run-kept, origin-kept}
+
+ordered-insert : {t : Term} {from : ℕ} {res : List ℕ} {n : ℕ} {ks : List ℕ} {ys : List Line} (p k : ℕ) (x : Line) → k < n → Result t from res k x → Ordered t from res n ks ys
+    → Ordered t from res n (take p ks ++ (k ∷ drop p ks)) (take p ys ++ (x ∷ drop p ys))
+ordered-insert ℕ.zero k x h s O = more h s O
+ordered-insert (suc p) k x h s none = more h s none
+ordered-insert (suc p) k x h s (more b r O) = more b r (ordered-insert p k x h s O)
+
+-- the slots before a new one keep what they have
+module _ {t : Term} {from : ℕ} {res : List ℕ} {n : ℕ} (res′ : List ℕ) (m : ℕ) (h : n ≤ m) (e : take (SLOT * n) res′ ≡ take (SLOT * n) res) where
+  result-kept : (k : ℕ) (x : Line) → k < n → Result t from res k x → Result t from res′ k x
+  result-kept k x b s =
+      record {
+        run = run-kept res res′ n e k (x .result) b (s .run);
+        step = s .step;
+        origin = origin-kept res res′ n e k b ∙ s .origin;
+        parent = s .parent;
+        marks = s .marks;
+      }
+
+  ordered-kept : {ks : List ℕ} {ys : List Line} → Ordered t from res n ks ys → Ordered t from res′ m ks ys
+  ordered-kept none = none
+  ordered-kept (more {k} {x = x} b s O) = more {k = k} (omega arith) (result-kept k x b s) (ordered-kept O)
+
+module _ (xs : List ℕ) (s : Step) (res order : List ℕ) (count : ℕ) (r : Spot) (S : Spotted res (take count order) xs r) where
+  pub keeps-already : r ≡ Already → Keeps xs s res order res order count count
+  keeps-already e =
+      record { low = omega arith; high = omega arith; sorts = λ t ys x h m O. rw (rw e at (S .goes t (s .parent) count ys x O h)) O }
+
+  -- ks are the numbers of the slots with that of the new one put in at p
+  module _ (p : ℕ) (e : r ≡ At p) (room : count < length order) (res′ ks : List ℕ) (W : Writes res res′ count xs (From s) 0)
+      (d : ks ≡ put-in p count (take (count + 1) order)) (l : length ks ≡ length (take (count + 1) order)) where
+    put : ks ≡ take p (take count order) ++ (count ∷ drop p (take count order))
+    put =
+        let f : take (count + 1) order ≡ take count order ++ (getD order count 0 ∷ []) = rw add-one (take-suc order count 0 room) in
+        d ∙ ap (put-in p count) f ∙ put-in-room count (take count order) (getD order count 0) p ((rw e at S) .within)
+
+    named : take (count + 1) (ks ++ drop (count + 1) order) ≡ take p (take count order) ++ (count ∷ drop p (take count order))
+    named = take-at ks (drop (count + 1) order) (count + 1) (l ∙ length-take-le (count + 1) order (omega arith)) ∙ put
+
+    pub keeps-more : Keeps xs s res order res′ (ks ++ drop (count + 1) order) count (count + 1)
+    keeps-more =
+        record {
+          low = omega arith;
+          high = omega arith;
+          sorts = λ t ys x h m O.
+              rw ((rw e at (S .goes t (s .parent) count ys x O h)) .1, named)
+              (ordered-insert p count x (omega arith)
+              (record { run = W .run (x .result) h; step = s; origin = W .origin; parent = refl; marks = m })
+              (ordered-kept res′ (count + 1) (omega arith) (W .kept) O));
+        }

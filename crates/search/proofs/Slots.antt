@@ -1,0 +1,167 @@
+-- The run in a slot, a slot written, and the slots before it.
+use Prim.Native.Nat.{ℕ, suc, _+_, _-_, _*_, _≤_, _<_}
+use native.Mathlib.Omega.{arith}
+use native.Mathlib.Nat.{add-zero, eq-or-lt-of-le, le-of-suc-le-suc}
+use native.Mathlib.Numerals.{towards-suc}
+use mathlib.Core.Path.{_≡_, refl, sym, ap, _∙_}
+use mathlib.Core.Logic.{_⊎_, inl, inr}
+use mathlib.Core.List.{List, [], _∷_, _++_}
+use lib.ListN.{length, take, drop, getD, set, length-set, length-append, List·getD-append}
+use lib.Seq.{sets, length-sets, take-take, take-at, take-set-le, getD-at, length-take-le}
+use Rattle.terms.specs.Term.{Term, zero, size}
+use Rattle.terms.specs.Held.{IsRun, Holds}
+use Rattle.terms.specs.Theory.Held.{size-of}
+use Rattle.terms.proofs.Positions.{front-getD}
+use Rattle.terms.proofs.Held.{held-part, holds-part, front-holds}
+use Rattle.search.specs.Line.{Line}
+use Rattle.search.specs.Search.{Noted, entry}
+use Rattle.search.specs.Origins.{numbers, origin-at}
+use Rattle.search.specs.Slots.{SLOT, Spells, origin-of, distance-of, Marks, noted-at, Leads, Comes, Slot, Slots, Writes, Starts, Notes}
+use Rattle.search.specs.declared.bounded_search.Step.{Step}
+use Rattle.search.specs.declared.bounded_search.Origin.{Origin}
+use Rattle.search.specs.declared.bounded_search.Origin.the-variants.{Start, From}
+use Rattle.search.proofs.Front.{front-part}
+use Rattle.search.proofs.Origins.{four, getD-sets, take-sets, origin-back, origin-front}
+
+-- the run in slot k, as a part of the list from number 8 of the slot on
+abbrev run-length : List ℕ → ℕ → ℕ
+run-length ws k = SLOT * k + 8 + getD ws (SLOT * k) 0 - (SLOT * k + 8)
+
+abbrev pub run-in : List ℕ → ℕ → List ℕ
+run-in ws k = take (run-length ws k) (drop (SLOT * k + 8) ws)
+
+pub run-spelled : {ws : List ℕ} {k : ℕ} {t : Term} → Spells ws k t → IsRun (run-in ws k) t
+run-spelled {ws} {k} s = held-part (run-length ws k) (s .held) (omega (arith, s .count))
+
+-- the numbers before a run
+abbrev header : ℕ → Origin → ℕ → List ℕ
+header n o d = n ∷ numbers o ++ (d ∷ [])
+
+header-length : (n : ℕ) (o : Origin) (d : ℕ) → length (header n o d) ≡ 6
+header-length n o d = omega (arith, length-append (numbers o) (d ∷ []), four o)
+
+header-stores : (ws : List ℕ) (a n : ℕ) (o : Origin) (d : ℕ) → set (sets (set ws a n) (a + 1) (numbers o)) (a + 5) d ≡ sets ws a (header n o d)
+header-stores ws a n Start d = simp towards-suc
+header-stores ws a n (From s) d = simp towards-suc
+
+-- what the stores of `write_slot` leave: ws₂ with the origin, ws′ with the run
+module _ (ws ws₂ ws′ : List ℕ) (k m : ℕ) (xs : List ℕ) (o : Origin) (d : ℕ) (room : SLOT * k + SLOT ≤ length ws) (short : length xs ≤ 31)
+    (e : ws₂ ≡ sets (set ws (SLOT * k) (length xs)) (SLOT * k + 1) (numbers o)) (c : m ≡ SLOT * k + 8 + length xs)
+    (f : take m ws′ ≡ take (SLOT * k + 8) (set ws₂ (SLOT * k + 5) d) ++ xs) (l : length ws′ ≡ length ws) where
+  abbrev a : ℕ
+  a = SLOT * k
+
+  abbrev written : List ℕ
+  written = sets ws a (header (length xs) o d)
+
+  whole : take m ws′ ≡ take (a + 8) written ++ xs
+  whole = rw (e, header-stores ws a (length xs) o d) at f
+
+  front-length : length (take (a + 8) written) ≡ a + 8
+  front-length = length-take-le (a + 8) written (omega (arith, length-sets ws a (header (length xs) o d)))
+
+  front : take (a + 8) ws′ ≡ take (a + 8) written
+  front = sym (take-take (a + 8) m ws′ (omega arith)) ∙ ap (take (a + 8)) whole ∙ take-at (take (a + 8) written) xs (a + 8) front-length
+
+  number : (i : ℕ) → i < 6 → getD ws′ (a + i) 0 ≡ getD (header (length xs) o d) i 0
+  number i h =
+      front-getD written ws′ (a + 8) (a + i) front (omega arith)
+      ∙ getD-sets ws a (header (length xs) o d) i (omega (arith, header-length (length xs) o d)) (omega (arith, header-length (length xs) o d))
+
+  old : take a ws′ ≡ take a ws
+  old =
+      sym (take-take a (a + 8) ws′ (omega arith)) ∙ ap (take a) front ∙ take-take a (a + 8) written (omega arith)
+      ∙ take-sets a ws a (header (length xs) o d) (omega arith)
+
+  new-run : (t : Term) → IsRun xs t → Spells ws′ k t
+  new-run t h =
+      record {
+        count = rw add-zero at (number 0 (omega arith)) ∙ size-of h;
+        small = omega (arith, size-of h);
+        held =
+            let j : m - (a + 8) ≡ size t = omega (arith, size-of h) in
+            holds-part (h .fine) (rw j at (front-part ws′ (take (a + 8) written) xs (a + 8) m whole front-length (omega arith) (omega arith)) ∙ h .whole);
+      }
+
+  new-origin : origin-of ws′ k ≡ o
+  new-origin =
+      origin-back ws′ (a + 1) o
+      (λ i h.
+      let e : a + 1 + i ≡ a + suc i = omega arith in
+      let n : i < length (numbers o) = omega (arith, four o) in
+      rw e (number (suc i) (omega arith) ∙ List·getD-append (numbers o) (d ∷ []) 0 i n))
+
+  pub writes : Writes ws ws′ k xs o d
+  writes = record { kept = old; run = new-run; origin = new-origin; distance = number 5 (omega arith) ∙ getD-at (numbers o) d [] 0 4 (four o) }
+
+-- the slots before a new one keep what they have
+
+module _ (ws ws′ : List ℕ) (count : ℕ) (e : take (SLOT * count) ws′ ≡ take (SLOT * count) ws) where
+  pub run-kept : (k : ℕ) (t : Term) → k < count → Spells ws k t → Spells ws′ k t
+  run-kept k t h s =
+      record {
+        count = front-getD ws ws′ (SLOT * count) (SLOT * k) e (omega arith) ∙ s .count;
+        small = s .small;
+        held = front-holds ws ws′ (SLOT * count) e (omega (arith, s .small)) (s .held);
+      }
+
+  pub origin-kept : (k : ℕ) → k < count → origin-of ws′ k ≡ origin-of ws k
+  origin-kept k h = origin-front ws ws′ (SLOT * count) (SLOT * k + 1) e (omega arith)
+
+module _ (ns : List Noted) (n : Noted) where
+  noted-before : (k : ℕ) → k < length ns → noted-at (ns ++ (n ∷ [])) k ≡ noted-at ns k
+  noted-before k h = List·getD-append ns (n ∷ []) (record { term = zero; trail = [] }) k h
+
+  noted-last : noted-at (ns ++ (n ∷ [])) (length ns) ≡ n
+  noted-last = getD-at ns n [] (record { term = zero; trail = [] }) (length ns) refl
+
+  comes-still : (o : Origin) (k : ℕ) (x : Noted) → k ≤ length ns → Comes o ns k x → Comes o (ns ++ (n ∷ [])) k x
+  comes-still Start k x h c = c
+  comes-still (From s) k x h c =
+      let p : s .parent < length ns = omega (arith, c .before) in
+      record {
+        before = c .before;
+        line = c .line;
+        marks = rw (noted-before (s .parent) p) (c .marks);
+        is = rw (noted-before (s .parent) p) (c .is);
+      }
+
+  slot-still : (ws ws′ : List ℕ) (k : ℕ) → take (SLOT * length ns) ws′ ≡ take (SLOT * length ns) ws → k < length ns → Slot ws ns k (noted-at ns k) → Slot ws′ (ns ++ (n ∷ [])) k (noted-at ns k)
+  slot-still ws ws′ k e h s =
+      record {
+        run = run-kept ws ws′ (length ns) e k (noted-at ns k .term) h (s .run);
+        origin = rw (origin-kept ws ws′ (length ns) e k h) (comes-still (origin-of ws k) k (noted-at ns k) (omega arith) (s .origin));
+        distance = front-getD ws ws′ (SLOT * length ns) (SLOT * k + 5) e (omega arith) ∙ s .distance;
+      }
+
+  -- the slots and one more
+  slots-more : (ws ws′ : List ℕ) → take (SLOT * length ns) ws′ ≡ take (SLOT * length ns) ws → Slots ws ns → Slot ws′ (ns ++ (n ∷ [])) (length ns) n → Slots ws′ (ns ++ (n ∷ []))
+  slots-more ws ws′ e S new = record { slot = λ k h. go k (eq-or-lt-of-le (le-of-suc-le-suc (omega (arith, h, length-append ns (n ∷ []))))) }
+    where
+      go : (k : ℕ) → (k ≡ length ns) ⊎ (k < length ns) → Slot ws′ (ns ++ (n ∷ [])) k (noted-at (ns ++ (n ∷ [])) k)
+      go k (inl q) = rw (q, noted-last) new
+      go k (inr q) = rw (noted-before k q) (slot-still ws ws′ k e q (S .slot k q))
+
+pub starts : {ws ws′ xs : List ℕ} → Writes ws ws′ 0 xs Start 0 → Starts ws′ xs
+starts {ws} {ws′} {xs} w =
+    record { slots = λ t h. slots-more [] (record { term = t; trail = [] }) ws ws′ refl (record { slot = λ k q. absurd (omega arith) }) (first t h) }
+  where
+    first : (t : Term) → IsRun xs t → Slot ws′ (record { term = t; trail = [] } ∷ []) 0 (record { term = t; trail = [] })
+    first t h = record { run = w .run t h; origin = rw (w .origin) refl; distance = w .distance }
+
+pub notes : {ws ws′ : List ℕ} {count : ℕ} {xs : List ℕ} {s : Step} {d : ℕ} → Writes ws ws′ count xs (From s) d → Notes ws ws′ count xs s d
+notes {ws} {ws′} {count} {xs} {s} {d} w = record { kept = w .kept; slots = slots }
+  where
+    slots : (ns : List Noted) (x : Line) → Slots ws ns → length ns ≡ count → s .parent < count
+        → Marks s (noted-at ns (s .parent) .term) x → IsRun xs (x .result) → d ≡ length (noted-at ns (s .parent) .trail) + 1
+        → Slots ws′ (ns ++ (entry (noted-at ns (s .parent) .trail) x ∷ []))
+    slots ns x S c p m h e =
+        let n : Noted = entry (noted-at ns (s .parent) .trail) x in
+        let q : s .parent < length ns = omega arith in
+        slots-more ns n ws ws′ (rw c (w .kept)) S
+        (record {
+          run = rw c (w .run (x .result) h);
+          origin = rw (c, w .origin)
+              (record { before = p; line = x; marks = rw (noted-before ns n (s .parent) q) m; is = rw (noted-before ns n (s .parent) q) });
+          distance = rw c (w .distance ∙ e ∙ sym (length-append (noted-at ns (s .parent) .trail) (x ∷ [])));
+        })

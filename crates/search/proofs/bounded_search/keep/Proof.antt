@@ -1,0 +1,91 @@
+-- `keep` meets its contract: the result is there already, or its slot is written and its number put in.
+use native.Mathlib.Omega.{arith}
+use lib.ListN.{length-take}
+use Rattle.search.proofs.Keeping.{keeps-already, keeps-more}
+use borrow.Author.Needs.{needs}
+use Rattle.search.proofs.bounded_search.keep.Statement.{statement}
+use Rattle.search.proofs.bounded_search.keep.Tie as tie
+
+slice-reshare-prefix-spot-of : tie.Need-slice-reshare-prefix-spot-of
+slice-reshare-prefix-spot-of c = search needs
+
+slice-aggregate-spot-of : tie.Need-slice-aggregate-spot-of
+slice-aggregate-spot-of c = simp length-take (omega arith)
+
+spot-of-requires : tie.Need-spot-of-requires
+spot-of-requires c κs = search needs
+
+enum-known-p : tie.Need-enum-known-p
+enum-known-p c = search needs
+
+enum-told : tie.Need-enum-told
+enum-told c = search needs
+
+same-length : tie.Need-same-length
+same-length c = search needs
+
+same-length-2 : tie.Need-same-length-2
+same-length-2 c = search needs
+
+returns : tie.Need-returns
+returns c =
+    let p = c .before .before in
+    let a = p .before .before .before .before .before .before .args in
+    keeps-already (a .s .now) (a .step) (a .res .now) (a .order .now) (a .count) (p .spot-of .result) (p .spot-of .ensures) (c .enum-told .given .1)
+
+write-slot-requires : tie.Need-write-slot-requires
+write-slot-requires c κs = search needs
+
+add-end : tie.Need-add-end
+add-end c = search needs
+
+slice-relend-prefix-shift : tie.Need-slice-relend-prefix-shift
+slice-relend-prefix-shift c = search needs
+
+slice-aggregate-shift : tie.Need-slice-aggregate-shift
+slice-aggregate-shift c = simp length-take (omega arith)
+
+cast-shift : tie.Need-cast-shift
+cast-shift c = search needs
+
+shift-requires : tie.Need-shift-requires
+shift-requires c κs = search needs
+
+same-length-3 : tie.Need-same-length-3
+same-length-3 c = search needs
+
+same-length-4 : tie.Need-same-length-4
+same-length-4 c = search needs
+
+returns-2 : tie.Need-returns-2
+returns-2 c =
+    let q = c .before .before in
+    let w = q .before .before .before .before in
+    let f = w .before .before .before in
+    let p = f .before .before in
+    let b = p .before .before .before .before .before .before in
+    let a = b .args in
+    keeps-more (a .s .now) (a .step) (a .res .now) (a .order .now) (a .count) (p .spot-of .result) (p .spot-of .ensures)
+    (f .p .given .0 .0) (f .p .given .1) (b .pre .2) (w .write-slot .last .0) (q .shift .last .0) (w .write-slot .ensures) (q .shift .ensures) (q .shift .kept .0)
+
+pub keep-spec : {M : Type 1} → statement M
+keep-spec =
+    tie.close
+    (tie.spec
+    slice-reshare-prefix-spot-of
+    slice-aggregate-spot-of
+    spot-of-requires
+    enum-known-p
+    enum-told
+    same-length
+    same-length-2
+    returns
+    write-slot-requires
+    add-end
+    slice-relend-prefix-shift
+    slice-aggregate-shift
+    cast-shift
+    shift-requires
+    same-length-3
+    same-length-4
+    returns-2)

@@ -1,0 +1,53 @@
+-- The results of an opened term in slots like those of noted terms, and the numbers of their slots in term order.
+use Prim.Native.Nat.{ℕ, _+_, _≤_, _<_}
+use mathlib.Core.Path.{_≡_}
+use mathlib.Core.List.{List, [], _∷_, _++_}
+use lib.ListN.{length, take, drop}
+use Rattle.terms.specs.Term.{Term}
+use Rattle.terms.specs.Held.{IsRun}
+use Rattle.terms.specs.Sort.{lost, insert}
+use Rattle.search.specs.Line.{Line, by-result}
+use Rattle.search.specs.Slots.{Spells, origin-of, Marks}
+use Rattle.search.specs.declared.bounded_search.Step.{Step}
+use Rattle.search.specs.declared.bounded_search.Origin.the-variants.{From}
+use Rattle.search.specs.declared.bounded_search.Spot.{Spot}
+use Rattle.search.specs.declared.bounded_search.Spot.the-variants.{At, Already}
+
+-- slot k has the line x on the term t, which is noted in slot `from`
+pub record Result (t : Term) (from : ℕ) (res : List ℕ) (k : ℕ) (x : Line) : Type 0 where
+  pub run : Spells res k (x .result)
+  pub step : Step
+  pub origin : origin-of res k ≡ From step
+  pub parent : step .parent ≡ from
+  pub marks : Marks step t x
+
+-- each number names the slot of the line at its place, one of the first n slots
+pub data Ordered (t : Term) (from : ℕ) (res : List ℕ) (n : ℕ) : List ℕ → List Line → Type 0 where
+  none : Ordered t from res n [] []
+  more : {k : ℕ} {ks : List ℕ} {x : Line} {xs : List Line} → k < n → Result t from res k x → Ordered t from res n ks xs → Ordered t from res n (k ∷ ks) (x ∷ xs)
+
+abbrev pub inserted : Line → List Line → List Line
+inserted = insert lost by-result
+
+-- what the functions promise
+
+-- where a line goes among others
+abbrev pub Goes : Spot → Line → List Line → Type 0
+Goes (At p) x ys = (p ≤ length ys) × (inserted x ys ≡ take p ys ++ (x ∷ drop p ys))
+Goes Already x ys = inserted x ys ≡ ys
+
+abbrev pub SpotWithin : ℕ → Spot → Type 0
+SpotWithin n (At p) = p ≤ n
+SpotWithin n Already = Unit {0}
+
+-- of `spot_of`
+pub record Spotted (res ks xs : List ℕ) (r : Spot) : Type 0 where
+  pub within : SpotWithin (length ks) r
+  pub goes : (t : Term) (from n : ℕ) (ys : List Line) (x : Line) → Ordered t from res n ks ys → IsRun xs (x .result) → Goes r x ys
+
+-- of `keep`: the first r slots have the results, in term order
+pub record Keeps (xs : List ℕ) (s : Step) (res order res′ order′ : List ℕ) (count r : ℕ) : Type 0 where
+  pub low : count ≤ r
+  pub high : r ≤ count + 1
+  pub sorts : (t : Term) (ys : List Line) (x : Line) → IsRun xs (x .result) → Marks s t x → Ordered t (s .parent) res count (take count order) ys
+      → Ordered t (s .parent) res′ r (take r order′) (inserted x ys)

@@ -1,0 +1,88 @@
+-- The noted terms in a workspace, 40 numbers to a slot: number 0 is the length of the term's run, 1 to 4 are its origin, 5 is its
+-- distance, and the run stands from 8 on.
+use Prim.Native.Nat.{ℕ, _+_, _*_, _≤_, _<_}
+use mathlib.Core.Path.{_≡_}
+use mathlib.Core.Bool.{Bool}
+use mathlib.Core.List.{List, [], _∷_, _++_}
+use lib.ListN.{length, take, getD}
+use Rattle.terms.specs.Term.{Term, zero, size}
+use Rattle.terms.specs.Held.{IsRun, Holds}
+use Rattle.search.specs.Line.{Line}
+use Rattle.search.specs.Search.{Noted, is-noted, entry}
+use Rattle.search.specs.Coded.{name-of, direction-of}
+use Rattle.search.specs.Place.{place-at}
+use Rattle.search.specs.Origins.{origin-at}
+use Rattle.search.specs.declared.bounded_search.Step.{Step}
+use Rattle.search.specs.declared.bounded_search.Origin.{Origin}
+use Rattle.search.specs.declared.bounded_search.Origin.the-variants.{Start, From}
+
+abbrev pub SLOT : ℕ
+SLOT = 40
+
+-- slot k has the run of t
+pub record Spells (ws : List ℕ) (k : ℕ) (t : Term) : Type 0 where
+  pub count : getD ws (SLOT * k) 0 ≡ size t
+  pub small : size t ≤ 31
+  pub held : Holds ws (SLOT * k + 8) t
+
+abbrev pub origin-of : List ℕ → ℕ → Origin
+origin-of ws k = origin-at ws (SLOT * k + 1)
+
+abbrev pub distance-of : List ℕ → ℕ → ℕ
+distance-of ws k = getD ws (SLOT * k + 5) 0
+
+-- the step stands for the line x on the term t
+pub record Marks (s : Step) (t : Term) (x : Line) : Type 0 where
+  pub law : x .law ≡ name-of (s .law)
+  pub direction : x .direction ≡ direction-of (s .direction)
+  pub inside : s .place < size t
+  pub place : x .place ≡ place-at t (s .place)
+
+-- the term noted in slot k
+abbrev pub noted-at : List Noted → ℕ → Noted
+noted-at ns k = getD ns k (record { term = zero; trail = [] })
+
+-- the step leads to n from a term noted before slot k
+pub record Leads (s : Step) (ns : List Noted) (k : ℕ) (n : Noted) : Type 0 where
+  pub before : s .parent < k
+  pub line : Line
+  pub marks : Marks s (noted-at ns (s .parent) .term) line
+  pub is : n ≡ entry (noted-at ns (s .parent) .trail) line
+
+abbrev pub Comes : Origin → List Noted → ℕ → Noted → Type 0
+Comes Start ns k n = n .trail ≡ []
+Comes (From s) ns k n = Leads s ns k n
+
+-- slot k has n, one of the noted terms ns
+pub record Slot (ws : List ℕ) (ns : List Noted) (k : ℕ) (n : Noted) : Type 0 where
+  pub run : Spells ws k (n .term)
+  pub origin : Comes (origin-of ws k) ns k n
+  pub distance : distance-of ws k ≡ length (n .trail)
+
+-- the first slots have the noted terms, in noting order; nothing is said of the other numbers
+pub record Slots (ws : List ℕ) (ns : List Noted) : Type 0 where
+  pub slot : (k : ℕ) → k < length ns → Slot ws ns k (noted-at ns k)
+
+-- what the functions promise
+
+-- of `listed`
+pub record Finds (ws : List ℕ) (count : ℕ) (xs : List ℕ) (r : Bool) : Type 0 where
+  pub exact : (ns : List Noted) (t : Term) → Slots ws ns → length ns ≡ count → IsRun xs t → r ≡ is-noted t ns
+
+-- of `write_slot`: slot k is written, and those before it stay
+pub record Writes (before after : List ℕ) (k : ℕ) (xs : List ℕ) (o : Origin) (d : ℕ) : Type 0 where
+  pub kept : take (SLOT * k) after ≡ take (SLOT * k) before
+  pub run : (t : Term) → IsRun xs t → Spells after k t
+  pub origin : origin-of after k ≡ o
+  pub distance : distance-of after k ≡ d
+
+-- of `note_start`
+pub record Starts (after xs : List ℕ) : Type 0 where
+  pub slots : (t : Term) → IsRun xs t → Slots after (record { term = t; trail = [] } ∷ [])
+
+-- of `note`: a line on a noted term leads to one more
+pub record Notes (before after : List ℕ) (count : ℕ) (xs : List ℕ) (s : Step) (d : ℕ) : Type 0 where
+  pub kept : take (SLOT * count) after ≡ take (SLOT * count) before
+  pub slots : (ns : List Noted) (x : Line) → Slots before ns → length ns ≡ count → s .parent < count
+      → Marks s (noted-at ns (s .parent) .term) x → IsRun xs (x .result) → d ≡ length (noted-at ns (s .parent) .trail) + 1
+      → Slots after (ns ++ (entry (noted-at ns (s .parent) .trail) x ∷ []))
