@@ -31,6 +31,9 @@ each-law P h MulZero = h .9
 pub law-read-back : (w : Law) → numbered-law (law-number w) ≡ w
 law-read-back = each-law (λ w. numbered-law (law-number w) ≡ w) (refl, refl, refl, refl, refl, refl, refl, refl, refl, refl)
 
+pub number-below : (w : Law) → law-number w < 10
+number-below = each-law (λ w. law-number w < 10) (omega arith, omega arith, omega arith, omega arith, omega arith, omega arith, omega arith, omega arith, omega arith, omega arith)
+
 pub direction-read-back : (d : Direction) → numbered-direction (direction-number d) ≡ d
 direction-read-back Forward = refl
 direction-read-back Back = refl
