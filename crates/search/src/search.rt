@@ -257,6 +257,7 @@ pub fn append(out: &mut [u32], n: usize, src: &[u32]) -> usize
     m
 }
 
+// What the direct match finds.
 pub enum Direct {
     By(Law),
     Nothing,
