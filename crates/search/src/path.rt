@@ -46,7 +46,7 @@ pub fn run_of(ws: &[u32], k: u32) -> &[u32]
 }
 
 // Fills the front of `path` with the slots of the terms on the way from the start to slot `last`, from left to right, the start left out.
-// How many there are: the distance of slot `last`, or 0 where `path` is shorter.
+// How many there are: the distance of slot `last`, or 0 where `path` is shorter or the way breaks off.
 pub fn path_of(ws: &[u32], last: u32, path: &mut [u32]) -> usize
     ensures { λ r. ⌜ Traces (now (ws .entry)) last (now (path .exit)) r ⌝ }
 {
