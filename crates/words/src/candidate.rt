@@ -160,7 +160,7 @@ pub fn keep_lesser<'a>(
     }
 }
 
-// Both sides by renaming number c, into two buffers.
+// Both sides by renaming number c, into two buffers; a permutation has at most six numbers, one for each name.
 fn rename_both(a: &[u32], b: &[u32], names: &[u32], c: usize, x: &mut [u32], y: &mut [u32])
     requires { ⌜ length (now names) ≤ 6 ⌝ }
     ensures { λ _. ⌜ (now (x .exit) ≡ sets (now (x .entry)) 0 (rename-run (renaming (now (names .entry)) c) (now (a .entry)))) × (now (y .exit) ≡ sets (now (y .entry)) 0 (rename-run (renaming (now (names .entry)) c) (now (b .entry)))) ⌝ }
@@ -173,7 +173,8 @@ fn rename_both(a: &[u32], b: &[u32], names: &[u32], c: usize, x: &mut [u32], y: 
     rename_run(b, names, used, y);
 }
 
-// Renaming number c tried: kept if it is the first, or gives a lesser equation than the best so far. A side has at most 31 numbers.
+// Renaming number c tried: kept if it is the first, or gives a lesser equation than the best so far.
+// The buffers have room for the runs of terms of 31 nodes.
 fn visit(
     a: &[u32],
     b: &[u32],
@@ -218,7 +219,7 @@ fn least_renaming(
     best
 }
 
-// The least equation over all renamings of the letters of two terms; nothing if they are more than six.
+// The least equation over all renamings of the letters of two terms; nothing if there are more than six letters.
 pub fn canonical_terms(a: &[u32], b: &[u32], left: &mut [u32], right: &mut [u32]) -> Lengths
     ensures { λ r. ⌜ CanonicalTerms (now (a .entry)) (now (b .entry)) (now (left .entry)) (now (right .entry)) r (now (left .exit)) (now (right .exit)) ⌝ }
 {
