@@ -1,6 +1,7 @@
 // The words of a term: its summands when multiplied out, sorted.
 ghost use mathlib.Core.Path.{_≡_};
 ghost use mathlib.Core.List.{[], _∷_, _++_};
+ghost use lib.ListN.{take};
 ghost use lib.Seq.{sets};
 ghost use Rattle.words.specs.Spelled.{word-at};
 ghost use Rattle.words.specs.Multiply.{atom-words, PutsWords, JoinsRow, Joins, Multiplies, Expands, MultipliesOut};
@@ -52,8 +53,18 @@ pub fn copy(out: &mut [u32], at: usize, numbers: &[u32])
     }
 }
 
+// The first n numbers of a list, or all if there are fewer.
+pub fn front(xs: &[u32], n: usize) -> &[u32]
+    ensures { λ r. ⌜ now r ≡ take n (now (xs .entry)) ⌝ }
+{
+    if xs.len() < n {
+        return xs;
+    }
+    &xs[..n]
+}
+
 // The letters of `a`, then those of `b`, put as a word into slot `k`, if there is room: the next slot.
-fn put_word(words: &mut [u32], k: usize, a: &[u32], b: &[u32]) -> usize
+pub fn put_word(words: &mut [u32], k: usize, a: &[u32], b: &[u32]) -> usize
     ensures { λ r. ⌜ PutsWords ((now (a .entry) ++ now (b .entry)) ∷ []) (now (words .entry)) k r (now (words .exit)) ⌝ }
 {
     if MOST <= k {
