@@ -10,6 +10,9 @@ ghost use Rattle.words.specs.Rename.{renamed, least};
 ghost use Rattle.words.specs.Decoded.{decoded, factorial, renaming};
 ghost use Rattle.words.specs.RenameRun.{rename-number, rename-run};
 ghost use Rattle.words.specs.Candidate.{Room, ordered, Keeps, KeepsLesser, Tries, Visits, Finds, candidate, CanonicalTerms};
+
+pub mod words;
+
 use super::normal_form::ZERO;
 use super::normal_form::copy;
 use super::normal_form::front;

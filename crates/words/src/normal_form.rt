@@ -5,9 +5,14 @@ ghost use lib.ListN.{take};
 ghost use lib.Seq.{sets};
 ghost use Rattle.words.specs.Spelled.{word-at};
 ghost use Rattle.words.specs.Multiply.{atom-words, PutsWords, JoinsRow, Joins, Multiplies, Expands, MultipliesOut};
+ghost use Rattle.words.specs.WordLists.{WordsOf};
+use super::sort::spell_sorted;
 
 // The most words of a term of 31 nodes.
-const MOST: usize = 324;
+pub const MOST: usize = 324;
+
+// The numbers in so many slots: a word has at most 16 letters.
+pub const ROOM: usize = 5508;
 
 // In a run the numbers below it are letters, and it is 0.
 pub const ZERO: u32 = 4096;
@@ -181,4 +186,15 @@ pub fn multiply_out(run: &[u32], words: &mut [u32], scratch: &mut [u32]) -> usiz
     ensures { λ r. ⌜ MultipliesOut (now (run .entry)) (now (words .entry)) (now (scratch .entry)) r (now (words .exit)) ⌝ }
 {
     expand_at(run, 0, words, 0, scratch).count
+}
+
+// The words of the term of a run, written at the front of `out`, if there is room: where they end.
+// A term of 31 nodes has at most 324 words, for which there are 324 slots of 17 numbers.
+pub fn words_of(run: &[u32], out: &mut [u32]) -> usize
+    ensures { λ r. ⌜ WordsOf (now (run .entry)) (now (out .entry)) r (now (out .exit)) ⌝ }
+{
+    let mut words = [0u32; ROOM];
+    let mut scratch = [0u32; ROOM];
+    let n = multiply_out(run, &mut words, &mut scratch);
+    spell_sorted(front(&words, 17 * n), out)
 }
