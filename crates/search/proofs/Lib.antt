@@ -6,3 +6,4 @@ pub mod Slots
 pub mod Noting
 pub mod Sorting
 pub mod Keeping
+pub mod Running

@@ -1,0 +1,120 @@
+-- The search taken turn by turn, and that the noted terms never become fewer.
+use Prim.Native.Nat.{ℕ, suc, _+_, _-_, _≤_, _<_}
+use native.Mathlib.Omega.{arith}
+use native.Mathlib.Numerals.{add-one}
+use mathlib.Core.Path.{_≡_, refl, sym, ap, _∙_}
+use mathlib.Core.Logic.{⊎-elim}
+use mathlib.Core.Bool.{true, false}
+use mathlib.Core.Option.{none, some}
+use mathlib.Core.List.{List, [], _∷_, _++_}
+use borrow.Author.Tests.{lt-ltb, le-ltb}
+use lib.ListN.{length, drop, drop-of-length-le, length-append}
+use lib.Seq.{drop-cons}
+use Rattle.terms.specs.Term.{Term, zero, same}
+use Rattle.terms.specs.Theory.Order.{below?}
+use Rattle.search.specs.Law.{Law, Name}
+use Rattle.search.specs.Line.{Line, Limits, forward, results}
+use Rattle.search.specs.Search.{Noted, is-noted, entry, Turn, ended, goes-on, note, Outcome, proved, unproved, noted, run, direct, search}
+use Rattle.search.specs.Slots.{noted-at}
+use Rattle.search.specs.Theory.Note.{note-cases}
+
+-- the results of one term, one after another
+
+module _ (right : Term) (trail : List Line) (x : Line) (xs : List Line) (ns : List Noted) where
+  pub note-known : is-noted (x .result) ns ≡ true → note right trail (x ∷ xs) ns ≡ note right trail xs ns
+  unfolding note
+  note-known e = rw (e, note)
+
+  module _ (e : is-noted (x .result) ns ≡ false) where
+    pub note-right : same (x .result) right ≡ true → note right trail (x ∷ xs) ns ≡ ended (entry trail x) (ns ++ (entry trail x ∷ []))
+    unfolding note
+    note-right q = rw (e, q, note)
+
+    pub note-new : same (x .result) right ≡ false → note right trail (x ∷ xs) ns ≡ note right trail xs (ns ++ (entry trail x ∷ []))
+    unfolding note
+    note-new q = rw (e, q, note)
+
+-- what a turn leaves noted
+abbrev pub left-noted : Turn → List Noted
+left-noted (ended n ys) = ys
+left-noted (goes-on ys) = ys
+
+pub note-grows : (right : Term) (trail xs : List Line) (ns : List Noted) → length ns ≤ length (left-noted (note right trail xs ns))
+unfolding note
+note-grows right trail [] ns = omega arith
+note-grows right trail (x ∷ xs) ns =
+    let more = ns ++ (entry trail x ∷ []) in
+    let one : length more ≡ length ns + 1 = length-append ns (entry trail x ∷ []) in
+    note-cases right trail (λ turn. length ns ≤ length (left-noted turn)) x xs ns
+    (λ h. note-grows right trail xs ns)
+    (λ e. omega arith)
+    (λ h k. omega (arith, note-grows right trail xs more))
+
+module _ (next : Term → List Line) (steps : ℕ) (right : Term) where
+  -- what follows a turn, the i-th
+  abbrev pub after : ℕ → ℕ → Turn → Outcome
+  after f i (ended n ys) = proved (n .trail) i (length ys)
+  after f i (goes-on ys) = run next steps right f i ys
+
+  follows : (f i : ℕ) (turn : Turn) → elim turn [ ended n ys ↦ proved (n .trail) i (length ys) | goes-on ys ↦ run next steps right f i ys ] ≡ after f i turn
+  follows f i (ended n ys) = refl
+  follows f i (goes-on ys) = refl
+
+  module _ (i : ℕ) (ns : List Noted) where
+    pub run-limit : (f : ℕ) → f ≡ 0 → run next steps right f i ns ≡ unproved i (length ns)
+    unfolding run
+    run-limit f e = rw e
+
+    pub run-end : (f : ℕ) → length ns ≤ i → run next steps right f i ns ≡ unproved i (length ns)
+    unfolding run
+    run-end ℕ.zero h = refl
+    run-end (suc f) h = rw (drop-of-length-le ns h, run)
+
+    module _ (h : i < length ns) where
+      next-in-turn : drop i ns ≡ noted-at ns i ∷ drop (suc i) ns
+      next-in-turn = drop-cons ns i (record { term = zero; trail = [] }) h
+
+      pub run-far : (f : ℕ) → steps ≤ length (noted-at ns i .trail) → run next steps right f i ns ≡ unproved i (length ns)
+      unfolding run
+      run-far ℕ.zero far = refl
+      run-far (suc f) far = rw (next-in-turn, le-ltb (length (noted-at ns i .trail)) steps, run)
+
+      pub run-opens : (f g : ℕ) → f ≡ suc g → length (noted-at ns i .trail) < steps
+          → run next steps right f i ns ≡ after g (i + 1) (note right (noted-at ns i .trail) (next (noted-at ns i .term)) ns)
+      unfolding run
+      run-opens f g e near =
+          ap (λ k. run next steps right k i ns) e
+          ∙ rw (next-in-turn, lt-ltb (length (noted-at ns i .trail)) steps, run, add-one)
+          (follows g (suc i) (note right (noted-at ns i .trail) (next (noted-at ns i .term)) ns))
+
+  after-grows : (f i : ℕ) → ((ys : List Noted) → length ys ≤ noted (run next steps right f i ys)) → (turn : Turn) → length (left-noted turn) ≤ noted (after f i turn)
+  after-grows f i h (ended n ys) = omega arith
+  after-grows f i h (goes-on ys) = h ys
+
+  pub run-grows : (f i : ℕ) (ns : List Noted) → length ns ≤ noted (run next steps right f i ns)
+  run-grows ℕ.zero i ns = rw (run-limit i ns 0 refl) (omega arith)
+  run-grows (suc f) i ns =
+      let x = noted-at ns i in
+      let turn = note right (x .trail) (next (x .term)) ns in
+      ⊎-elim
+      (λ here.
+      ⊎-elim
+      (λ near. rw (run-opens i ns here (suc f) f refl near) (omega (arith, note-grows right (x .trail) (next (x .term)) ns, after-grows f (i + 1) (run-grows f (i + 1)) turn)))
+      (λ far. rw (run-far i ns here (suc f) far) (omega arith))
+      (below? (length (x .trail)) steps))
+      (λ end. rw (run-end i ns (suc f) end) (omega arith))
+      (below? i (length ns))
+
+-- the search: a direct match, or the noted terms in turn
+
+module _ (ws : List Law) (m : Limits) (s t : Term) where
+  abbrev pub begun : Outcome
+  begun = run (results ws m) (m .steps) t (m .nodes) 0 (record { term = s; trail = [] } ∷ [])
+
+  pub search-direct : (n : Name) → direct ws s t ≡ some n → search ws m s t ≡ proved (record { law = n; direction = forward; place = []; result = t } ∷ []) 0 0
+  unfolding search
+  search-direct n e = rw (e, search)
+
+  pub search-begun : direct ws s t ≡ none → search ws m s t ≡ begun
+  unfolding search
+  search-begun e = rw (e, search)
