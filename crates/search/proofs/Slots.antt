@@ -1,4 +1,4 @@
--- A slot written, and the slots before it.
+-- The run in a slot, a slot written, and the slots before it.
 use Prim.Native.Nat.{ℕ, suc, _+_, _-_, _*_, _≤_, _<_}
 use native.Mathlib.Omega.{arith}
 use native.Mathlib.Nat.{add-zero, eq-or-lt-of-le, le-of-suc-le-suc}
@@ -12,7 +12,7 @@ use Rattle.terms.specs.Term.{Term, zero, size}
 use Rattle.terms.specs.Held.{IsRun, Holds}
 use Rattle.terms.specs.Theory.Held.{size-of}
 use Rattle.terms.proofs.Positions.{front-getD}
-use Rattle.terms.proofs.Held.{holds-part, front-holds}
+use Rattle.terms.proofs.Held.{held-part, holds-part, front-holds}
 use Rattle.search.specs.Line.{Line}
 use Rattle.search.specs.Search.{Noted, entry}
 use Rattle.search.specs.Origins.{numbers, origin-at}
@@ -22,6 +22,16 @@ use Rattle.search.specs.declared.bounded_search.Origin.{Origin}
 use Rattle.search.specs.declared.bounded_search.Origin.the-variants.{Start, From}
 use Rattle.search.proofs.Front.{front-part}
 use Rattle.search.proofs.Origins.{four, getD-sets, take-sets, origin-back, origin-front}
+
+-- the run in slot k, as a part of the list from number 8 of the slot on
+abbrev run-length : List ℕ → ℕ → ℕ
+run-length ws k = SLOT * k + 8 + getD ws (SLOT * k) 0 - (SLOT * k + 8)
+
+abbrev pub run-in : List ℕ → ℕ → List ℕ
+run-in ws k = take (run-length ws k) (drop (SLOT * k + 8) ws)
+
+pub run-spelled : {ws : List ℕ} {k : ℕ} {t : Term} → Spells ws k t → IsRun (run-in ws k) t
+run-spelled {ws} {k} s = held-part (run-length ws k) (s .held) (omega (arith, s .count))
 
 -- the numbers before a run
 abbrev header : ℕ → Origin → ℕ → List ℕ

@@ -14,13 +14,14 @@ use Rattle.terms.specs.Promises.{ordering-of, Compares}
 use Rattle.terms.specs.Theory.Insert.{insert-lt, insert-eq, insert-gt}
 use Rattle.terms.specs.declared.term.Comparison.{Comparison}
 use Rattle.terms.specs.declared.term.Comparison.the-variants.{Less, Equal, Greater}
-use Rattle.terms.proofs.Held.{held-part, holds-within}
+use Rattle.terms.proofs.Held.{holds-within}
 use Rattle.search.specs.Law.{add-assoc}
 use Rattle.search.specs.Line.{Line, forward, by-result}
 use Rattle.search.specs.Slots.{SLOT}
 use Rattle.search.specs.Ordered.{Result, Ordered, none, more, inserted, Goes, SpotWithin, Spotted}
 use Rattle.search.specs.declared.bounded_search.Spot.{Spot}
 use Rattle.search.specs.declared.bounded_search.Spot.the-variants.{At, Already}
+use Rattle.search.proofs.Slots.{run-in, run-spelled}
 
 -- the line at a place
 abbrev pub line-at : List Line → ℕ → Line
@@ -48,13 +49,6 @@ abbrev pub Tells : List ℕ → List ℕ → List ℕ → ℕ → Comparison →
 Tells res ks xs p Less = Spotted res ks xs (At p)
 Tells res ks xs p Equal = Spotted res ks xs Already
 Tells res ks xs p Greater = Seeking res ks xs (p + 1)
-
--- the run in slot k, as the code takes it
-abbrev run-length : List ℕ → ℕ → ℕ
-run-length res k = SLOT * k + 8 + getD res (SLOT * k) 0 - (SLOT * k + 8)
-
-abbrev run-of : List ℕ → ℕ → List ℕ
-run-of res k = take (run-length res k) (drop (SLOT * k + 8) res)
 
 module _ (res ks xs : List ℕ) (p : ℕ) (S : Seeking res ks xs p) where
   module _ (h : p < length ks) where
@@ -91,12 +85,10 @@ module _ (res ks xs : List ℕ) (p : ℕ) (S : Seeking res ks xs p) where
           (sym (append-snoc (take p ys) (line-at ys p) (inserted x (drop (p + 1) ys))))
 
       -- the run in the slot that is named is compared
-      judged : (c : Comparison) → Compares xs (run-of res (getD ks p 0)) c → by-result x (line-at ys p) ≡ ordering-of c
-      judged c e =
-          let s = ordered-at O p h .1 .run in
-          sym (e .terms (x .result) (line-at ys p .result) hx (held-part (run-length res (getD ks p 0)) (s .held) (omega (arith, s .count))))
+      judged : (c : Comparison) → Compares xs (run-in res (getD ks p 0)) c → by-result x (line-at ys p) ≡ ordering-of c
+      judged c e = sym (e .terms (x .result) (line-at ys p .result) hx (run-spelled (ordered-at O p h .1 .run)))
 
-    pub tells : (c : Comparison) → Compares xs (run-of res (getD ks p 0)) c → Tells res ks xs p c
+    pub tells : (c : Comparison) → Compares xs (run-in res (getD ks p 0)) c → Tells res ks xs p c
     tells Less e = record { within = omega arith; goes = λ t from n ys x O hx. goes-here x O hx (judged x O hx Less e) }
     tells Equal e = record { within = tt; goes = λ t from n ys x O hx. is-here x O hx (judged x O hx Equal e) }
     tells Greater e = λ t from n ys x O hx. goes-behind x O hx (judged x O hx Greater e)

@@ -29,7 +29,7 @@ pub data Ordered (t : Term) (from : ℕ) (res : List ℕ) (n : ℕ) : List ℕ �
 abbrev pub inserted : Line → List Line → List Line
 inserted = insert lost by-result
 
--- promises
+-- what the functions promise
 
 -- where a line goes among others
 abbrev pub Goes : Spot → Line → List Line → Type 0
@@ -40,11 +40,12 @@ abbrev pub SpotWithin : ℕ → Spot → Type 0
 SpotWithin n (At p) = p ≤ n
 SpotWithin n Already = Unit {0}
 
+-- of `spot_of`
 pub record Spotted (res ks xs : List ℕ) (r : Spot) : Type 0 where
   pub within : SpotWithin (length ks) r
   pub goes : (t : Term) (from n : ℕ) (ys : List Line) (x : Line) → Ordered t from res n ks ys → IsRun xs (x .result) → Goes r x ys
 
--- one more result: the first r slots have the results, in term order
+-- of `keep`: the first r slots have the results, in term order
 pub record Keeps (xs : List ℕ) (s : Step) (res order res′ order′ : List ℕ) (count r : ℕ) : Type 0 where
   pub low : count ≤ r
   pub high : r ≤ count + 1

@@ -35,6 +35,7 @@ distance-of ws k = getD ws (SLOT * k + 5) 0
 pub record Marks (s : Step) (t : Term) (x : Line) : Type 0 where
   pub law : x .law ≡ name-of (s .law)
   pub direction : x .direction ≡ direction-of (s .direction)
+  pub inside : s .place < size t
   pub place : x .place ≡ place-at t (s .place)
 
 -- the term noted in slot k
@@ -62,24 +63,26 @@ pub record Slot (ws : List ℕ) (ns : List Noted) (k : ℕ) (n : Noted) : Type 0
 pub record Slots (ws : List ℕ) (ns : List Noted) : Type 0 where
   pub slot : (k : ℕ) → k < length ns → Slot ws ns k (noted-at ns k)
 
--- promises
+-- what the functions promise
 
+-- of `listed`
 pub record Finds (ws : List ℕ) (count : ℕ) (xs : List ℕ) (r : Bool) : Type 0 where
   pub exact : (ns : List Noted) (t : Term) → Slots ws ns → length ns ≡ count → IsRun xs t → r ≡ is-noted t ns
 
--- slot k is written, and those before it stay
+-- of `write_slot`: slot k is written, and those before it stay
 pub record Writes (before after : List ℕ) (k : ℕ) (xs : List ℕ) (o : Origin) (d : ℕ) : Type 0 where
   pub kept : take (SLOT * k) after ≡ take (SLOT * k) before
   pub run : (t : Term) → IsRun xs t → Spells after k t
   pub origin : origin-of after k ≡ o
   pub distance : distance-of after k ≡ d
 
+-- of `note_start`
 pub record Starts (after xs : List ℕ) : Type 0 where
   pub slots : (t : Term) → IsRun xs t → Slots after (record { term = t; trail = [] } ∷ [])
 
+-- of `note`: a line on a noted term leads to one more
 pub record Notes (before after : List ℕ) (count : ℕ) (xs : List ℕ) (s : Step) (d : ℕ) : Type 0 where
   pub kept : take (SLOT * count) after ≡ take (SLOT * count) before
-  -- a line on a noted term leads to one more
   pub slots : (ns : List Noted) (x : Line) → Slots before ns → length ns ≡ count → s .parent < count
       → Marks s (noted-at ns (s .parent) .term) x → IsRun xs (x .result) → d ≡ length (noted-at ns (s .parent) .trail) + 1
       → Slots after (ns ++ (entry (noted-at ns (s .parent) .trail) x ∷ []))

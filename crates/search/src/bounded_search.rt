@@ -71,16 +71,16 @@ pub fn read_origin(ws: &[u32], at: usize) -> Origin
     })
 }
 
-// Whether a run is among the first `count` noted ones.
+// Whether a run is among the first `count` noted ones, from the last of them on.
 pub fn listed(ws: &[u32], count: usize, s: &[u32]) -> bool
     requires { ⌜ SLOT * count ≤ length (now ws) ⌝ }
     ensures { λ r. ⌜ Finds (now (ws .entry)) count (now (s .entry)) r ⌝ }
 {
-    let mut k = 0;
-    while k < count {
+    let mut k = count;
+    while 0 < k {
+        k -= 1;
         let a = SLOT * k;
         let n = ws[a] as usize;
-        k += 1;
         if n <= 31 {
             let b = a + 8;
             if term::equal(s, &ws[b..b + n]) {
@@ -141,15 +141,9 @@ fn spot_of(res: &[u32], order: &[u32], s: &[u32]) -> Spot
         }
         let b = a + 8;
         match term::compare(s, &res[b..b + n]) {
-            Comparison::Less => {
-                return Spot::At(p);
-            }
-            Comparison::Equal => {
-                return Spot::Already;
-            }
-            Comparison::Greater => {
-                p += 1;
-            }
+            Comparison::Less => return Spot::At(p),
+            Comparison::Equal => return Spot::Already,
+            Comparison::Greater => p += 1,
         }
     }
     Spot::At(p)

@@ -1,6 +1,7 @@
--- `listed` meets its contract. The loop's invariant: the slots from `k` on decide.
+-- `listed` meets its contract. The loop's invariant: the first `k` slots decide.
 use Prim.Native.Nat.{_≤_, _-_, _*_}
 use native.Mathlib.Omega.{arith}
+use Rattle.search.specs.Slots.{SLOT}
 use Rattle.search.proofs.Noting.{Going, going-starts, found-here, not-here, too-long, found-nowhere}
 use borrow.Author.Needs.{needs}
 use Rattle.search.proofs.bounded_search.listed.Statement.{statement}
@@ -10,10 +11,13 @@ abbrev Inv-loop : tie.InvT-loop
 Inv-loop ws count s k₀ k = (k ≤ count) × Going ws count s k
 
 abbrev μ-loop : tie.MeasureT-loop
-μ-loop ws count s k₀ k = count - k
+μ-loop ws count s k₀ k = k
 
 loop-holds : tie.Need-loop-holds Inv-loop μ-loop
 loop-holds c = search (going-starts, needs)
+
+sub-k : tie.Need-sub-k Inv-loop μ-loop
+sub-k c = search needs
 
 mul-a : tie.Need-mul-a Inv-loop μ-loop
 mul-a c = search needs
@@ -25,10 +29,7 @@ shared-slice-read-n : tie.Need-shared-slice-read-n Inv-loop μ-loop
 shared-slice-read-n c = search needs
 
 cast-n : tie.Need-cast-n Inv-loop μ-loop
-cast-n c = omega (arith, c .shared-slice-known3 .given (40 * c .before .before .loop .k))
-
-add-k : tie.Need-add-k Inv-loop μ-loop
-add-k c = search needs
+cast-n c = omega (arith, c .shared-slice-known3 .given (SLOT * (c .before .before .loop .k - 1)))
 
 add-b : tie.Need-add-b Inv-loop μ-loop
 add-b c = search needs
@@ -76,11 +77,11 @@ listed-spec =
     Inv-loop
     μ-loop
     loop-holds
+    sub-k
     mul-a
     mul-n
     shared-slice-read-n
     cast-n
-    add-k
     add-b
     add-equal
     mul-equal
