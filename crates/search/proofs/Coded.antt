@@ -1,6 +1,14 @@
--- The laws and directions of the code by number: each is read back from its number.
+-- The laws and directions of the code by number: each is read back from its number, and stands for the law of its name.
+use Prim.Native.Nat.{ℕ, zero, suc, _<_}
+use native.Mathlib.Omega.{arith}
 use mathlib.Core.Path.{_≡_, refl}
-use Rattle.search.specs.Coded.{law-number, numbered-law, direction-number, numbered-direction}
+use mathlib.Core.Logic.{⊎-elim}
+use mathlib.Core.Bool.{Bool, true, _&&_}
+use lib.Dec.{T, eqb, eqb→eq}
+use Rattle.terms.specs.Theory.Reflects.{both}
+use Rattle.terms.specs.Theory.Order.{below?}
+use Rattle.search.specs.Law.{semiring}
+use Rattle.search.specs.Coded.{name-of, law-number, numbered-law, law-at, law-of, direction-number, numbered-direction}
 use Rattle.search.specs.declared.search.Law.{Law}
 use Rattle.search.specs.declared.search.Law.the-variants.{AddAssoc, AddComm, AddZeroRight, MulAssoc, MulOneLeft, MulOneRight, LeftDistrib, RightDistrib, ZeroMul, MulZero}
 use Rattle.search.specs.declared.search.Direction.{Direction}
@@ -26,3 +34,24 @@ law-read-back = each-law (λ w. numbered-law (law-number w) ≡ w) (refl, refl, 
 pub direction-read-back : (d : Direction) → numbered-direction (direction-number d) ≡ d
 direction-read-back Forward = refl
 direction-read-back Back = refl
+
+-- each law of the code stands for the law of its name
+pub law-named : (w : Law) → law-of w .name ≡ name-of w
+unfolding law-at semiring
+law-named = each-law (λ w. law-of w .name ≡ name-of w) (refl, refl, refl, refl, refl, refl, refl, refl, refl, refl)
+
+-- a test of the numbers below k
+every : (ℕ → Bool) → ℕ → Bool
+every f zero = true
+every f (suc k) = f k && every f k
+
+every-below : (f : ℕ → Bool) (k n : ℕ) → T (every f k) → n < k → T (f n)
+unfolding every
+every-below f zero n h p = absurd (omega arith)
+every-below f (suc k) n h p =
+    let (i, j) = both (f k) (every f k) h in
+    ⊎-elim (λ q. every-below f k n j q) (λ q. let e : k ≡ n = omega arith in rw e at i) (below? n k)
+
+pub number-read-back : (n : ℕ) → n < 10 → law-number (numbered-law n) ≡ n
+unfolding every
+number-read-back n h = eqb→eq (law-number (numbered-law n)) n (every-below (λ n. eqb (law-number (numbered-law n)) n) 10 n tt h)

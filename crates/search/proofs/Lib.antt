@@ -1,6 +1,16 @@
 -- Laws that the proofs share, and that the crates above cite.
 pub mod Coded
+pub mod Rows
+pub mod Spans
+pub mod Meeting
+pub mod Matching
 pub mod Front
+pub mod Filling
+pub mod Splits
+pub mod Splicing
+pub mod Rewriting
+pub mod Trying
+pub mod Directing
 pub mod Origins
 pub mod Slots
 pub mod Noting

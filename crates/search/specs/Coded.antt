@@ -1,12 +1,16 @@
--- The laws and directions of the code: what they stand for, and their numbers.
-use Prim.Native.Nat.{ℕ}
+-- The laws and directions of the code: what they stand for, their numbers, and a law's sides as a row of numbers.
+use Prim.Native.Nat.{ℕ, _+_, _≤_}
+use mathlib.Core.Path.{_≡_}
 use mathlib.Core.Bool.{cond}
 use mathlib.Core.List.{List, [], _∷_}
 use lib.Dec.{eqb}
-use lib.ListN.{getD}
+use lib.ListN.{length, take, drop, getD}
+use Rattle.terms.specs.Term.{Term, zero}
+use Rattle.terms.specs.Held.{IsRun}
 use Rattle.search.specs.Law as law
-use Rattle.search.specs.Law.{Name, rank}
+use Rattle.search.specs.Law.{Name, rank, semiring}
 use Rattle.search.specs.Line as line
+use Rattle.search.specs.Span.{Pattern}
 use Rattle.search.specs.declared.search.Law.{Law}
 use Rattle.search.specs.declared.search.Law.the-variants.{AddAssoc, AddComm, AddZeroRight, MulAssoc, MulOneLeft, MulOneRight, LeftDistrib, RightDistrib, ZeroMul, MulZero}
 use Rattle.search.specs.declared.search.Direction.{Direction}
@@ -36,6 +40,13 @@ laws = AddAssoc ∷ AddComm ∷ AddZeroRight ∷ MulAssoc ∷ MulOneLeft ∷ Mul
 abbrev pub numbered-law : ℕ → Law
 numbered-law n = getD laws n AddAssoc
 
+-- the law with a number in the list of laws
+unfoldable pub law-at : ℕ → law.Law
+law-at n = getD semiring n (record { name = law.add-assoc; left = zero; right = zero })
+
+abbrev pub law-of : Law → law.Law
+law-of w = law-at (law-number w)
+
 abbrev pub direction-of : Direction → line.Direction
 direction-of Forward = line.forward
 direction-of Back = line.back
@@ -47,3 +58,15 @@ direction-number Back = 1
 -- back past 0
 abbrev pub numbered-direction : ℕ → Direction
 numbered-direction n = cond (eqb n 0) Forward Back
+
+-- a pattern's run stands in a row after the position i, which says its length
+pub record SideAt (r : List ℕ) (i : ℕ) (p : Term) : Type 0 where
+  pub pattern : Pattern p
+  pub short : getD r i 0 ≤ 7
+  pub is : IsRun (take (getD r i 0) (drop (i + 1) r)) p
+
+-- the sides of a law in sixteen numbers
+pub record Row (r : List ℕ) (w : law.Law) : Type 0 where
+  pub count : length r ≡ 16
+  pub left : SideAt r 0 (w .left)
+  pub right : SideAt r 8 (w .right)

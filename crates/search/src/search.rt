@@ -1,9 +1,12 @@
-// The laws and their directions.
+// The laws, matching, and the direct match.
 ghost use mathlib.Core.Path.{_≡_};
 ghost use mathlib.Core.List.{_++_};
 ghost use Prim.Native.Nat.{_+_, _≤_, _<_};
 ghost use lib.ListN.{length, take};
-ghost use Rattle.search.specs.Coded.{law-number, numbered-law, direction-number, numbered-direction};
+ghost use Rattle.search.specs.Coded.{law-of, law-number, numbered-law, direction-number, numbered-direction, Row};
+ghost use Rattle.search.specs.Span.{span-of, with-span, no-spans, Within, Meets, Matches};
+ghost use Rattle.search.specs.Directly.{BindsSides, TakesFirst, Directs};
+use terms::term;
 
 pub enum Law {
     AddAssoc,
@@ -85,6 +88,184 @@ pub fn direction_of(n: u32) -> Direction
     }
 }
 
+// A row for each law, in law order: at 0 and at 8 how many numbers its left and its right side have, and after that the side's run.
+const LAWS: [[u32; 16]; 10] = [
+    [5, 4098, 0, 4098, 1, 2, 0, 0, 5, 4098, 4098, 0, 1, 2, 0, 0],
+    [3, 4098, 0, 1, 0, 0, 0, 0, 3, 4098, 1, 0, 0, 0, 0, 0],
+    [1, 0, 0, 0, 0, 0, 0, 0, 3, 4098, 0, 4096, 0, 0, 0, 0],
+    [5, 4099, 0, 4099, 1, 2, 0, 0, 5, 4099, 4099, 0, 1, 2, 0, 0],
+    [1, 0, 0, 0, 0, 0, 0, 0, 3, 4099, 4097, 0, 0, 0, 0, 0],
+    [1, 0, 0, 0, 0, 0, 0, 0, 3, 4099, 0, 4097, 0, 0, 0, 0],
+    [
+        7,
+        4098,
+        4099,
+        0,
+        1,
+        4099,
+        0,
+        2,
+        5,
+        4099,
+        0,
+        4098,
+        1,
+        2,
+        0,
+        0,
+    ],
+    [
+        7,
+        4098,
+        4099,
+        0,
+        2,
+        4099,
+        1,
+        2,
+        5,
+        4099,
+        4098,
+        0,
+        1,
+        2,
+        0,
+        0,
+    ],
+    [1, 4096, 0, 0, 0, 0, 0, 0, 3, 4099, 4096, 0, 0, 0, 0, 0],
+    [1, 4096, 0, 0, 0, 0, 0, 0, 3, 4099, 0, 4096, 0, 0, 0, 0],
+];
+
+// The sides of a law.
+pub fn row_of(law: Law) -> [u32; 16]
+    ensures { λ r. ⌜ Row r (law-of law) ⌝ }
+{
+    let n = law_number(law) as usize;
+    LAWS[n]
+}
+
+// A part of a run: where it starts and how many numbers it has. A part of no numbers stands for none.
+pub struct Span {
+    pub at: usize,
+    pub len: usize,
+}
+
+// The parts of a run that a law's letters stand for.
+pub struct Spans {
+    pub a: Span,
+    pub b: Span,
+    pub c: Span,
+}
+
+// What matching finds.
+pub enum Binding {
+    Bound(Spans),
+    Unbound,
+}
+
+pub fn no_spans() -> Spans
+    ensures { λ r. ⌜ r ≡ no-spans ⌝ }
+{
+    Spans {
+        a: Span { at: 0, len: 0 },
+        b: Span { at: 0, len: 0 },
+        c: Span { at: 0, len: 0 },
+    }
+}
+
+// The part that a letter stands for.
+pub fn span_of(z: Spans, x: u32) -> Span
+    ensures { λ r. ⌜ r ≡ span-of z x ⌝ }
+{
+    if x == 0 {
+        return z.a;
+    }
+    if x == 1 {
+        return z.b;
+    }
+    z.c
+}
+
+// The parts with another one for a letter.
+fn with_span(z: Spans, x: u32, v: Span) -> Spans
+    ensures { λ r. ⌜ r ≡ with-span z x v ⌝ }
+{
+    let a = z.a;
+    let b = z.b;
+    let c = z.c;
+    if x == 0 {
+        return Spans { a: v, b, c };
+    }
+    if x == 1 {
+        return Spans { a, b: v, c };
+    }
+    Spans { a, b, c: v }
+}
+
+// A letter of a law meets the term from `at` to `end`: it is bound to it, or was bound to an equal one.
+fn meet_letter(s: &[u32], z: Spans, x: u32, at: usize, end: usize) -> Binding
+    requires { ⌜ (x < 3) × (at ≤ end) × (end ≤ length (now s)) × Within (length (now s)) z ⌝ }
+    ensures { λ r. ⌜ Meets (now (s .entry)) z x at end r ⌝ }
+{
+    let old = span_of(z, x);
+    let from = old.at;
+    let len = old.len;
+    if len == 0 {
+        let new = Span { at, len: end - at };
+        return Binding::Bound(with_span(z, x, new));
+    }
+    if term::equal(&s[from..from + len], &s[at..end]) {
+        return Binding::Bound(z);
+    }
+    Binding::Unbound
+}
+
+// Matches the pattern whose run is `p` against the term whose run starts at `at`, from what the letters stand for already.
+pub fn bind(p: &[u32], s: &[u32], at: usize, z: Spans) -> Binding
+    requires { ⌜ (at ≤ length (now s)) × Within (length (now s)) z ⌝ }
+    ensures { λ r. ⌜ Matches (now (p .entry)) (now (s .entry)) at z r ⌝ }
+{
+    let mut bound = z;
+    let mut i = at;
+    let mut k = 0;
+    while k < p.len() {
+        let x = p[k];
+        k += 1;
+        if x < 3 {
+            let end = term::end_of(s, i);
+            let Binding::Bound(more) = meet_letter(s, bound, x, i, end) else {
+                return Binding::Unbound;
+            };
+            bound = more;
+            i = end;
+        } else {
+            if s.len() <= i {
+                return Binding::Unbound;
+            }
+            if s[i] != x {
+                return Binding::Unbound;
+            }
+            i += 1;
+        }
+    }
+    Binding::Bound(bound)
+}
+
+// Matches the sides of a law, the left at the front of a list and then the right at `middle`.
+fn bind_sides(law: Law, both: &[u32], middle: usize) -> Binding
+    requires { ⌜ middle ≤ length (now both) ⌝ }
+    ensures { λ r. ⌜ BindsSides law (now (both .entry)) middle r ⌝ }
+{
+    let row = row_of(law);
+    let left = 1 + row[0] as usize;
+    let right = 9 + row[8] as usize;
+    let sides = &row[..];
+    let Binding::Bound(z) = bind(&sides[1..left], both, 0, no_spans()) else {
+        return Binding::Unbound;
+    };
+    bind(&sides[9..right], both, middle, z)
+}
+
 // Puts numbers after the first `n` of a buffer.
 pub fn append(out: &mut [u32], n: usize, src: &[u32]) -> usize
     requires { ⌜ n + length (now src) ≤ length (now out) ⌝ }
@@ -98,4 +279,42 @@ pub fn append(out: &mut [u32], n: usize, src: &[u32]) -> usize
         j += 1;
     }
     m
+}
+
+pub enum Direct {
+    By(Law),
+    Nothing,
+}
+
+// The first law whose sides match the terms at the front of a list and at `middle`.
+fn first_law(both: &[u32], middle: usize) -> Direct
+    requires { ⌜ middle ≤ length (now both) ⌝ }
+    ensures { λ r. ⌜ TakesFirst (now (both .entry)) middle r ⌝ }
+{
+    let mut n = 0;
+    while n < 10 {
+        let law = law_of(n);
+        n += 1;
+        let Binding::Bound(_) = bind_sides(law, both, middle) else {
+            continue;
+        };
+        return Direct::By(law);
+    }
+    Direct::Nothing
+}
+
+// The first law whose sides match two terms of at most 31 nodes. Their runs stand in one list, so that spans are positions of it.
+pub fn search_direct_axiom(left: &[u32], right: &[u32]) -> Direct
+    ensures { λ r. ⌜ Directs (now (left .entry)) (now (right .entry)) r ⌝ }
+{
+    if 31 < left.len() {
+        return Direct::Nothing;
+    }
+    if 31 < right.len() {
+        return Direct::Nothing;
+    }
+    let mut both = [0u32; 62];
+    let middle = append(&mut both, 0, left);
+    append(&mut both, middle, right);
+    first_law(&both, middle)
 }

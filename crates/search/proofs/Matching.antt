@@ -1,0 +1,310 @@
+-- Matching read off two runs from left to right: the patterns and the terms still to come, matched pair by pair.
+use Prim.Native.Nat.{ℕ, suc, _+_, _-_, _≤_, _<_}
+use native.Mathlib.Omega.{arith}
+use mathlib.Core.Path.{_≡_, refl, sym, ap, _∙_}
+use mathlib.Core.Option.{Option, none, some}
+use mathlib.Core.List.{List, [], _∷_, _++_, append-assoc, append-nil}
+use lib.ListN.{length, drop, getD, length-drop, length-append, drop-of-length-le}
+use Rattle.terms.specs.Term.{Term, letter, zero, one, add, mul, size}
+use Rattle.terms.specs.Run.{ZERO, ONE, ADD, MUL, run}
+use Rattle.terms.specs.Held.{Fine, IsRun, Holds, runs, AllFine}
+use Rattle.terms.specs.Promises.{Ends}
+use Rattle.terms.specs.Theory.Held.{length-run}
+use Rattle.terms.proofs.Positions.{drop-head, drop-past}
+use Rattle.terms.proofs.Held.{size-pos}
+use Rattle.search.specs.Match.{Bindings, match, meet}
+use Rattle.search.specs.Span.{Pattern, Means, Within, Found, Meets, Matching}
+use Rattle.search.specs.declared.search.Spans.{Spans}
+use Rattle.search.specs.declared.search.Binding.{Binding}
+use Rattle.search.specs.declared.search.Binding.the-variants.{Bound, Unbound}
+
+abbrev pub after : Option Bindings → (Bindings → Option Bindings) → Option Bindings
+after none f = none
+after (some u) f = f u
+
+-- each pattern against the term at its place, the bindings handed on
+unfoldable pub match-all : List Term → List Term → Bindings → Option Bindings
+match-all [] ts σ = some σ
+match-all (p ∷ ps) [] σ = none
+match-all (p ∷ ps) (t ∷ ts) σ = after (match p t σ) (λ u. match-all ps ts u)
+
+-- the number at the start of a run, and the terms after it
+abbrev pub code : Term → ℕ
+code (letter n) = n
+code zero = ZERO
+code one = ONE
+code (add s t) = ADD
+code (mul s t) = MUL
+
+abbrev pub args : Term → List Term
+args (letter n) = []
+args zero = []
+args one = []
+args (add s t) = s ∷ t ∷ []
+args (mul s t) = s ∷ t ∷ []
+
+run-code : (t : Term) (ts : List Term) → run t ++ runs ts ≡ code t ∷ runs (args t ++ ts)
+unfolding run
+run-code (letter n) ts = refl
+run-code zero ts = refl
+run-code one ts = refl
+run-code (add s t) ts = ap (λ k. ADD ∷ k) (append-assoc (run s) (run t) (runs ts))
+run-code (mul s t) ts = ap (λ k. MUL ∷ k) (append-assoc (run s) (run t) (runs ts))
+
+two-after : (o : Option Bindings) (f g : Bindings → Option Bindings) → after (elim o [ none ↦ none | some u ↦ f u ]) g ≡ after o (λ u. after (f u) g)
+two-after none f g = refl
+two-after (some u) f g = refl
+
+-- a pattern that is no letter takes its number away from both runs, or does not match
+record Node (p t : Term) : Type 0 where
+  on : code t ≡ code p → (length (args p) ≡ length (args t)) × ((ps ts : List Term) (σ : Bindings) → match-all (p ∷ ps) (t ∷ ts) σ ≡ match-all (args p ++ ps) (args t ++ ts) σ)
+  off : (code t ≡ code p → ⊥) → (ps ts : List Term) (σ : Bindings) → match-all (p ∷ ps) (t ∷ ts) σ ≡ none
+
+other : {p t : Term} → (code t ≡ code p → ⊥) → ((σ : Bindings) → match p t σ ≡ none) → Node p t
+unfolding match-all
+other d m = record { on = λ e. absurd (d e); off = λ e ps ts σ. rw (m σ) }
+
+node : (p t : Term) → 3 ≤ code p → Pattern p → Fine t → Node p t
+unfolding match-all match Pattern Fine
+node (letter m) t h g f = absurd (omega arith)
+node zero (letter n) h g f = other (λ e. omega arith) (λ σ. refl)
+node zero zero h g f = record { on = λ e. (refl, λ ps ts σ. refl); off = λ e. absurd (e refl) }
+node zero one h g f = other (λ e. omega arith) (λ σ. refl)
+node zero (add s t) h g f = other (λ e. omega arith) (λ σ. refl)
+node zero (mul s t) h g f = other (λ e. omega arith) (λ σ. refl)
+node one (letter n) h g f = other (λ e. omega arith) (λ σ. refl)
+node one zero h g f = other (λ e. omega arith) (λ σ. refl)
+node one one h g f = record { on = λ e. (refl, λ ps ts σ. refl); off = λ e. absurd (e refl) }
+node one (add s t) h g f = other (λ e. omega arith) (λ σ. refl)
+node one (mul s t) h g f = other (λ e. omega arith) (λ σ. refl)
+node (add p q) (letter n) h g f = other (λ e. omega arith) (λ σ. refl)
+node (add p q) zero h g f = other (λ e. omega arith) (λ σ. refl)
+node (add p q) one h g f = other (λ e. omega arith) (λ σ. refl)
+node (add p q) (add s t) h g f = record { on = λ e. (refl, λ ps ts σ. two-after (match p s σ) (λ u. match q t u) (λ u. match-all ps ts u)); off = λ e. absurd (e refl) }
+node (add p q) (mul s t) h g f = other (λ e. omega arith) (λ σ. refl)
+node (mul p q) (letter n) h g f = other (λ e. omega arith) (λ σ. refl)
+node (mul p q) zero h g f = other (λ e. omega arith) (λ σ. refl)
+node (mul p q) one h g f = other (λ e. omega arith) (λ σ. refl)
+node (mul p q) (add s t) h g f = other (λ e. omega arith) (λ σ. refl)
+node (mul p q) (mul s t) h g f = record { on = λ e. (refl, λ ps ts σ. two-after (match p s σ) (λ u. match q t u) (λ u. match-all ps ts u)); off = λ e. absurd (e refl) }
+
+abbrev pub AllPatterns : List Term → Type 0
+AllPatterns [] = Unit {0}
+AllPatterns (p ∷ ps) = Pattern p × AllPatterns ps
+
+args-patterns : (p : Term) (ps : List Term) → Pattern p → AllPatterns ps → AllPatterns (args p ++ ps)
+unfolding Pattern
+args-patterns (letter n) ps h a = a
+args-patterns zero ps h a = a
+args-patterns one ps h a = a
+args-patterns (add p q) ps h a = (h .0, (h .1, a))
+args-patterns (mul p q) ps h a = (h .0, (h .1, a))
+
+args-fine : (t : Term) (ts : List Term) → Fine t → AllFine ts → AllFine (args t ++ ts)
+unfolding Fine
+args-fine (letter n) ts h a = a
+args-fine zero ts h a = a
+args-fine one ts h a = a
+args-fine (add s t) ts h a = (h .0, (h .1, a))
+args-fine (mul s t) ts h a = (h .0, (h .1, a))
+
+-- the patterns from position k of P on, the terms from position i of xs on, and the bindings that the parts z stand for:
+-- matched in turn they give o
+pub record Pending (P : List ℕ) (k : ℕ) (xs : List ℕ) (i : ℕ) (z : Spans) (o : Option Bindings) : Type 0 where
+  pub ps : List Term
+  pub ts : List Term
+  pub σ : Bindings
+  pub rest : List ℕ
+  pub left : drop k P ≡ runs ps
+  pub patterns : AllPatterns ps
+  pub here : drop i xs ≡ runs ts ++ rest
+  pub fine : AllFine ts
+  pub count : length ps ≡ length ts
+  pub means : Means xs z σ
+  pub outcome : match-all ps ts σ ≡ o
+
+-- the first pattern and term of what is pending
+record Next (P : List ℕ) (k : ℕ) (xs : List ℕ) (i : ℕ) (z : Spans) (o : Option Bindings) : Type 0 where
+  p : Term
+  t : Term
+  ps : List Term
+  ts : List Term
+  σ : Bindings
+  rest : List ℕ
+  left : drop k P ≡ code p ∷ runs (args p ++ ps)
+  pattern : Pattern p
+  patterns : AllPatterns ps
+  here : drop i xs ≡ run t ++ (runs ts ++ rest)
+  fine : Fine t
+  fines : AllFine ts
+  count : length ps ≡ length ts
+  means : Means xs z σ
+  outcome : match-all (p ∷ ps) (t ∷ ts) σ ≡ o
+
+next : {P : List ℕ} {k : ℕ} {xs : List ℕ} {i : ℕ} {z : Spans} {o : Option Bindings} → k < length P → Pending P k xs i z o → Next P k xs i z o
+next {P} {k} {xs} {i} {z} {o} h S = go (S .ps) (S .ts) (S .left) (S .patterns) (S .here) (S .fine) (S .count) (S .outcome)
+  where
+    go : (ps ts : List Term) → drop k P ≡ runs ps → AllPatterns ps → drop i xs ≡ runs ts ++ S .rest → AllFine ts → length ps ≡ length ts → match-all ps ts (S .σ) ≡ o → Next P k xs i z o
+    go [] ts l a e f n q = absurd (omega (arith, length-drop k P, ap length l))
+    go (p ∷ ps) [] l a e f n q = absurd (omega arith)
+    go (p ∷ ps) (t ∷ ts) l a e f n q =
+        record {
+          p = p;
+          t = t;
+          ps = ps;
+          ts = ts;
+          σ = S .σ;
+          rest = S .rest;
+          left = l ∙ run-code p ps;
+          pattern = a .0;
+          patterns = a .1;
+          here = e ∙ append-assoc (run t) (runs ts) (S .rest);
+          fine = f .0;
+          fines = f .1;
+          count = omega arith;
+          means = S .means;
+          outcome = q;
+        }
+
+module _ (P : List ℕ) (k : ℕ) (xs : List ℕ) (i : ℕ) (z : Spans) (o : Option Bindings) where
+  held : (N : Next P k xs i z o) → Holds xs i (N .t)
+  held N = record { fine = N .fine; rest = runs (N .ts) ++ N .rest; here = N .here }
+
+  first-code : (N : Next P k xs i z o) → getD P k 0 ≡ code (N .p)
+  first-code N = drop-head P k (code (N .p)) (runs (args (N .p) ++ N .ps)) (N .left) .1
+
+  -- a letter met: what was found goes on with the pairs after it
+  met : (N : Next P k xs i z o) (e : ℕ) (r : Binding) → getD P k 0 < 3 → Ends xs i e → Meets xs z (getD P k 0) i e r
+      → (drop (k + 1) P ≡ runs (N .ps)) × (drop e xs ≡ runs (N .ts) ++ N .rest) × ((m : Option Bindings) × Found xs r m × (after m (λ u. match-all (N .ps) (N .ts) u) ≡ o))
+  unfolding match-all match
+  met N e r g E M = go (N .p) (N .left) (N .outcome)
+    where
+      past : drop e xs ≡ runs (N .ts) ++ N .rest
+      past = rw (E .exact (N .t) (held N), ← (length-run (N .t))) (drop-past xs (run (N .t)) (runs (N .ts) ++ N .rest) i (N .here))
+
+      go : (p : Term) → drop k P ≡ code p ∷ runs (args p ++ N .ps) → match-all (p ∷ N .ps) (N .t ∷ N .ts) (N .σ) ≡ o
+          → (drop (k + 1) P ≡ runs (N .ps)) × (drop e xs ≡ runs (N .ts) ++ N .rest) × ((m : Option Bindings) × Found xs r m × (after m (λ u. match-all (N .ps) (N .ts) u) ≡ o))
+      go (letter n) l q =
+          let d = drop-head P k n (runs (N .ps)) l in
+          (d .2, past, (meet n (N .t) (N .σ) (N .σ n), rw (d .1) at (M .exact (N .t) (N .σ) (N .means) (held N) (E .exact (N .t) (held N))), q))
+      go zero l q = absurd (omega (arith, drop-head P k ZERO (runs (N .ps)) l .1))
+      go one l q = absurd (omega (arith, drop-head P k ONE (runs (N .ps)) l .1))
+      go (add u v) l q = absurd (omega (arith, drop-head P k ADD (run u ++ (run v ++ runs (N .ps))) l .1))
+      go (mul u v) l q = absurd (omega (arith, drop-head P k MUL (run u ++ (run v ++ runs (N .ps))) l .1))
+
+  letter-on : (e : ℕ) (y : Spans) → k < length P → getD P k 0 < 3 → Ends xs i e → Meets xs z (getD P k 0) i e (Bound y) → Pending P k xs i z o → Pending P (k + 1) xs e y o
+  letter-on e y h g E M S = on (next h S)
+    where
+      on : (N : Next P k xs i z o) → Pending P (k + 1) xs e y o
+      on N = let A = met N e (Bound y) g E M in bound (A .0) (A .1) (A .2 .0) (A .2 .1) (A .2 .2)
+        where
+          bound : drop (k + 1) P ≡ runs (N .ps) → drop e xs ≡ runs (N .ts) ++ N .rest → (m : Option Bindings) → Found xs (Bound y) m → after m (λ u. match-all (N .ps) (N .ts) u) ≡ o → Pending P (k + 1) xs e y o
+          bound l d none F q = absurd F
+          bound l d (some τ) F q =
+              record { ps = N .ps; ts = N .ts; σ = τ; rest = N .rest; left = l; patterns = N .patterns; here = d; fine = N .fines; count = N .count; means = F; outcome = q }
+
+  letter-off : (e : ℕ) → k < length P → getD P k 0 < 3 → Ends xs i e → Meets xs z (getD P k 0) i e Unbound → Pending P k xs i z o → Found xs Unbound o
+  letter-off e h g E M S = let A = met (next h S) e Unbound g E M in unmet (A .2 .0) (A .2 .1) (A .2 .2)
+    where
+      unmet : (m : Option Bindings) → Found xs Unbound m → after m (λ u. match-all (next h S .ps) (next h S .ts) u) ≡ o → Found xs Unbound o
+      unmet none F q = rw (← q) tt
+      unmet (some τ) F q = absurd F
+
+  term-code : (N : Next P k xs i z o) → drop i xs ≡ code (N .t) ∷ (runs (args (N .t) ++ N .ts) ++ N .rest)
+  term-code N = N .here ∙ sym (append-assoc (run (N .t)) (runs (N .ts)) (N .rest)) ∙ ap (λ l. l ++ N .rest) (run-code (N .t) (N .ts))
+
+  same-code : (N : Next P k xs i z o) → getD xs i 0 ≡ code (N .t)
+  same-code N = drop-head xs i (code (N .t)) (runs (args (N .t) ++ N .ts) ++ N .rest) (term-code N) .1
+
+  node-of : (N : Next P k xs i z o) → 3 ≤ getD P k 0 → Node (N .p) (N .t)
+  node-of N g = node (N .p) (N .t) (omega (arith, first-code N)) (N .pattern) (N .fine)
+
+  node-on : k < length P → 3 ≤ getD P k 0 → getD xs i 0 ≡ getD P k 0 → Pending P k xs i z o → Pending P (k + 1) xs (i + 1) z o
+  node-on h g e S = on (next h S)
+    where
+      on : (N : Next P k xs i z o) → Pending P (k + 1) xs (i + 1) z o
+      on N =
+          let D = node-of N g .on (omega (arith, same-code N, first-code N)) in
+          record {
+            ps = args (N .p) ++ N .ps;
+            ts = args (N .t) ++ N .ts;
+            σ = N .σ;
+            rest = N .rest;
+            left = drop-head P k (code (N .p)) (runs (args (N .p) ++ N .ps)) (N .left) .2;
+            patterns = args-patterns (N .p) (N .ps) (N .pattern) (N .patterns);
+            here = drop-head xs i (code (N .t)) (runs (args (N .t) ++ N .ts) ++ N .rest) (term-code N) .2;
+            fine = args-fine (N .t) (N .ts) (N .fine) (N .fines);
+            count = omega (arith, length-append (args (N .p)) (N .ps), length-append (args (N .t)) (N .ts), D .0, N .count);
+            means = N .means;
+            outcome = sym (D .1 (N .ps) (N .ts) (N .σ)) ∙ N .outcome;
+          }
+
+  node-off : k < length P → 3 ≤ getD P k 0 → (getD xs i 0 ≡ getD P k 0 → ⊥) → Pending P k xs i z o → Found xs Unbound o
+  node-off h g e S = off (next h S)
+    where
+      off : (N : Next P k xs i z o) → Found xs Unbound o
+      off N = rw (← (N .outcome), node-of N g .off (λ q. e (omega (arith, same-code N, first-code N))) (N .ps) (N .ts) (N .σ)) tt
+
+  node-short : k < length P → length xs ≤ i → Pending P k xs i z o → Found xs Unbound o
+  node-short h b S = absurd (short (next h S))
+    where
+      short : (N : Next P k xs i z o) → ⊥
+      short N = omega (arith, drop-head xs i (code (N .t)) (runs (args (N .t) ++ N .ts) ++ N .rest) (term-code N) .0)
+
+  finish : length P ≤ k → Pending P k xs i z o → Found xs (Bound z) o
+  unfolding match-all
+  finish h S = go (S .ps) (S .left) (S .outcome)
+    where
+      go : (ps : List Term) → drop k P ≡ runs ps → match-all ps (S .ts) (S .σ) ≡ o → Found xs (Bound z) o
+      go [] l q = rw (← q) (S .means)
+      go (p ∷ ps) l q = absurd (omega (arith, length-run p, size-pos p, length-append (run p) (runs ps), ap length (sym (drop-of-length-le P h) ∙ l)))
+
+-- the same of every pattern and term that the two runs spell, from the bindings that z₀ means
+
+pub matching-starts : (P xs : List ℕ) (at : ℕ) (z : Spans) → Matching P xs at z (Pending P 0 xs at z)
+unfolding match-all
+matching-starts P xs at z p t σ M hp g ht =
+    record {
+      ps = p ∷ [];
+      ts = t ∷ [];
+      σ = σ;
+      rest = ht .rest;
+      left = hp .whole ∙ sym (append-nil (run p));
+      patterns = (g, tt);
+      here = ht .here ∙ ap (λ l. l ++ ht .rest) (sym (append-nil (run t)));
+      fine = (ht .fine, tt);
+      count = refl;
+      means = M;
+      outcome = after-some (match p t σ);
+    }
+  where
+    after-some : (o : Option Bindings) → after o (λ u. some u) ≡ o
+    after-some none = refl
+    after-some (some u) = refl
+
+pub end-within : (xs : List ℕ) (i e : ℕ) → Ends xs i e → i ≤ length xs → e ≤ length xs
+end-within xs i e E = E .within
+
+pub bound-within : (xs : List ℕ) (z : Spans) (x i e : ℕ) (r : Binding) (y : Spans) → Meets xs z x i e r → r ≡ Bound y → Within (length xs) y
+bound-within xs z x i e r y M q = (rw q at M) .within
+
+module _ (P : List ℕ) (k : ℕ) (xs : List ℕ) (at i : ℕ) (z₀ z : Spans) (S : Matching P xs at z₀ (Pending P k xs i z)) where
+  pub letter-bound : (e : ℕ) (r : Binding) (y : Spans) → k < length P → getD P k 0 < 3 → Ends xs i e → Meets xs z (getD P k 0) i e r → r ≡ Bound y
+      → Matching P xs at z₀ (Pending P (k + 1) xs e y)
+  letter-bound e r y h g E M q p t σ m hp gp ht = letter-on P k xs i z (match p t σ) e y h g E (rw q at M) (S p t σ m hp gp ht)
+
+  pub letter-unbound : (e : ℕ) (r : Binding) → k < length P → getD P k 0 < 3 → Ends xs i e → Meets xs z (getD P k 0) i e r → r ≡ Unbound
+      → Matching P xs at z₀ (Found xs Unbound)
+  letter-unbound e r h g E M q p t σ m hp gp ht = letter-off P k xs i z (match p t σ) e h g E (rw q at M) (S p t σ m hp gp ht)
+
+  pub node-matched : k < length P → 3 ≤ getD P k 0 → getD xs i 0 ≡ getD P k 0 → Matching P xs at z₀ (Pending P (k + 1) xs (i + 1) z)
+  node-matched h g e p t σ m hp gp ht = node-on P k xs i z (match p t σ) h g e (S p t σ m hp gp ht)
+
+  pub node-unmatched : k < length P → 3 ≤ getD P k 0 → (getD xs i 0 ≡ getD P k 0 → ⊥) → Matching P xs at z₀ (Found xs Unbound)
+  node-unmatched h g e p t σ m hp gp ht = node-off P k xs i z (match p t σ) h g e (S p t σ m hp gp ht)
+
+  pub node-absent : k < length P → length xs ≤ i → Matching P xs at z₀ (Found xs Unbound)
+  node-absent h b p t σ m hp gp ht = node-short P k xs i z (match p t σ) h b (S p t σ m hp gp ht)
+
+  pub matching-ends : length P ≤ k → Matching P xs at z₀ (Found xs (Bound z))
+  matching-ends h p t σ m hp gp ht = finish P k xs i z (match p t σ) h (S p t σ m hp gp ht)

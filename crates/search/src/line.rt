@@ -1,0 +1,108 @@
+// One line of a law at one place of a term, put together as a run in a buffer.
+ghost use Prim.Native.Nat.{_≤_};
+ghost use lib.ListN.{length};
+ghost use Rattle.search.specs.Span.{Within};
+ghost use Rattle.search.specs.Filled.{Fills};
+ghost use Rattle.search.specs.Spliced.{Finishes, Splices, Rewrites, Tries};
+use crate::search;
+use crate::search::Binding;
+use crate::search::Direction;
+use crate::search::Law;
+use crate::search::Spans;
+use terms::term;
+
+// Where a run that was put in a buffer ends.
+pub enum Filled {
+    To(usize),
+    Nothing,
+}
+
+// Puts the run of a law's side, with the bound parts for its letters, after the first `n` numbers of a buffer.
+fn fill(q: &[u32], s: &[u32], z: Spans, out: &mut [u32], n: usize) -> Filled
+    requires { ⌜ (n ≤ length (now out)) × Within (length (now s)) z ⌝ }
+    ensures { λ r. ⌜ Fills (now (q .entry)) (now (s .entry)) z (now (out .entry)) (now (out .exit)) n r ⌝ }
+{
+    let mut m = n;
+    let mut k = 0;
+    while k < q.len() {
+        let x = q[k];
+        k += 1;
+        if x < 3 {
+            let v = search::span_of(z, x);
+            let from = v.at;
+            let len = v.len;
+            if len == 0 {
+                return Filled::Nothing;
+            }
+            if out.len() - m < len {
+                return Filled::Nothing;
+            }
+            m = search::append(out, m, &s[from..from + len]);
+        } else {
+            if out.len() <= m {
+                return Filled::Nothing;
+            }
+            out[m] = x;
+            m += 1;
+        }
+    }
+    Filled::To(m)
+}
+
+// Ends a splice: puts what follows `end` in s after the first `m` numbers of the buffer, unless its part from `n` on is the part of s that it replaces.
+fn finish(s: &[u32], at: usize, end: usize, out: &mut [u32], n: usize, m: usize) -> Filled
+    requires { ⌜ (at ≤ end) × (end ≤ length (now s)) × (n ≤ m) × (m ≤ length (now out)) ⌝ }
+    ensures { λ r. ⌜ Finishes (now (s .entry)) at end (now (out .entry)) n m (now (out .exit)) r ⌝ }
+{
+    if term::equal(&out[n..m], &s[at..end]) {
+        return Filled::Nothing;
+    }
+    if out.len() - m < s.len() - end {
+        return Filled::Nothing;
+    }
+    Filled::To(search::append(out, m, &s[end..]))
+}
+
+// Puts the run of s, with a filled side of a law in place of the part from `at` to `end`, at the front of a buffer.
+fn splice(q: &[u32], s: &[u32], z: Spans, at: usize, end: usize, out: &mut [u32]) -> Filled
+    requires { ⌜ (at ≤ end) × (end ≤ length (now s)) × Within (length (now s)) z ⌝ }
+    ensures { λ r. ⌜ Splices (now (q .entry)) (now (s .entry)) z at end (length (now (out .entry))) (now (out .exit)) r ⌝ }
+{
+    if out.len() < at {
+        return Filled::Nothing;
+    }
+    let n = search::append(out, 0, &s[0..at]);
+    let Filled::To(m) = fill(q, s, z, out, n) else {
+        return Filled::Nothing;
+    };
+    finish(s, at, end, out, n, m)
+}
+
+// The line of a law at a place: p and q are the runs of its sides, read from p to q, and the place is the part of s that starts at `at`.
+// The run of its result stands at the front of the buffer. There is none where p does not match, a letter of q is not known, the
+// result is s itself or the buffer is too short.
+fn line(p: &[u32], q: &[u32], s: &[u32], at: usize, out: &mut [u32]) -> Filled
+    requires { ⌜ at ≤ length (now s) ⌝ }
+    ensures { λ r. ⌜ Rewrites (now (p .entry)) (now (q .entry)) (now (s .entry)) at (length (now (out .entry))) (now (out .exit)) r ⌝ }
+{
+    let Binding::Bound(z) = search::bind(p, s, at, search::no_spans()) else {
+        return Filled::Nothing;
+    };
+    let end = term::end_of(s, at);
+    splice(q, s, z, at, end, out)
+}
+
+// The line of a law at the subterm that starts at `at`. The run of its result stands at the front of the buffer.
+pub fn law_line(law: Law, direction: Direction, s: &[u32], at: usize, out: &mut [u32]) -> Filled
+    requires { ⌜ at ≤ length (now s) ⌝ }
+    ensures { λ r. ⌜ Tries law direction (now (s .entry)) at (length (now (out .entry))) (now (out .exit)) r ⌝ }
+{
+    let row = search::row_of(law);
+    let left = 1 + row[0] as usize;
+    let right = 9 + row[8] as usize;
+    let sides = &row[..];
+    match direction {
+        Direction::Forward => line(&sides[1..left], &sides[9..right], s, at, out),
+        Direction::Back => line(&sides[9..right], &sides[1..left], s, at, out),
+    }
+}
