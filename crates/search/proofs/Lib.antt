@@ -17,3 +17,4 @@ pub mod Noting
 pub mod Sorting
 pub mod Keeping
 pub mod Running
+pub mod Resulting
