@@ -18,3 +18,4 @@ pub mod Sorting
 pub mod Keeping
 pub mod Running
 pub mod Resulting
+pub mod InTurn

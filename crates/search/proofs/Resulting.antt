@@ -1,11 +1,11 @@
 -- The results of an opened term, in term order after each line that is tried.
-use Prim.Native.Nat.{ℕ, suc, _+_, _*_, _≤_, _<_}
+use Prim.Native.Nat.{ℕ, _+_, _≤_, _<_}
 use native.Mathlib.Omega.{arith}
 use mathlib.Core.Path.{_≡_, refl, sym, ap, _∙_}
 use mathlib.Core.Logic.{⊎-elim}
 use mathlib.Core.Bool.{Bool, true, false, cond, _&&_}
 use mathlib.Core.Option.{Option, none, some}
-use mathlib.Core.List.{List, [], _∷_, _++_, map, foldl, foldl-append}
+use mathlib.Core.List.{List, [], _∷_, _++_, foldl-append}
 use borrow.Author.Tests.{le-leb, lt-leb}
 use lib.Dec.{leb}
 use lib.ListN.{length, take}
@@ -19,12 +19,14 @@ use Rattle.terms.specs.Theory.Held.{size-of}
 use Rattle.search.specs.Law as law
 use Rattle.search.specs.Line as line
 use Rattle.search.specs.Line.{Line, Limits, by-result, within, allowed, changed, at-root, from, to, rewrite}
-use Rattle.search.specs.Place.{subterm-at, place-at, placed}
-use Rattle.search.specs.Coded.{name-of, law-of, direction-of}
+use Rattle.search.specs.Place.{subterm-at, placed}
+use Rattle.search.specs.Coded.{law-of, direction-of}
 use Rattle.search.specs.Spliced.{kept, tried, Gives, Tries}
 use Rattle.search.specs.Slots.{Marks}
 use Rattle.search.specs.Ordered.{Ordered, Keeps}
 use Rattle.search.specs.Resulted.{line-of, Adds}
+use Rattle.search.specs.declared.search.Law.{Law}
+use Rattle.search.specs.declared.search.Direction.{Direction}
 use Rattle.search.specs.declared.bounded_search.Step.{Step}
 use Rattle.search.specs.declared.line.Filled.{Filled}
 use Rattle.search.specs.declared.line.Filled.the-variants.{To, Nothing}
@@ -145,6 +147,9 @@ module _ {xs : List ℕ} {room deep from : ℕ} where
 
 -- a step tried
 
+pub tries-within : {w : Law} {d : Direction} {xs : List ℕ} {at room : ℕ} {out : List ℕ} {f : Filled} {k : ℕ} → Tries w d xs at room out f → f ≡ To k → k ≤ room
+tries-within T e = (rw e at T) .within .1
+
 module _ (s : Step) (xs : List ℕ) (room deep : ℕ) (out res order : List ℕ) (count : ℕ) (f : Filled) (inside : s .place < length xs)
     (T : Tries (s .law) (s .direction) xs (s .place) room out f) where
   -- the line that is tried decides what the limits allow
@@ -173,9 +178,6 @@ module _ (s : Step) (xs : List ℕ) (room deep : ℕ) (out res order : List ℕ)
       go t m ys O (z ∷ zs) G = absurd G
 
   module _ (k : ℕ) (e : f ≡ To k) (whole : length out ≡ room) where
-    pub tried-within : k ≤ room
-    tried-within = (rw e at T) .within .1
-
     -- one line, whose result stands at the front of the buffer
     by-line : (res′ order′ : List ℕ) (r : ℕ) → count ≤ r → r ≤ count + 1
         → ((t : Term) (m : Limits) (ys : List Line) (x : Line) → m .depth ≡ deep → Ordered t (s .parent) res count (take count order) ys → size (x .result) ≤ m .size
@@ -186,7 +188,7 @@ module _ (s : Step) (xs : List ℕ) (room deep : ℕ) (out res order : List ℕ)
         go : (t : Term) (m : Limits) (ys : List Line) → m .size ≡ room → m .depth ≡ deep → Ordered t (s .parent) res count (take count order) ys
             → (zs : List Line) → Gives out (To k) zs → ((z : Line) → z ∈ zs → Marks s t z) → Ordered t (s .parent) res′ r (take r order′) (insert-all lost by-result ys (allowed m zs))
         go t m ys q d O [] G M = absurd G
-        go t m ys q d O (x ∷ []) G M = g t m ys x d O (omega (arith, size-of G, length-take-le k out (omega (arith, tried-within)), tried-within)) G (M x (here refl))
+        go t m ys q d O (x ∷ []) G M = g t m ys x d O (omega (arith, size-of G, length-take-le k out (omega (arith, tries-within T e)), tries-within T e)) G (M x (here refl))
         go t m ys q d O (x ∷ y ∷ zs) G M = absurd G
 
     module _ (v : ℕ) (D : Deep (take k out) v) where

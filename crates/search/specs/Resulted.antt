@@ -2,7 +2,7 @@
 use Prim.Native.Nat.{ℕ, _+_, _≤_}
 use mathlib.Core.Path.{_≡_}
 use mathlib.Core.List.{List, map}
-use lib.ListN.{length, take}
+use lib.ListN.{take}
 use Rattle.terms.specs.Term.{Term, size}
 use Rattle.terms.specs.Held.{IsRun}
 use Rattle.terms.specs.Sort.{lost, insert-all}
