@@ -1,14 +1,18 @@
 -- The laws and directions of the code by number: each is read back from its number, and stands for the law of its name.
-use Prim.Native.Nat.{ℕ, zero, suc, _<_}
+use Prim.Native.Nat.{ℕ, zero, suc, _+_, _≤_, _<_}
 use native.Mathlib.Omega.{arith}
-use mathlib.Core.Path.{_≡_, refl}
+use native.Mathlib.Numerals.{add-one}
+use mathlib.Core.Path.{_≡_, refl, ap, _∙_}
 use mathlib.Core.Logic.{⊎-elim}
 use mathlib.Core.Bool.{Bool, true, _&&_}
+use mathlib.Core.List.{[], _∷_, map}
 use lib.Dec.{T, eqb, eqb→eq}
+use lib.ListN.{drop, drop-of-length-le}
+use lib.Seq.{drop-cons}
 use Rattle.terms.specs.Theory.Reflects.{both}
 use Rattle.terms.specs.Theory.Order.{below?}
 use Rattle.search.specs.Law.{semiring}
-use Rattle.search.specs.Coded.{name-of, law-number, numbered-law, law-at, law-of, direction-number, numbered-direction}
+use Rattle.search.specs.Coded.{name-of, laws, law-number, numbered-law, law-at, law-of, direction-number, numbered-direction}
 use Rattle.search.specs.declared.search.Law.{Law}
 use Rattle.search.specs.declared.search.Law.the-variants.{AddAssoc, AddComm, AddZeroRight, MulAssoc, MulOneLeft, MulOneRight, LeftDistrib, RightDistrib, ZeroMul, MulZero}
 use Rattle.search.specs.declared.search.Direction.{Direction}
@@ -31,14 +35,31 @@ each-law P h MulZero = h .9
 pub law-read-back : (w : Law) → numbered-law (law-number w) ≡ w
 law-read-back = each-law (λ w. numbered-law (law-number w) ≡ w) (refl, refl, refl, refl, refl, refl, refl, refl, refl, refl)
 
+pub number-below : (w : Law) → law-number w < 10
+number-below = each-law (λ w. law-number w < 10) (omega arith, omega arith, omega arith, omega arith, omega arith, omega arith, omega arith, omega arith, omega arith, omega arith)
+
 pub direction-read-back : (d : Direction) → numbered-direction (direction-number d) ≡ d
 direction-read-back Forward = refl
 direction-read-back Back = refl
 
--- each law of the code stands for the law of its name
+-- the laws of the code, in order, are the law list
+pub laws-are : map law-of laws ≡ semiring
+unfolding law-at semiring
+laws-are = refl
+
+-- each stands for the law of its name
 pub law-named : (w : Law) → law-of w .name ≡ name-of w
 unfolding law-at semiring
 law-named = each-law (λ w. law-of w .name ≡ name-of w) (refl, refl, refl, refl, refl, refl, refl, refl, refl, refl)
+
+-- the laws from a number on
+pub laws-left : (n : ℕ) → n < 10 → drop n semiring ≡ law-at n ∷ drop (n + 1) semiring
+unfolding law-at semiring
+laws-left n h = rw add-one (drop-cons semiring n _ h)
+
+pub no-laws-left : (n : ℕ) → 10 ≤ n → drop n semiring ≡ []
+unfolding semiring
+no-laws-left n h = drop-of-length-le semiring h
 
 -- a test of the numbers below k
 every : (ℕ → Bool) → ℕ → Bool
@@ -55,3 +76,7 @@ every-below f (suc k) n h p =
 pub number-read-back : (n : ℕ) → n < 10 → law-number (numbered-law n) ≡ n
 unfolding every
 number-read-back n h = eqb→eq (law-number (numbered-law n)) n (every-below (λ n. eqb (law-number (numbered-law n)) n) 10 n tt h)
+
+-- the law that a number stands for
+pub law-numbered : (w : Law) (n : ℕ) → n < 10 → w ≡ numbered-law n → law-of w ≡ law-at n
+law-numbered w n h e = ap law-at (ap law-number e ∙ number-read-back n h)

@@ -1,13 +1,11 @@
 -- The direct match, law by law: the laws before the n-th do not match, so that what is left of the list decides.
 use Prim.Native.Nat.{ℕ, _+_, _≤_, _<_}
 use native.Mathlib.Omega.{arith}
-use native.Mathlib.Numerals.{add-one}
 use mathlib.Core.Path.{_≡_, refl, sym, ap, _∙_}
 use mathlib.Core.Option.{Option, none, some}
-use mathlib.Core.List.{List, [], _∷_, _++_, append-assoc}
-use lib.ListN.{length, take, drop, getD, take-append-drop, drop-of-length-le}
-use lib.Seq.{drop-cons}
-use Rattle.terms.specs.Term.{Term, size}
+use mathlib.Core.List.{List, _∷_, _++_, append-assoc}
+use lib.ListN.{length, take, drop, getD, take-append-drop}
+use Rattle.terms.specs.Term.{Term}
 use Rattle.terms.specs.Run.{run}
 use Rattle.terms.specs.Held.{IsRun, Holds}
 use Rattle.terms.specs.Theory.Held.{size-of}
@@ -17,16 +15,16 @@ use Rattle.search.specs.Law.{Name, semiring}
 use Rattle.search.specs.Match.{Bindings, unbound, match}
 use Rattle.search.specs.Search.{direct}
 use Rattle.search.specs.Span.{no-spans, Found, Matches}
-use Rattle.search.specs.Coded.{name-of, law-number, numbered-law, law-at, law-of, Row}
+use Rattle.search.specs.Coded.{name-of, numbered-law, law-of, Row}
 use Rattle.search.specs.Spliced.{part}
-use Rattle.search.specs.Directly.{match-sides, direct-name, BindsSides, TakesFirst, Directs}
+use Rattle.search.specs.Directly.{match-sides, BindsSides, TakesFirst, Directs}
 use Rattle.search.specs.declared.search.Law.{Law}
 use Rattle.search.specs.declared.search.Spans.{Spans}
 use Rattle.search.specs.declared.search.Binding.{Binding}
 use Rattle.search.specs.declared.search.Binding.the-variants.{Bound, Unbound}
 use Rattle.search.specs.declared.search.Direct.{Direct}
 use Rattle.search.specs.declared.search.Direct.the-variants.{By, Nothing}
-use Rattle.search.proofs.Coded.{law-named, number-read-back}
+use Rattle.search.proofs.Coded.{law-named, laws-left, no-laws-left, law-numbered}
 use Rattle.search.proofs.Spans.{means-unbound}
 use Rattle.search.proofs.Trying.{side-run}
 
@@ -78,25 +76,14 @@ pub record Passing (xs : List ℕ) (middle n : ℕ) : Type 0 where
 pub passing-starts : (xs : List ℕ) (middle : ℕ) → Passing xs middle 0
 passing-starts xs middle = record { left = λ s t hs ht. refl }
 
-ten : length semiring ≡ 10
-unfolding semiring
-ten = refl
-
-laws-left : (n : ℕ) → n < 10 → drop n semiring ≡ law-at n ∷ drop (n + 1) semiring
-unfolding law-at
-laws-left n h = rw add-one (drop-cons semiring n _ (omega (arith, ten)))
-
 module _ (xs : List ℕ) (middle n : ℕ) (P : Passing xs middle n) where
   module _ (w : Law) (r : Binding) (h : n < 10) (e : w ≡ numbered-law n) (B : BindsSides w xs middle r) where
-    this-law : law-of w ≡ law-at n
-    this-law = ap law-at (ap law-number e ∙ number-read-back n h)
-
     -- what the search gives, by what was found of this law
     decided : (s t : Term) → Holds xs 0 s → Holds xs middle t → (o : Option Bindings) → match-sides (law-of w) s t ≡ o
         → direct semiring s t ≡ first-of o (name-of w) (direct (drop (n + 1) semiring) s t)
     decided s t hs ht o f =
         P .left s t hs ht
-        ∙ ap (λ ws. direct ws s t) (laws-left n h ∙ ap (λ v. v ∷ drop (n + 1) semiring) (sym this-law))
+        ∙ ap (λ ws. direct ws s t) (laws-left n h ∙ ap (λ v. v ∷ drop (n + 1) semiring) (sym (law-numbered w n h e)))
         ∙ direct-one (law-of w) (drop (n + 1) semiring) s t
         ∙ rw (f, law-named w)
 
@@ -118,7 +105,7 @@ module _ (xs : List ℕ) (middle n : ℕ) (P : Passing xs middle n) where
 
   pub no-law : 10 ≤ n → TakesFirst xs middle Nothing
   unfolding direct
-  no-law h = let k : length semiring ≤ n = omega (arith, ten) in record { exact = λ s t hs ht. sym (P .left s t hs ht ∙ rw (drop-of-length-le semiring k)) }
+  no-law h = record { exact = λ s t hs ht. sym (P .left s t hs ht ∙ rw (no-laws-left n h)) }
 
 -- the two runs in one list
 

@@ -1,22 +1,22 @@
 -- Terms put in for a law's letters, on runs: number by number, each letter gives way to its part.
-use Prim.Native.Nat.{ℕ, suc, _+_, _-_, _≤_, _<_}
+use Prim.Native.Nat.{ℕ, _+_, _-_, _≤_, _<_}
 use native.Mathlib.Omega.{arith}
 use mathlib.Core.Path.{_≡_, refl, sym, ap, _∙_}
-use mathlib.Core.Bool.{Bool, true, false, cond}
+use mathlib.Core.Bool.{cond}
 use mathlib.Core.Option.{Option, none, some, Option·map}
 use mathlib.Core.List.{List, [], _∷_, _++_, append-assoc, append-nil}
 use lib.Dec.{ltb, eqb}
 use lib.ListN.{length, take, drop, getD, set, length-append, length-take, length-drop, drop-of-length-le}
 use borrow.Author.Tests.{lt-ltb, le-ltb, eq-eqb, ne-eqb}
-use Rattle.terms.specs.Term.{Term, letter, zero, one, add, mul, size}
-use Rattle.terms.specs.Run.{ZERO, ONE, ADD, MUL, run}
-use Rattle.terms.specs.Held.{IsRun, Holds}
+use Rattle.terms.specs.Term.{Term, letter, zero, one, add, mul}
+use Rattle.terms.specs.Run.{ADD, MUL, run}
+use Rattle.terms.specs.Held.{IsRun}
 use Rattle.terms.specs.Theory.Held.{length-run}
 use Rattle.terms.proofs.Positions.{drop-one}
 use Rattle.terms.proofs.Held.{held-part, size-pos}
 use Rattle.search.specs.Match.{Bindings, put, join}
 use Rattle.search.specs.Span.{span-of, Pattern, Meant, Means}
-use Rattle.search.specs.Filled.{Holding, Between, Fills}
+use Rattle.search.specs.Filled.{Holding, Fills}
 use Rattle.search.specs.declared.search.Span.{Span}
 use Rattle.search.specs.declared.search.Spans.{Spans}
 use Rattle.search.specs.declared.line.Filled.{Filled}

@@ -2,17 +2,16 @@
 use Prim.Native.Nat.{ℕ, suc, _+_, _*_, _≤_, _<_}
 use native.Mathlib.Omega.{arith}
 use native.Mathlib.Numerals.{add-one}
-use mathlib.Core.Path.{_≡_, refl, sym, ap, _∙_}
+use mathlib.Core.Path.{_≡_, refl, ap, _∙_}
 use mathlib.Core.List.{List, [], _∷_, _++_}
-use lib.ListN.{length, take, drop, getD, length-take}
+use lib.ListN.{length, take, drop, getD}
 use lib.Seq.{take-suc, take-at, length-take-le}
 use Rattle.terms.specs.Term.{Term}
-use Rattle.terms.specs.Held.{IsRun}
 use Rattle.terms.specs.Numbers.{put-in}
 use Rattle.terms.proofs.Inserted.{put-in-room}
 use Rattle.search.specs.Line.{Line}
-use Rattle.search.specs.Slots.{SLOT, Marks, Writes}
-use Rattle.search.specs.Ordered.{Result, Ordered, none, more, inserted, Goes, Spotted, Keeps}
+use Rattle.search.specs.Slots.{SLOT, Writes}
+use Rattle.search.specs.Ordered.{Result, Ordered, none, more, Spotted, Keeps}
 use Rattle.search.specs.declared.bounded_search.Step.{Step}
 use Rattle.search.specs.declared.bounded_search.Origin.the-variants.{From}
 use Rattle.search.specs.declared.bounded_search.Spot.{Spot}

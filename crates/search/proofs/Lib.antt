@@ -3,6 +3,7 @@ pub mod Coded
 pub mod Rows
 pub mod Spans
 pub mod Meeting
+pub mod Pairs
 pub mod Matching
 pub mod Front
 pub mod Filling

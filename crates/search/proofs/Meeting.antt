@@ -11,7 +11,7 @@ use Rattle.terms.specs.Held.{Holds}
 use Rattle.terms.specs.Promises.{Equals}
 use Rattle.terms.proofs.Held.{held-part, size-pos}
 use Rattle.search.specs.Match.{Bindings, meet, if-same}
-use Rattle.search.specs.Span.{span-of, with-span, Meant, Means, Within, Found, BoundWithin, Meets}
+use Rattle.search.specs.Span.{span-of, with-span, Meant, Means, Within, Found, Meets}
 use Rattle.search.specs.declared.search.Span.{Span}
 use Rattle.search.specs.declared.search.Spans.{Spans}
 use Rattle.search.specs.declared.search.Binding.{Binding}

@@ -34,6 +34,11 @@ module _ (t : Term) (n : Noted) where
 abbrev pub Going : List ℕ → ℕ → List ℕ → ℕ → Type 0
 Going ws count xs k = (ns : List Noted) (t : Term) → Slots ws ns → length ns ≡ count → IsRun xs t → is-noted t (take k ns) ≡ is-noted t ns
 
+-- what a comparison with the last of them says
+abbrev pub Tells : List ℕ → ℕ → List ℕ → ℕ → Bool → Type 0
+Tells ws count xs k true = Finds ws count xs true
+Tells ws count xs k false = Going ws count xs (k - 1)
+
 pub going-starts : (ws : List ℕ) (count : ℕ) (xs : List ℕ) → Going ws count xs count
 going-starts ws count xs ns t S c h = ap (is-noted t) (take-all count ns (omega arith))
 
@@ -44,19 +49,13 @@ module _ (ws : List ℕ) (count : ℕ) (xs : List ℕ) (k : ℕ) (G : Going ws c
         let e : k ≡ suc (k - 1) = omega arith in
         ap (is-noted t) (sym (ap (λ i. take i ns) e ∙ take-suc ns (k - 1) (record { term = zero; trail = [] }) (omega arith))) ∙ G ns t S c ht
 
-    module _ (b : Bool) (e : Equals xs (run-in ws (k - 1)) b) where
-      same-is : (ns : List Noted) (t : Term) → Slots ws ns → length ns ≡ count → IsRun xs t → same t (noted-at ns (k - 1) .term) ≡ b
-      same-is ns t S c ht = sym (e .terms t (noted-at ns (k - 1) .term) ht (run-spelled (S .slot (k - 1) (omega arith) .run)))
+    same-is : {b : Bool} → Equals xs (run-in ws (k - 1)) b → (ns : List Noted) (t : Term) → Slots ws ns → length ns ≡ count → IsRun xs t → same t (noted-at ns (k - 1) .term) ≡ b
+    same-is e ns t S c ht = sym (e .terms t (noted-at ns (k - 1) .term) ht (run-spelled (S .slot (k - 1) (omega arith) .run)))
 
-      pub found-here : b ≡ true → Finds ws count xs true
-      found-here j =
-          record {
-            exact = λ ns t S c ht. sym (last-noted t (noted-at ns (k - 1)) (take (k - 1) ns) (same-is ns t S c ht ∙ j)) ∙ next ns t S c ht;
-          }
-
-      pub not-here : b ≡ false → Going ws count xs (k - 1)
-      not-here j ns t S c ht =
-          sym (noted-before t (noted-at ns (k - 1)) (take (k - 1) ns) (same-is ns t S c ht ∙ j)) ∙ next ns t S c ht
+    pub tells : (b : Bool) → Equals xs (run-in ws (k - 1)) b → Tells ws count xs k b
+    tells true e =
+        record { exact = λ ns t S c ht. sym (last-noted t (noted-at ns (k - 1)) (take (k - 1) ns) (same-is e ns t S c ht)) ∙ next ns t S c ht }
+    tells false e = λ ns t S c ht. sym (noted-before t (noted-at ns (k - 1)) (take (k - 1) ns) (same-is e ns t S c ht)) ∙ next ns t S c ht
 
     -- no noted run is that long
     pub too-long : 31 < getD ws (SLOT * (k - 1)) 0 → Going ws count xs (k - 1)

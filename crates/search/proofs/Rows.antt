@@ -1,9 +1,9 @@
--- The table of the laws' sides, made from the law list: that each row has a law's sides is one test, computed over the list.
+-- The rows of the laws' sides: that the row made from a law has its sides is one test, computed over the law list.
 use Prim.Native.Nat.{ℕ, zero, suc, _+_, _<_}
 use native.Mathlib.Omega.{arith}
-use mathlib.Core.Path.{_≡_, refl}
+use mathlib.Core.Path.{_≡_}
 use mathlib.Core.Bool.{Bool, true, false, _&&_}
-use mathlib.Core.List.{List, [], _∷_, _++_, map}
+use mathlib.Core.List.{List, [], _∷_, _++_}
 use lib.Dec.{T, isEq, eqb, eqb→eq, ltb, ltb→lt, leb, leb→le}
 use lib.ListN.{length, take, drop, getD}
 use Rattle.terms.specs.Compare.{then, lexicographic, order-numbers}
@@ -19,7 +19,7 @@ use Rattle.search.specs.Law.{semiring}
 use Rattle.search.specs.Span.{Pattern}
 use Rattle.search.specs.Coded.{law-number, law-at, law-of, SideAt, Row}
 use Rattle.search.specs.declared.search.Law.{Law}
-use Rattle.search.proofs.Coded.{each-law}
+use Rattle.search.proofs.Coded.{number-below}
 
 -- how many numbers a side has, its run, and zeros up to the eighth number
 unfoldable pub side-row : Term → List ℕ
@@ -28,9 +28,6 @@ side-row t = take 8 (length (run t) ∷ (run t ++ (0 ∷ 0 ∷ 0 ∷ 0 ∷ 0 ∷
 -- the left side, then the right
 unfoldable pub row : law.Law → List ℕ
 row w = side-row (w .left) ++ side-row (w .right)
-
-abbrev pub table : List (List ℕ)
-table = map row semiring
 
 -- the test of one side
 
@@ -86,15 +83,12 @@ are-rows : List law.Law → Bool
 are-rows [] = true
 are-rows (w ∷ ws) = is-row (row w) w && are-rows ws
 
-rows-are : (ws : List law.Law) → T (are-rows ws) → (n : ℕ) → n < length ws → (w : law.Law) → Row (getD (map row ws) n []) (getD ws n w)
+rows-are : (ws : List law.Law) → T (are-rows ws) → (n : ℕ) → n < length ws → (w : law.Law) → Row (row (getD ws n w)) (getD ws n w)
 unfolding are-rows
 rows-are [] h n k w = absurd (omega arith)
 rows-are (v ∷ ws) h zero k w = row-is (row v) v (both (is-row (row v) v) (are-rows ws) h .0)
 rows-are (v ∷ ws) h (suc n) k w = rows-are ws (both (is-row (row v) v) (are-rows ws) h .1) n (omega arith) w
 
-pub row-at : (n : ℕ) → n < 10 → Row (getD table n []) (law-at n)
+pub law-row : (w v : Law) → w ≡ v → Row (row (law-of v)) (law-of w)
 unfolding law-at are-rows is-row has-side is-pattern row side-row run semiring lexicographic then
-row-at n h = rows-are semiring tt n h _
-
-pub row-of-law : (w : Law) (n : ℕ) → n ≡ law-number w → n < 10 → Row (getD table n []) (law-of w)
-row-of-law w n e h = rw (← e) (row-at n h)
+law-row w v e = rw e (rows-are semiring tt (law-number v) (number-below v) _)

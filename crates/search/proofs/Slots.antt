@@ -6,17 +6,17 @@ use native.Mathlib.Numerals.{towards-suc}
 use mathlib.Core.Path.{_≡_, refl, sym, ap, _∙_}
 use mathlib.Core.Logic.{_⊎_, inl, inr}
 use mathlib.Core.List.{List, [], _∷_, _++_}
-use lib.ListN.{length, take, drop, getD, set, length-set, length-append, List·getD-append}
-use lib.Seq.{sets, length-sets, take-take, take-at, take-set-le, getD-at, length-take-le}
+use lib.ListN.{length, take, drop, getD, set, length-append, List·getD-append}
+use lib.Seq.{sets, length-sets, take-take, take-at, getD-at, length-take-le}
 use Rattle.terms.specs.Term.{Term, zero, size}
-use Rattle.terms.specs.Held.{IsRun, Holds}
+use Rattle.terms.specs.Held.{IsRun}
 use Rattle.terms.specs.Theory.Held.{size-of}
 use Rattle.terms.proofs.Positions.{front-getD}
 use Rattle.terms.proofs.Held.{held-part, holds-part, front-holds}
 use Rattle.search.specs.Line.{Line}
 use Rattle.search.specs.Search.{Noted, entry}
-use Rattle.search.specs.Origins.{numbers, origin-at}
-use Rattle.search.specs.Slots.{SLOT, Spells, origin-of, distance-of, Marks, noted-at, Leads, Comes, Slot, Slots, Writes, Starts, Notes}
+use Rattle.search.specs.Origins.{numbers}
+use Rattle.search.specs.Slots.{SLOT, Spells, origin-of, Marks, noted-at, Comes, Slot, Slots, Writes, Starts, Notes}
 use Rattle.search.specs.declared.bounded_search.Step.{Step}
 use Rattle.search.specs.declared.bounded_search.Origin.{Origin}
 use Rattle.search.specs.declared.bounded_search.Origin.the-variants.{Start, From}

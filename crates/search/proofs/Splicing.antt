@@ -1,17 +1,17 @@
 -- A term put in for a subterm, on runs: the run before it, the run of the new term, the run after it.
-use Prim.Native.Nat.{ℕ, suc, _+_, _-_, _≤_, _<_}
+use Prim.Native.Nat.{ℕ, _+_, _-_, _≤_, _<_}
 use native.Mathlib.Omega.{arith}
-use native.Mathlib.Nat.{sub-zero, zero-add}
+use native.Mathlib.Nat.{sub-zero}
 use mathlib.Core.Path.{_≡_, refl, sym, ap, _∙_}
-use mathlib.Core.Logic.{_⊎_, inl, inr}
+use mathlib.Core.Logic.{inl, inr}
 use mathlib.Core.Bool.{Bool, true, false}
 use mathlib.Core.Option.{Option, none, some}
-use mathlib.Core.List.{List, [], _∷_, _++_, append-assoc}
+use mathlib.Core.List.{List, _++_, append-assoc}
 use lib.ListN.{length, take, drop, length-drop}
 use lib.Seq.{length-take-le}
 use Rattle.terms.specs.Term.{Term, letter, zero, one, add, mul, size, same}
 use Rattle.terms.specs.Run.{run}
-use Rattle.terms.specs.Held.{Fine, IsRun, Holds}
+use Rattle.terms.specs.Held.{Fine, IsRun}
 use Rattle.terms.specs.Theory.Reflects.{Reflects}
 use Rattle.terms.specs.Theory.TermOrder.{same-reflects}
 use Rattle.terms.specs.Theory.Held.{size-of}

@@ -3,7 +3,7 @@ use Prim.Native.Nat.{ℕ, _+_, _-_}
 use native.Mathlib.Omega.{arith}
 use mathlib.Core.Path.{_≡_}
 use mathlib.Core.List.{List}
-use lib.ListN.{take, drop, getD}
+use lib.ListN.{getD}
 use Rattle.terms.specs.Term.{Term}
 use Rattle.terms.specs.Held.{IsRun}
 use Rattle.search.specs.Line.{forward, back, from, to}

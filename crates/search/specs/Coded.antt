@@ -40,7 +40,7 @@ laws = AddAssoc ∷ AddComm ∷ AddZeroRight ∷ MulAssoc ∷ MulOneLeft ∷ Mul
 abbrev pub numbered-law : ℕ → Law
 numbered-law n = getD laws n AddAssoc
 
--- the law with a number in the list of laws
+-- the law with a number in the law list; past 9 it is none of them
 unfoldable pub law-at : ℕ → law.Law
 law-at n = getD semiring n (record { name = law.add-assoc; left = zero; right = zero })
 

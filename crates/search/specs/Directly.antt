@@ -3,7 +3,6 @@ use Prim.Native.Nat.{ℕ, _≤_}
 use mathlib.Core.Path.{_≡_}
 use mathlib.Core.Option.{Option, none, some}
 use mathlib.Core.List.{List}
-use lib.ListN.{length}
 use Rattle.terms.specs.Term.{Term, size}
 use Rattle.terms.specs.Held.{IsRun, Holds}
 use Rattle.search.specs.Law as law

@@ -88,60 +88,36 @@ pub fn direction_of(n: u32) -> Direction
     }
 }
 
-// A row for each law, in law order: at 0 and at 8 how many numbers its left and its right side have, and after that the side's run.
-const LAWS: [[u32; 16]; 10] = [
-    [5, 4098, 0, 4098, 1, 2, 0, 0, 5, 4098, 4098, 0, 1, 2, 0, 0],
-    [3, 4098, 0, 1, 0, 0, 0, 0, 3, 4098, 1, 0, 0, 0, 0, 0],
-    [1, 0, 0, 0, 0, 0, 0, 0, 3, 4098, 0, 4096, 0, 0, 0, 0],
-    [5, 4099, 0, 4099, 1, 2, 0, 0, 5, 4099, 4099, 0, 1, 2, 0, 0],
-    [1, 0, 0, 0, 0, 0, 0, 0, 3, 4099, 4097, 0, 0, 0, 0, 0],
-    [1, 0, 0, 0, 0, 0, 0, 0, 3, 4099, 0, 4097, 0, 0, 0, 0],
-    [
-        7,
-        4098,
-        4099,
-        0,
-        1,
-        4099,
-        0,
-        2,
-        5,
-        4099,
-        0,
-        4098,
-        1,
-        2,
-        0,
-        0,
-    ],
-    [
-        7,
-        4098,
-        4099,
-        0,
-        2,
-        4099,
-        1,
-        2,
-        5,
-        4099,
-        4098,
-        0,
-        1,
-        2,
-        0,
-        0,
-    ],
-    [1, 4096, 0, 0, 0, 0, 0, 0, 3, 4099, 4096, 0, 0, 0, 0, 0],
-    [1, 4096, 0, 0, 0, 0, 0, 0, 3, 4099, 0, 4096, 0, 0, 0, 0],
-];
+const A: u32 = 0;
 
-// The sides of a law.
+const B: u32 = 1;
+
+const C: u32 = 2;
+
+const ZERO: u32 = 4096;
+
+const ONE: u32 = 4097;
+
+const ADD: u32 = 4098;
+
+const MUL: u32 = 4099;
+
+// The sides of a law: at 0 and at 8 how many numbers the left and the right one have, and after that the side's run.
 pub fn row_of(law: Law) -> [u32; 16]
     ensures { λ r. ⌜ Row r (law-of law) ⌝ }
 {
-    let n = law_number(law) as usize;
-    LAWS[n]
+    match law {
+        Law::AddAssoc => [5, ADD, A, ADD, B, C, 0, 0, 5, ADD, ADD, A, B, C, 0, 0],
+        Law::AddComm => [3, ADD, A, B, 0, 0, 0, 0, 3, ADD, B, A, 0, 0, 0, 0],
+        Law::AddZeroRight => [1, A, 0, 0, 0, 0, 0, 0, 3, ADD, A, ZERO, 0, 0, 0, 0],
+        Law::MulAssoc => [5, MUL, A, MUL, B, C, 0, 0, 5, MUL, MUL, A, B, C, 0, 0],
+        Law::MulOneLeft => [1, A, 0, 0, 0, 0, 0, 0, 3, MUL, ONE, A, 0, 0, 0, 0],
+        Law::MulOneRight => [1, A, 0, 0, 0, 0, 0, 0, 3, MUL, A, ONE, 0, 0, 0, 0],
+        Law::LeftDistrib => [7, ADD, MUL, A, B, MUL, A, C, 5, MUL, A, ADD, B, C, 0, 0],
+        Law::RightDistrib => [7, ADD, MUL, A, C, MUL, B, C, 5, MUL, ADD, A, B, C, 0, 0],
+        Law::ZeroMul => [1, ZERO, 0, 0, 0, 0, 0, 0, 3, MUL, ZERO, A, 0, 0, 0, 0],
+        Law::MulZero => [1, ZERO, 0, 0, 0, 0, 0, 0, 3, MUL, A, ZERO, 0, 0, 0, 0],
+    }
 }
 
 // A part of a run: where it starts and how many numbers it has. A part of no numbers stands for none.
@@ -281,6 +257,7 @@ pub fn append(out: &mut [u32], n: usize, src: &[u32]) -> usize
     m
 }
 
+// What the direct match finds.
 pub enum Direct {
     By(Law),
     Nothing,

@@ -6,3 +6,16 @@ pub mod Puts
 pub mod Joined
 pub mod Multiplied
 pub mod Expanded
+pub mod Parts
+pub mod Numbered
+pub mod Merging
+pub mod Sorting
+pub mod Spelling
+pub mod Renamed
+pub mod Decoded
+pub mod Permuted
+pub mod Coded
+pub mod Kept
+pub mod Visited
+pub mod Candidates
+pub mod Canonical

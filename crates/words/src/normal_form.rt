@@ -9,7 +9,7 @@ ghost use Rattle.words.specs.Multiply.{atom-words, PutsWords, JoinsRow, 
 const MOST: usize = 324;
 
 // In a run the numbers below it are letters, and it is 0.
-const ZERO: u32 = 4096;
+pub const ZERO: u32 = 4096;
 
 const ONE: u32 = 4097;
 
@@ -37,7 +37,7 @@ pub fn word_of(words: &[u32], k: usize) -> &[u32]
 }
 
 // Numbers stored one after the other from `at` on, as far as they fit.
-fn copy(out: &mut [u32], at: usize, numbers: &[u32])
+pub fn copy(out: &mut [u32], at: usize, numbers: &[u32])
     ensures { λ _. ⌜ now (out .exit) ≡ sets (now (out .entry)) at (now (numbers .entry)) ⌝ }
 {
     let mut p = at;

@@ -86,11 +86,11 @@ module _ {names : List ℕ} (d : Distinct names) (f : ℕ → ℕ) where
 -- the number beside a name
 
 module _ (m p : ℕ) (ms ps : List ℕ) (n : ℕ) where
-  renamed-first : n ≡ m → renamed (m ∷ ms) (p ∷ ps) n ≡ p
+  pub renamed-first : n ≡ m → renamed (m ∷ ms) (p ∷ ps) n ≡ p
   unfolding renamed
   renamed-first e = rw (eq-eqb n m e, renamed)
 
-  renamed-later : (n ≡ m → ⊥) → renamed (m ∷ ms) (p ∷ ps) n ≡ renamed ms ps n
+  pub renamed-later : (n ≡ m → ⊥) → renamed (m ∷ ms) (p ∷ ps) n ≡ renamed ms ps n
   unfolding renamed
   renamed-later h = rw (ne-eqb n m h, renamed)
 

@@ -2,7 +2,7 @@
 use Prim.Native.Nat.{_≤_, _-_, _*_}
 use native.Mathlib.Omega.{arith}
 use Rattle.search.specs.Slots.{SLOT}
-use Rattle.search.proofs.Noting.{Going, going-starts, found-here, not-here, too-long, found-nowhere}
+use Rattle.search.proofs.Noting.{Going, going-starts, Tells, tells, too-long, found-nowhere}
 use borrow.Author.Needs.{needs}
 use Rattle.search.proofs.bounded_search.listed.Statement.{statement}
 use Rattle.search.proofs.bounded_search.listed.Tie as tie
@@ -52,20 +52,33 @@ part-equal-end c = search needs
 equal-requires : tie.Need-equal-requires Inv-loop μ-loop
 equal-requires c κs = search needs
 
+-- what the comparison says
+told : (c : tie.After-equal Inv-loop μ-loop) →
+    let l = c .before .before .before .before .before in
+    let a = l .before .before .before .args in
+    Tells (a .ws .now) (a .count) (a .s .now) (l .loop .k) (c .equal .result)
+told c =
+    let l = c .before .before .before .before .before in
+    let a = l .before .before .before .args in
+    tells (a .ws .now) (a .count) (a .s .now) (l .loop .k) (l .loop .inv .1) (omega arith) (l .loop .inv .0) (c .equal .result) (c .equal .ensures)
+
 returns : tie.Need-returns Inv-loop μ-loop
-returns c = search (found-here, needs)
+returns c = rw (c .if2 .taken) at (told (c .before))
 
 loop-less : tie.Need-loop-less Inv-loop μ-loop
 loop-less c = search needs
 
 loop-again : tie.Need-loop-again Inv-loop μ-loop
-loop-again c = search (not-here, needs)
+loop-again c = (omega arith, rw (c .if2 .left) at (told (c .before)))
 
 loop-less-2 : tie.Need-loop-less-2 Inv-loop μ-loop
 loop-less-2 c = search needs
 
 loop-again-2 : tie.Need-loop-again-2 Inv-loop μ-loop
-loop-again-2 c = search (too-long, needs)
+loop-again-2 c =
+    let l = c .before .before .before in
+    let a = l .before .before .before .args in
+    (omega arith, too-long (a .ws .now) (a .count) (a .s .now) (l .loop .k) (l .loop .inv .1) (omega arith) (l .loop .inv .0) (c .if1 .left))
 
 returns-2 : tie.Need-returns-2 Inv-loop μ-loop
 returns-2 c = search (found-nowhere, needs)

@@ -8,10 +8,6 @@ use Rattle.search.proofs.Filling.{Filling, filling-starts, letter-missi
 use borrow.Author.Needs.{needs}
 use Rattle.search.proofs.line.fill.Statement.{statement}
 use Rattle.search.proofs.line.fill.Tie as tie
-use Rattle.search.proofs.line.fill.Reads as reads
-use Rattle.search.proofs.line.fill.Lts as lts
-use Rattle.search.proofs.search.append.Reads as append-reads
-use Rattle.search.proofs.search.span_of.Reads as span-of-reads
 
 abbrev Inv-loop : tie.InvT-loop
 Inv-loop q s z out₀ n m₀ k₀ out m k = (k ≤ length q) × (n ≤ m) × (m ≤ length out) × (length out ≡ length out₀) × Filling q s z out₀ n out m k
@@ -19,47 +15,36 @@ Inv-loop q s z out₀ n m₀ k₀ out m k = (k ≤ length q) × (n ≤ m) × (m 
 abbrev μ-loop : tie.MeasureT-loop
 μ-loop q s z out₀ n m₀ k₀ out m k = length q - k
 
--- src/line.rt:27:5
 loop-holds : tie.Need-loop-holds Inv-loop μ-loop
 loop-holds c = search (filling-starts, needs)
 
--- src/line.rt:28:17
 mul-x : tie.Need-mul-x Inv-loop μ-loop
 mul-x c = search needs
 
--- src/line.rt:28:17
 shared-slice-read-x : tie.Need-shared-slice-read-x Inv-loop μ-loop
 shared-slice-read-x c = search needs
 
--- src/line.rt:29:9
 add-k : tie.Need-add-k Inv-loop μ-loop
 add-k c = search needs
 
--- src/line.rt:31:17
 span-of-requires : tie.Need-span-of-requires Inv-loop μ-loop
 span-of-requires c κs = search needs
 
--- src/line.rt:35:17
 same-length : tie.Need-same-length Inv-loop μ-loop
 same-length c = search needs
 
--- src/line.rt:35:17
 returns : tie.Need-returns Inv-loop μ-loop
 returns c = search (letter-missing, needs)
 
--- src/line.rt:37:16
 sub-if3 : tie.Need-sub-if3 Inv-loop μ-loop
 sub-if3 c = search needs
 
--- src/line.rt:38:17
 same-length-2 : tie.Need-same-length-2 Inv-loop μ-loop
 same-length-2 c = search needs
 
--- src/line.rt:38:17
 returns-2 : tie.Need-returns-2 Inv-loop μ-loop
 returns-2 c = search (letter-long, old-within, needs)
 
--- src/line.rt:40:49
 -- the part that a letter stands for lies in s
 part-within : (c : tie.After-append-arg Inv-loop μ-loop) → c .before .before .before .span-of .result .at + c .before .before .before .span-of .result .len ≤ length (c .before .before .before .before .before .before .before .before .before .before .before .args .s .now)
 part-within c = old-within _ (c .before .before .before .span-of .ensures) (c .before .before .before .before .before .before .before .before .before .before .before .pre .1)
@@ -67,67 +52,51 @@ part-within c = old-within _ (c .before .before .before .span-of .ensures) (c .b
 add-append : tie.Need-add-append Inv-loop μ-loop
 add-append c = omega (arith, part-within c)
 
--- src/line.rt:40:40
 mul-append : tie.Need-mul-append Inv-loop μ-loop
 mul-append c = omega (arith, part-within c)
 
--- src/line.rt:40:40
 sub-append : tie.Need-sub-append Inv-loop μ-loop
 sub-append c = search needs
 
--- src/line.rt:40:40
 part-append-start : tie.Need-part-append-start Inv-loop μ-loop
 part-append-start c = search needs
 
--- src/line.rt:40:40
 part-append-end : tie.Need-part-append-end Inv-loop μ-loop
 part-append-end c = omega (arith, part-within c)
 
--- src/line.rt:40:13
 append-requires : tie.Need-append-requires Inv-loop μ-loop
 append-requires c κs = search needs
 
--- src/line.rt:27:5
 loop-less : tie.Need-loop-less Inv-loop μ-loop
 loop-less c = search needs
 
--- src/line.rt:27:5
 loop-again : tie.Need-loop-again Inv-loop μ-loop
 loop-again c = (search needs, omega arith, omega arith, search needs, search (letter-put, needs))
 
--- src/line.rt:43:17
 same-length-3 : tie.Need-same-length-3 Inv-loop μ-loop
 same-length-3 c = search needs
 
--- src/line.rt:43:17
 returns-3 : tie.Need-returns-3 Inv-loop μ-loop
 returns-3 c = search (number-long, needs)
 
--- src/line.rt:45:13
 mul-out : tie.Need-mul-out Inv-loop μ-loop
 mul-out c = search needs
 
--- src/line.rt:45:13
 slice-write-out : tie.Need-slice-write-out Inv-loop μ-loop
 slice-write-out c = search needs
 
--- src/line.rt:46:13
 add-m : tie.Need-add-m Inv-loop μ-loop
 add-m c = search needs
 
--- src/line.rt:27:5
 loop-less-2 : tie.Need-loop-less-2 Inv-loop μ-loop
 loop-less-2 c = search needs
 
--- src/line.rt:27:5
 loop-again-2 : tie.Need-loop-again-2 Inv-loop μ-loop
 loop-again-2 c = (search needs, search needs, simp length-set (omega arith), simp length-set (search needs), search (number-put, needs))
 
--- src/line.rt:21:1
 same-length-4 : tie.Need-same-length-4 Inv-loop μ-loop
 same-length-4 c = search needs
 
--- src/line.rt:21:1
 returns-4 : tie.Need-returns-4 Inv-loop μ-loop
 returns-4 c = search (fill-ends, needs)
 

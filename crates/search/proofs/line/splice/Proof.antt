@@ -5,61 +5,43 @@ use Rattle.search.proofs.Splicing.{splice-short, splice-unfilled, splic
 use borrow.Author.Needs.{needs}
 use Rattle.search.proofs.line.splice.Statement.{statement}
 use Rattle.search.proofs.line.splice.Tie as tie
-use Rattle.search.proofs.line.splice.Reads as reads
-use Rattle.search.proofs.line.splice.Lts as lts
-use Rattle.search.proofs.line.fill.Reads as fill-reads
-use Rattle.search.proofs.line.finish.Reads as finish-reads
-use Rattle.search.proofs.search.append.Reads as append-reads
 
--- src/line.rt:72:9
 returns : tie.Need-returns
 returns c = search (splice-short, needs)
 
--- src/line.rt:74:36
 sub-append : tie.Need-sub-append
 sub-append c = search needs
 
--- src/line.rt:74:36
 part-append-start : tie.Need-part-append-start
 part-append-start c = search needs
 
--- src/line.rt:74:36
 part-append-end : tie.Need-part-append-end
 part-append-end c = search needs
 
--- src/line.rt:74:9
 append-requires : tie.Need-append-requires
 append-requires c κs = search needs
 
--- src/line.rt:75:25
 fill-requires : tie.Need-fill-requires
 fill-requires c κs = search needs
 
--- src/line.rt:75:20
 enum-known-m : tie.Need-enum-known-m
 enum-known-m c = search needs
 
--- src/line.rt:76:9
 enum-told : tie.Need-enum-told
 enum-told c = search needs
 
--- src/line.rt:76:9
 same-length : tie.Need-same-length
 same-length c = search needs
 
--- src/line.rt:76:9
 returns-2 : tie.Need-returns-2
 returns-2 c = search (splice-unfilled, needs)
 
--- src/line.rt:78:5
 finish-requires : tie.Need-finish-requires
 finish-requires c κs = let w = fills-within (c .before .before .before .before .before .before .fill .ensures) (c .before .before .m .given .1) in omega (arith, w)
 
--- src/line.rt:67:1
 same-length-2 : tie.Need-same-length-2
 same-length-2 c = search needs
 
--- src/line.rt:67:1
 returns-3 : tie.Need-returns-3
 returns-3 c = search (splice-filled, needs)
 

@@ -5,93 +5,67 @@ use Rattle.search.proofs.Directing.{sides-unbound, sides-bound}
 use borrow.Author.Needs.{needs}
 use Rattle.search.proofs.search.bind_sides.Statement.{statement}
 use Rattle.search.proofs.search.bind_sides.Tie as tie
-use Rattle.search.proofs.search.bind_sides.Reads as reads
-use Rattle.search.proofs.search.bind_sides.Lts as lts
-use Rattle.search.proofs.search.bind.Reads as bind-reads
-use Rattle.search.proofs.search.no_spans.Reads as no-spans-reads
-use Rattle.search.proofs.search.row_of.Reads as row-of-reads
 
--- src/search.rt:225:15
 row-of-requires : tie.Need-row-of-requires
 row-of-requires c κs = search needs
 
--- src/search.rt:226:20
 array-read-left : tie.Need-array-read-left
 array-read-left c = search needs
 
--- src/search.rt:226:20
 cast-left : tie.Need-cast-left
 cast-left c = search needs
 
--- src/search.rt:226:16
 add-left : tie.Need-add-left
 add-left c = search needs
 
--- src/search.rt:227:21
 array-read-right : tie.Need-array-read-right
 array-read-right c = search needs
 
--- src/search.rt:227:21
 cast-right : tie.Need-cast-right
 cast-right c = search needs
 
--- src/search.rt:227:17
 add-right : tie.Need-add-right
 add-right c = search needs
 
--- src/search.rt:228:9
 slice-aggregate-sides : tie.Need-slice-aggregate-sides
 slice-aggregate-sides c = search needs
 
--- src/search.rt:229:34
 sub-bind : tie.Need-sub-bind
 sub-bind c = search needs
 
--- src/search.rt:229:34
 part-bind-start : tie.Need-part-bind-start
 part-bind-start c = search needs
 
--- src/search.rt:229:34
 part-bind-end : tie.Need-part-bind-end
 part-bind-end c = search needs
 
--- src/search.rt:229:60
 no-spans-requires : tie.Need-no-spans-requires
 no-spans-requires c κs = search needs
 
--- src/search.rt:229:29
 bind-requires : tie.Need-bind-requires
 bind-requires c κs = search (within-none, needs)
 
--- src/search.rt:229:24
 enum-known-z : tie.Need-enum-known-z
 enum-known-z c = search needs
 
--- src/search.rt:230:9
 enum-told : tie.Need-enum-told
 enum-told c = search needs
 
--- src/search.rt:230:9
 returns : tie.Need-returns
 returns c = search (sides-unbound, needs)
 
--- src/search.rt:232:10
 sub-bind-2 : tie.Need-sub-bind-2
 sub-bind-2 c = search needs
 
--- src/search.rt:232:10
 part-bind-start-2 : tie.Need-part-bind-start-2
 part-bind-start-2 c = search needs
 
--- src/search.rt:232:10
 part-bind-end-2 : tie.Need-part-bind-end-2
 part-bind-end-2 c = search needs
 
--- src/search.rt:232:5
 bind-requires-2 : tie.Need-bind-requires-2
 bind-requires-2 c κs = (c .before .before .before .before .before .before .before .before .before .before .pre, matched-within _ _ _ _ _ _ (c .before .before .before .before .bind .ensures) (c .before .before .z .given .1))
 
--- src/search.rt:221:1
 returns-2 : tie.Need-returns-2
 returns-2 c = search (sides-bound, needs)
 

@@ -4,10 +4,6 @@ use Rattle.search.proofs.Directing.{Passing, passing-starts, passed-ove
 use borrow.Author.Needs.{needs}
 use Rattle.search.proofs.search.first_law.Statement.{statement}
 use Rattle.search.proofs.search.first_law.Tie as tie
-use Rattle.search.proofs.search.first_law.Reads as reads
-use Rattle.search.proofs.search.first_law.Lts as lts
-use Rattle.search.proofs.search.bind_sides.Reads as bind-sides-reads
-use Rattle.search.proofs.search.law_of.Reads as law-of-reads
 
 abbrev Inv-loop : tie.InvT-loop
 Inv-loop both middle n₀ n = (n ≤ 10) × Passing both middle n
@@ -15,42 +11,33 @@ Inv-loop both middle n₀ n = (n ≤ 10) × Passing both middle n
 abbrev μ-loop : tie.MeasureT-loop
 μ-loop both middle n₀ n = 10 - n
 
--- src/search.rt:261:5
 loop-holds : tie.Need-loop-holds Inv-loop μ-loop
 loop-holds c = search (passing-starts, needs)
 
--- src/search.rt:262:13
 law-of-requires : tie.Need-law-of-requires Inv-loop μ-loop
 law-of-requires c κs = search needs
 
--- src/search.rt:263:9
 add-n : tie.Need-add-n Inv-loop μ-loop
 add-n c = search needs
 
--- src/search.rt:264:33
 bind-sides-requires : tie.Need-bind-sides-requires Inv-loop μ-loop
 bind-sides-requires c κs = search needs
 
 enum-told : tie.Need-enum-told Inv-loop μ-loop
 enum-told c = search needs
 
--- src/search.rt:265:13
 enum-told-2 : tie.Need-enum-told-2 Inv-loop μ-loop
 enum-told-2 c = search needs
 
--- src/search.rt:261:5
 loop-less : tie.Need-loop-less Inv-loop μ-loop
 loop-less c = search needs
 
--- src/search.rt:261:5
 loop-again : tie.Need-loop-again Inv-loop μ-loop
 loop-again c = search (passed-over, needs)
 
--- src/search.rt:267:9
 returns : tie.Need-returns Inv-loop μ-loop
 returns c = search (law-taken, needs)
 
--- src/search.rt:256:1
 returns-2 : tie.Need-returns-2 Inv-loop μ-loop
 returns-2 c = search (no-law, needs)
 

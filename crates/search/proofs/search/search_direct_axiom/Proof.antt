@@ -3,44 +3,31 @@ use Rattle.search.proofs.Directing.{direct-long, direct-long-right, dir
 use borrow.Author.Needs.{needs}
 use Rattle.search.proofs.search.search_direct_axiom.Statement.{statement}
 use Rattle.search.proofs.search.search_direct_axiom.Tie as tie
-use Rattle.search.proofs.search.search_direct_axiom.Reads as reads
-use Rattle.search.proofs.search.search_direct_axiom.Lts as lts
-use Rattle.search.proofs.search.append.Reads as append-reads
-use Rattle.search.proofs.search.first_law.Reads as first-law-reads
 
--- src/search.rt:277:9
 returns : tie.Need-returns
 returns c = search (direct-long, needs)
 
--- src/search.rt:280:9
 returns-2 : tie.Need-returns-2
 returns-2 c = search (direct-long-right, needs)
 
--- src/search.rt:283:25
 slice-aggregate-append : tie.Need-slice-aggregate-append
 slice-aggregate-append c = search needs
 
--- src/search.rt:283:9
 append-requires : tie.Need-append-requires
 append-requires c κs = search needs
 
--- src/search.rt:284:12
 slice-aggregate-append-2 : tie.Need-slice-aggregate-append-2
 slice-aggregate-append-2 c = search needs
 
--- src/search.rt:284:5
 append-requires-2 : tie.Need-append-requires-2
 append-requires-2 c κs = search needs
 
--- src/search.rt:285:15
 slice-aggregate-first-law : tie.Need-slice-aggregate-first-law
 slice-aggregate-first-law c = search needs
 
--- src/search.rt:285:5
 first-law-requires : tie.Need-first-law-requires
 first-law-requires c κs = search needs
 
--- src/search.rt:273:1
 returns-3 : tie.Need-returns-3
 returns-3 c = search (direct-found, needs)
 

@@ -1,0 +1,17 @@
+//! Links the static library of the crate `bench`, which `rt staticlib bench` writes.
+
+use std::path::PathBuf;
+
+fn main() {
+    let package = PathBuf::from(std::env::var("CARGO_MANIFEST_DIR").expect("cargo sets it"));
+    let folder = package.join("../target/staticlib");
+    let library = folder.join("libbench.a");
+    assert!(
+        library.exists(),
+        "\n\nNo {}: run `rt staticlib bench` first.\n\n",
+        library.display()
+    );
+    println!("cargo::rerun-if-changed={}", library.display());
+    println!("cargo::rustc-link-search=native={}", folder.display());
+    println!("cargo::rustc-link-lib=static=bench");
+}

@@ -1,0 +1,121 @@
+// Slots sorted by the words in them, and the words written as a run.
+ghost use mathlib.Core.Path.{_≡_};
+ghost use Prim.Native.Nat.{_+_, _≤_};
+ghost use mathlib.Core.List.{[], _∷_};
+ghost use lib.ListN.{length, take, drop};
+ghost use Rattle.terms.specs.Sort.{kept};
+ghost use Rattle.words.specs.Words.{normal};
+ghost use Rattle.words.specs.Rename.{count-from};
+ghost use Rattle.words.specs.Spelled.{words-at};
+ghost use Rattle.words.specs.Sort.{from-first, Merges, Spells};
+use super::normal_form::copy;
+use super::normal_form::word_of;
+use terms::term::Comparison;
+use terms::term::compare;
+
+// The slots one after another: 0, 1, and so on.
+pub fn number_slots(order: &mut [u32])
+    requires { ⌜ length (now order) ≤ 4294967296 ⌝ }
+    ensures { λ _. ⌜ now (order .exit) ≡ count-from (length (now (order .entry))) 0 ⌝ }
+{
+    let mut i = 0;
+    while i < order.len() {
+        order[i] = i as u32;
+        i += 1;
+    }
+}
+
+// Whether the next of two lists to be merged is the first's.
+fn takes_first(words: &[u32], a: &[u32], i: usize, b: &[u32], j: usize) -> bool
+    ensures { λ r. ⌜ r ≡ from-first (now (words .entry)) (now (a .entry)) (now (b .entry)) i j ⌝ }
+{
+    if a.len() <= i {
+        return false;
+    }
+    if b.len() <= j {
+        return true;
+    }
+    let u = word_of(words, a[i] as usize);
+    let v = word_of(words, b[j] as usize);
+    match compare(u, v) {
+        Comparison::Less => true,
+        Comparison::Equal => true,
+        Comparison::Greater => false,
+    }
+}
+
+// Two lists of slots, each sorted by its words, merged into one.
+fn merge(words: &[u32], a: &[u32], b: &[u32], out: &mut [u32])
+    requires { ⌜ length (now out) ≡ length (now a) + length (now b) ⌝ }
+    ensures { λ _. ⌜ Merges (now (words .entry)) (now (a .entry)) (now (b .entry)) (now (out .exit)) ⌝ }
+{
+    let mut i = 0;
+    let mut j = 0;
+    while i + j < out.len() {
+        let k = i + j;
+        if takes_first(words, a, i, b, j) {
+            out[k] = a[i];
+            i += 1;
+        } else {
+            out[k] = b[j];
+            j += 1;
+        }
+    }
+}
+
+// The two parts of `order`, each sorted by its words, merged.
+fn merge_parts(words: &[u32], order: &mut [u32], mid: usize, spare: &mut [u32])
+    requires { ⌜ (mid ≤ length (now order)) × (length (now order) ≤ length (now spare)) ⌝ }
+    ensures { λ _. ⌜ Merges (now (words .entry)) (take mid (now (order .entry))) (drop mid (now (order .entry))) (now (order .exit)) ⌝ }
+{
+    let n = order.len();
+    copy(spare, 0, order);
+    let parts = &spare[..n];
+    merge(words, &parts[..mid], &parts[mid..], order);
+}
+
+// The slots of `order` sorted by their words, repeats kept: both halves are sorted, then merged.
+pub fn sort(words: &[u32], order: &mut [u32], spare: &mut [u32])
+    requires { ⌜ length (now order) ≤ length (now spare) ⌝ }
+    ensures { λ _. ⌜ words-at (now (words .entry)) (now (order .exit)) ≡ normal kept (words-at (now (words .entry)) (now (order .entry))) ⌝ }
+{
+    let n = order.len();
+    if n < 2 {
+        return;
+    }
+    let mid = n / 2;
+    sort(words, &mut order[..mid], spare);
+    sort(words, &mut order[mid..], spare);
+    merge_parts(words, order, mid, spare);
+}
+
+// A word at the front of `out`, each letter plus 1, then 0, if there is room: where it ends.
+fn spell_word(word: &[u32], out: &mut [u32]) -> usize
+    ensures { λ r. ⌜ Spells (now (word .entry) ∷ []) (now (out .entry)) r (now (out .exit)) ⌝ }
+{
+    let n = word.len();
+    if out.len() <= n {
+        return out.len();
+    }
+    let mut i = 0;
+    while i < n {
+        out[i] = std::num::wrapping_add_u32(word[i], 1);
+        i += 1;
+    }
+    out[n] = 0;
+    n + 1
+}
+
+// The words in the slots of `order`, one after another at the front of `out`, if there is room: where they end.
+pub fn spell(words: &[u32], order: &[u32], out: &mut [u32]) -> usize
+    ensures { λ r. ⌜ Spells (words-at (now (words .entry)) (now (order .entry))) (now (out .entry)) r (now (out .exit)) ⌝ }
+{
+    let mut n = 0;
+    let mut i = 0;
+    while i < order.len() {
+        let word = word_of(words, order[i] as usize);
+        n += spell_word(word, &mut out[n..]);
+        i += 1;
+    }
+    n
+}
