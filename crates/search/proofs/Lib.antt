@@ -20,3 +20,5 @@ pub mod Keeping
 pub mod Running
 pub mod Resulting
 pub mod InTurn
+pub mod Taking
+pub mod Searching

@@ -4,7 +4,7 @@ use native.Mathlib.Omega.{arith}
 use native.Mathlib.Numerals.{add-one}
 use mathlib.Core.Path.{_≡_, refl, ap, _∙_}
 use mathlib.Core.Logic.{⊎-elim}
-use mathlib.Core.Bool.{true, false}
+use mathlib.Core.Bool.{Bool, true, false}
 use mathlib.Core.Option.{none, some}
 use mathlib.Core.List.{List, [], _∷_, _++_}
 use borrow.Author.Tests.{lt-ltb, le-ltb}
@@ -12,10 +12,11 @@ use lib.ListN.{length, drop, drop-of-length-le, length-append}
 use lib.Seq.{drop-cons}
 use Rattle.terms.specs.Term.{Term, zero, same}
 use Rattle.terms.specs.Theory.Order.{below?}
-use Rattle.search.specs.Law.{Law, Name}
-use Rattle.search.specs.Line.{Line, Limits, forward, results}
+use Rattle.search.specs.Law.{Name, semiring}
+use Rattle.search.specs.Line.{Line, Limits, forward}
 use Rattle.search.specs.Search.{Noted, is-noted, entry, Turn, ended, goes-on, note, Outcome, proved, unproved, noted, run, direct, search}
 use Rattle.search.specs.Slots.{noted-at}
+use Rattle.search.specs.Searched.{begun}
 use Rattle.search.specs.Theory.Note.{note-cases}
 
 -- the results of one term, one after another
@@ -49,6 +50,18 @@ note-grows right trail (x ∷ xs) ns =
     (λ h. note-grows right trail xs ns)
     (λ e. omega arith)
     (λ h k. omega (arith, note-grows right trail xs more))
+
+-- a new result is one more
+pub note-new-grows : (right : Term) (trail : List Line) (x : Line) (xs : List Line) (ns : List Noted) → is-noted (x .result) ns ≡ false
+    → length ns < length (left-noted (note right trail (x ∷ xs) ns))
+note-new-grows right trail x xs ns e = go (same (x .result) right) refl
+  where
+    one : length (ns ++ (entry trail x ∷ [])) ≡ length ns + 1
+    one = length-append ns (entry trail x ∷ [])
+
+    go : (b : Bool) → same (x .result) right ≡ b → length ns < length (left-noted (note right trail (x ∷ xs) ns))
+    go true q = rw (note-right right trail x xs ns e q) (omega (arith, one))
+    go false q = rw (note-new right trail x xs ns e q) (omega (arith, one, note-grows right trail xs (ns ++ (entry trail x ∷ []))))
 
 module _ (next : Term → List Line) (steps : ℕ) (right : Term) where
   -- what follows a turn, the i-th
@@ -87,9 +100,9 @@ module _ (next : Term → List Line) (steps : ℕ) (right : Term) where
           ∙ rw (next-in-turn, lt-ltb (length (noted-at ns i .trail)) steps, run, add-one)
           (follows g (suc i) (note right (noted-at ns i .trail) (next (noted-at ns i .term)) ns))
 
-  after-grows : (f i : ℕ) → ((ys : List Noted) → length ys ≤ noted (run next steps right f i ys)) → (turn : Turn) → length (left-noted turn) ≤ noted (after f i turn)
-  after-grows f i h (ended n ys) = omega arith
-  after-grows f i h (goes-on ys) = h ys
+  grows-after : (f i : ℕ) → ((ys : List Noted) → length ys ≤ noted (run next steps right f i ys)) → (turn : Turn) → length (left-noted turn) ≤ noted (after f i turn)
+  grows-after f i h (ended n ys) = omega arith
+  grows-after f i h (goes-on ys) = h ys
 
   pub run-grows : (f i : ℕ) (ns : List Noted) → length ns ≤ noted (run next steps right f i ns)
   run-grows ℕ.zero i ns = rw (run-limit i ns 0 refl) (omega arith)
@@ -99,22 +112,22 @@ module _ (next : Term → List Line) (steps : ℕ) (right : Term) where
       ⊎-elim
       (λ here.
       ⊎-elim
-      (λ near. rw (run-opens i ns here (suc f) f refl near) (omega (arith, note-grows right (x .trail) (next (x .term)) ns, after-grows f (i + 1) (run-grows f (i + 1)) turn)))
+      (λ near. rw (run-opens i ns here (suc f) f refl near) (omega (arith, note-grows right (x .trail) (next (x .term)) ns, grows-after f (i + 1) (run-grows f (i + 1)) turn)))
       (λ far. rw (run-far i ns here (suc f) far) (omega arith))
       (below? (length (x .trail)) steps))
       (λ end. rw (run-end i ns (suc f) end) (omega arith))
       (below? i (length ns))
 
+  pub after-grows : (f i : ℕ) (turn : Turn) → length (left-noted turn) ≤ noted (after f i turn)
+  after-grows f i = grows-after f i (run-grows f i)
+
 -- the search: a direct match, or the noted terms in turn
 
-module _ (ws : List Law) (m : Limits) (s t : Term) where
-  abbrev pub begun : Outcome
-  begun = run (results ws m) (m .steps) t (m .nodes) 0 (record { term = s; trail = [] } ∷ [])
-
-  pub search-direct : (n : Name) → direct ws s t ≡ some n → search ws m s t ≡ proved (record { law = n; direction = forward; place = []; result = t } ∷ []) 0 0
+module _ (m : Limits) (s t : Term) where
+  pub search-direct : (n : Name) → direct semiring s t ≡ some n → search semiring m s t ≡ proved (record { law = n; direction = forward; place = []; result = t } ∷ []) 0 0
   unfolding search
   search-direct n e = rw (e, search)
 
-  pub search-begun : direct ws s t ≡ none → search ws m s t ≡ begun
+  pub search-begun : direct semiring s t ≡ none → search semiring m s t ≡ begun m s t
   unfolding search
   search-begun e = rw (e, search)
