@@ -7,9 +7,10 @@ ghost use lib.Seq.{sets};
 ghost use Rattle.search.specs.Origins.{numbers, origin-at};
 ghost use Rattle.search.specs.Slots.{SLOT, Finds, Writes, Starts, Notes};
 ghost use Rattle.search.specs.Ordered.{Spotted, Keeps};
-ghost use Rattle.search.specs.Searched.{Opens, Takes, Explores, Searches};
+ghost use Rattle.search.specs.Searched.{slots-of, Opens, Takes, Explores, Searches};
 use crate::results;
 use crate::search;
+use crate::search::Direct;
 use crate::search::Direction;
 use crate::search::Law;
 use terms::term;
@@ -185,7 +186,14 @@ fn open_slot(ws: &[u32], i: usize, limits: Limits, res: &mut [u32], order: &mut 
         return 0;
     }
     let b = a + 8;
-    results::results_of(&ws[b..b + n], i as u32, limits.size, limits.depth, res, order)
+    results::results_of(
+        &ws[b..b + n],
+        i as u32,
+        limits.size,
+        limits.depth,
+        res,
+        order,
+    )
 }
 
 // What became of a result.
@@ -197,7 +205,15 @@ pub enum Taken {
 }
 
 // Takes the result in slot `k` of `res`, whose source has a distance: it is noted unless it is noted already or no slot is left.
-fn take_result(ws: &mut [u32], noted: usize, slots: usize, res: &[u32], k: u32, distance: u32, right: &[u32]) -> Taken
+fn take_result(
+    ws: &mut [u32],
+    noted: usize,
+    slots: usize,
+    res: &[u32],
+    k: u32,
+    distance: u32,
+    right: &[u32],
+) -> Taken
     requires { ⌜ (noted ≤ slots) × (SLOT * slots ≤ length (now ws)) × (distance < 4294967295) ⌝ }
     ensures { λ r. ⌜ Takes (now (ws .entry)) noted slots (now (res .entry)) k distance (now (right .entry)) r (now (ws .exit)) ⌝ }
 {
@@ -282,4 +298,43 @@ fn explore(
         outcome = Outcome::Unproved(i);
     }
     outcome
+}
+
+// How many slots of a workspace of `n` numbers are used.
+fn slots_of(n: usize) -> usize
+    ensures { λ r. ⌜ r ≡ slots-of n ⌝ }
+{
+    let all = n / SLOT;
+    if 65535 < all {
+        return 65535;
+    }
+    all
+}
+
+// Searches for a path from left to right. A direct match needs no slot; otherwise left is noted first.
+pub fn search_bounded_rewrite(
+    left: &[u32],
+    right: &[u32],
+    limits: Limits,
+    ws: &mut [u32],
+) -> Outcome
+    requires { ⌜ limits .steps ≤ 4294967295 ⌝ }
+    ensures { λ r. ⌜ Searches (now (left .entry)) (now (right .entry)) limits (now (ws .exit)) r ⌝ }
+{
+    let direct = search::search_direct_axiom(left, right);
+    if let Direct::By(law) = direct {
+        return Outcome::Direct(law);
+    }
+    let slots = slots_of(ws.len());
+    if slots == 0 {
+        return Outcome::Full;
+    }
+    if 31 < left.len() {
+        return Outcome::Full;
+    }
+    note_start(ws, left);
+    // 620 results: one for each of 31 places, each law and each direction.
+    let mut res = [0u32; 24800];
+    let mut order = [0u32; 620];
+    explore(right, limits, ws, slots, &mut res, &mut order)
 }
