@@ -11,7 +11,7 @@ use lib.ListN.{drop, drop-of-length-le}
 use lib.Seq.{drop-cons}
 use Rattle.terms.specs.Theory.Reflects.{both}
 use Rattle.terms.specs.Theory.Order.{below?}
-use Rattle.search.specs.Law.{semiring}
+use Rattle.search.specs.Law.{rank, semiring}
 use Rattle.search.specs.Coded.{name-of, laws, law-number, numbered-law, law-at, law-of, direction-number, numbered-direction}
 use Rattle.search.specs.declared.search.Law.{Law}
 use Rattle.search.specs.declared.search.Law.the-variants.{AddAssoc, AddComm, AddZeroRight, MulAssoc, MulOneLeft, MulOneRight, LeftDistrib, RightDistrib, ZeroMul, MulZero}
@@ -34,6 +34,10 @@ each-law P h MulZero = h .9
 
 pub law-read-back : (w : Law) → numbered-law (law-number w) ≡ w
 law-read-back = each-law (λ w. numbered-law (law-number w) ≡ w) (refl, refl, refl, refl, refl, refl, refl, refl, refl, refl)
+
+pub law-ranked : (w : Law) → law-number w ≡ rank (name-of w)
+unfolding rank
+law-ranked = each-law (λ w. law-number w ≡ rank (name-of w)) (refl, refl, refl, refl, refl, refl, refl, refl, refl, refl)
 
 pub number-below : (w : Law) → law-number w < 10
 number-below = each-law (λ w. law-number w < 10) (omega arith, omega arith, omega arith, omega arith, omega arith, omega arith, omega arith, omega arith, omega arith, omega arith)

@@ -38,10 +38,10 @@ joined-assoc (some a) none z = refl
 joined-assoc (some a) (some b) none = refl
 joined-assoc (some a) (some b) (some c) = ap (λ l. some l) (append-assoc a b c)
 
-pub part-of : List ℕ → Span → Option (List ℕ)
+part-of : List ℕ → Span → Option (List ℕ)
 part-of xs v = cond (eqb (v .len) 0) none (some (take (v .len) (drop (v .at) xs)))
 
-pub piece : List ℕ → Spans → ℕ → Option (List ℕ)
+piece : List ℕ → Spans → ℕ → Option (List ℕ)
 piece xs z x = cond (ltb x 3) (part-of xs (span-of z x)) (some (x ∷ []))
 
 -- the pieces of a run, one after the other

@@ -17,6 +17,9 @@ pub mod Slots
 pub mod Noting
 pub mod Sorting
 pub mod Keeping
+pub mod Tracing
+pub mod Turning
+pub mod Traced
 pub mod Running
 pub mod Resulting
 pub mod InTurn

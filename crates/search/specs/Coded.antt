@@ -8,7 +8,7 @@ use lib.ListN.{length, take, drop, getD}
 use Rattle.terms.specs.Term.{Term, zero}
 use Rattle.terms.specs.Held.{IsRun}
 use Rattle.search.specs.Law as law
-use Rattle.search.specs.Law.{Name, rank, semiring}
+use Rattle.search.specs.Law.{Name, semiring}
 use Rattle.search.specs.Line as line
 use Rattle.search.specs.Span.{Pattern}
 use Rattle.search.specs.declared.search.Law.{Law}
@@ -30,7 +30,16 @@ name-of MulZero = law.mul-zero
 
 -- the place of a law in the law order
 abbrev pub law-number : Law → ℕ
-law-number w = rank (name-of w)
+law-number AddAssoc = 0
+law-number AddComm = 1
+law-number AddZeroRight = 2
+law-number MulAssoc = 3
+law-number MulOneLeft = 4
+law-number MulOneRight = 5
+law-number LeftDistrib = 6
+law-number RightDistrib = 7
+law-number ZeroMul = 8
+law-number MulZero = 9
 
 -- the laws in law order
 abbrev pub laws : List Law

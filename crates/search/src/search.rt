@@ -268,7 +268,7 @@ fn first_law(both: &[u32], middle: usize) -> Direct
     requires { ⌜ middle ≤ length (now both) ⌝ }
     ensures { λ r. ⌜ TakesFirst (now (both .entry)) middle r ⌝ }
 {
-    let mut n = 0;
+    let mut n: u32 = 0;
     while n < 10 {
         let law = law_of(n);
         n += 1;
