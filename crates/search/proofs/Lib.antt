@@ -25,3 +25,4 @@ pub mod Resulting
 pub mod InTurn
 pub mod Taking
 pub mod Searching
+pub mod Answering

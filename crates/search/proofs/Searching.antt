@@ -63,7 +63,7 @@ Turning right m i d res order n ws₁ count₁ ws count j =
 pub starts : (right : List ℕ) (m : Limits) (ws : List ℕ) → Standing right m ws ws 1 0
 starts right m ws s t S ht k = record { ns = record { term = s; trail = [] } ∷ []; slots = S; counted = refl; is = rw (sub-zero (m .nodes)) }
 
-module _ (right : List ℕ) (m : Limits) (slots : ℕ) (ws₀ ws : List ℕ) (count i : ℕ) (St : Standing right m ws₀ ws count i) (room : count ≤ slots) where
+module _ {right : List ℕ} {m : Limits} {slots : ℕ} {ws₀ ws : List ℕ} {count i : ℕ} (St : Standing right m ws₀ ws count i) (room : count ≤ slots) where
   abbrev next : Term → List Line
   next = results semiring (limits-of m)
 
@@ -87,9 +87,9 @@ module _ (right : List ℕ) (m : Limits) (slots : ℕ) (ws₀ ws : List ℕ) (co
     pub ends-far : m .steps ≤ distance-of ws i → Explores right m slots ws₀ ws (Unproved i)
     ends-far far = stops (λ t ns S c. run-far next (m .steps) t i ns (omega arith) (m .nodes - i) (omega (arith, distance-here ns S c)))
 
-    pub turns-start : i < m .nodes → distance-of ws i < m .steps → (res order : List ℕ) (n : ℕ) → Opens ws i m res order n
+    pub turns-start : i < m .nodes → distance-of ws i < m .steps → {res order : List ℕ} {n : ℕ} → Opens ws i m res order n
         → Opened right m ws₀ ws count i (distance-of ws i) res order n
-    turns-start q near res order n O s t S ht k =
+    turns-start q near O s t S ht k =
         let g = St s t S ht k in
         let x = noted-at (g .ns) i in
         let e = distance-here (g .ns) (g .slots) (g .counted) in
@@ -105,8 +105,8 @@ module _ (right : List ℕ) (m : Limits) (slots : ℕ) (ws₀ ws : List ℕ) (co
         }
 
 -- the j-th result is taken
-module _ (right : List ℕ) (m : Limits) (slots : ℕ) (ws : List ℕ) (count i d : ℕ) (res order : List ℕ) (n j : ℕ) (inside : i < count) (h : j < n) (room : n ≤ length order)
-    (whole : SLOT * n ≤ length res) (r : Taken) (ws′ : List ℕ) (T : Takes ws count slots res (getD order j 0) d right r ws′) where
+module _ {right : List ℕ} {m : Limits} {slots : ℕ} {ws : List ℕ} {count i d : ℕ} {res order : List ℕ} {n j : ℕ} {r : Taken} {ws′ : List ℕ} (inside : i < count) (h : j < n)
+    (room : n ≤ length order) (whole : SLOT * n ≤ length res) (T : Takes ws count slots res (getD order j 0) d right r ws′) where
   module _ (o : search.Outcome) (t : Term) (ht : IsRun right t) (g : Turns o m t ws count i d res order n j) where
     abbrev parent : Noted
     parent = noted-at (g .ns) i
@@ -194,14 +194,14 @@ module _ (right : List ℕ) (m : Limits) (slots : ℕ) (ws : List ℕ) (count i 
           after-grows (results semiring (limits-of m)) (m .steps) t (m .nodes - (i + 1)) (i + 1) turn,
         ))
 
-  module _ (ws₁ : List ℕ) (count₁ : ℕ) (Tu : Turning right m i d res order n ws₁ count₁ ws count j) where
+  module _ {ws₁ : List ℕ} {count₁ : ℕ} (Tu : Turning right m i d res order n ws₁ count₁ ws count j) where
     pub turns-known : r ≡ taken.Known → Turning right m i d res order n ws₁ count₁ ws′ count (j + 1)
     turns-known e o t ht g = known o t ht (Tu o t ht g) e
 
     pub turns-noted : r ≡ taken.Noted → Turning right m i d res order n ws₁ count₁ ws′ (count + 1) (j + 1)
     turns-noted e o t ht g = noted o t ht (Tu o t ht g) e
 
-    module _ (ws₀ : List ℕ) (O : Opened right m ws₀ ws₁ count₁ i d res order n) where
+    module _ {ws₀ : List ℕ} (O : Opened right m ws₀ ws₁ count₁ i d res order n) where
       pub ends-proved : r ≡ taken.Right → Explores right m slots ws₀ ws′ (Proved (i + 1) (count + 1))
       ends-proved e = record { exact = λ s t S ht k. let o = begun (limits-of m) s t in met o t ht (Tu o t ht (O s t S ht k)) e }
 
@@ -209,11 +209,11 @@ module _ (right : List ℕ) (m : Limits) (slots : ℕ) (ws : List ℕ) (count i 
       ends-full e = record { exact = λ s t S ht k. let o = begun (limits-of m) s t in full o t ht (Tu o t ht (O s t S ht k)) e }
 
 -- all results are taken
-pub turns-end : (right : List ℕ) (m : Limits) (i d : ℕ) (res order : List ℕ) (n : ℕ) (ws₁ : List ℕ) (count₁ : ℕ) (ws : List ℕ) (count j : ℕ)
-    → Turning right m i d res order n ws₁ count₁ ws count j → (ws₀ : List ℕ) → Opened right m ws₀ ws₁ count₁ i d res order n → n ≤ j → n ≤ length order
+pub turns-end : {right : List ℕ} {m : Limits} {i d : ℕ} {res order : List ℕ} {n : ℕ} {ws₁ : List ℕ} {count₁ : ℕ} {ws : List ℕ} {count j : ℕ}
+    → Turning right m i d res order n ws₁ count₁ ws count j → {ws₀ : List ℕ} → Opened right m ws₀ ws₁ count₁ i d res order n → n ≤ j → n ≤ length order
     → Standing right m ws₀ ws count (i + 1)
 unfolding note
-turns-end right m i d res order n ws₁ count₁ ws count j Tu ws₀ O h room s t S ht k =
+turns-end {m = m} {order = order} {n = n} {j = j} Tu O h room s t S ht k =
     let g = Tu (begun (limits-of m) s t) t ht (O s t S ht k) in
     let e : length (g .lines) ≤ j = omega (arith, ordered-length (g .ordered), length-take-le n order room) in
     record { ns = g .ns; slots = g .slots; counted = g .counted; is = g .is ∙ rw (drop-of-length-le (g .lines) e) }

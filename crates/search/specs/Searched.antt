@@ -23,9 +23,9 @@ use Rattle.search.specs.declared.bounded_search.Outcome.the-variants.{Di
 abbrev pub limits-of : Limits → line.Limits
 limits-of m = record { steps = m .steps; size = m .size; depth = m .depth; nodes = m .nodes }
 
--- how many slots a workspace has; those past 65,535 are not used
-abbrev pub slots-of : List ℕ → ℕ
-slots-of ws = min 65535 (length ws / SLOT)
+-- how many slots a workspace of n numbers has; those past 65,535 are not used
+abbrev pub slots-of : ℕ → ℕ
+slots-of n = min 65535 (n / SLOT)
 
 -- the search from s to t where no law matches the whole equation
 abbrev pub begun : line.Limits → Term → Term → search.Outcome
@@ -82,4 +82,4 @@ pub record Explores (right : List ℕ) (m : Limits) (slots : ℕ) (ws ws′ : Li
 -- of `search_bounded_rewrite`
 pub record Searches (left right : List ℕ) (m : Limits) (ws : List ℕ) (r : Outcome) : Type 0 where
   pub exact : (s t : Term) → IsRun left s → IsRun right t → size s ≤ 31 → size t ≤ 31 → m .size ≤ 31
-      → Answers r (slots-of ws) ws t (search.search semiring (limits-of m) s t)
+      → Answers r (slots-of (length ws)) ws t (search.search semiring (limits-of m) s t)

@@ -7,9 +7,10 @@ ghost use lib.Seq.{sets};
 ghost use Rattle.search.specs.Origins.{numbers, origin-at};
 ghost use Rattle.search.specs.Slots.{SLOT, Finds, Writes, Starts, Notes};
 ghost use Rattle.search.specs.Ordered.{Spotted, Keeps};
-ghost use Rattle.search.specs.Searched.{Opens, Takes, Explores, Searches};
+ghost use Rattle.search.specs.Searched.{slots-of, Opens, Takes, Explores, Searches};
 use crate::results;
 use crate::search;
+use crate::search::Direct;
 use crate::search::Direction;
 use crate::search::Law;
 use terms::term;
@@ -297,4 +298,43 @@ fn explore(
         outcome = Outcome::Unproved(i);
     }
     outcome
+}
+
+// How many slots of a workspace of `n` numbers are used.
+fn slots_of(n: usize) -> usize
+    ensures { λ r. ⌜ r ≡ slots-of n ⌝ }
+{
+    let all = n / SLOT;
+    if 65535 < all {
+        return 65535;
+    }
+    all
+}
+
+// Searches for a path from left to right. A direct match needs no slot; otherwise left is noted first.
+pub fn search_bounded_rewrite(
+    left: &[u32],
+    right: &[u32],
+    limits: Limits,
+    ws: &mut [u32],
+) -> Outcome
+    requires { ⌜ limits .steps ≤ 4294967295 ⌝ }
+    ensures { λ r. ⌜ Searches (now (left .entry)) (now (right .entry)) limits (now (ws .exit)) r ⌝ }
+{
+    let direct = search::search_direct_axiom(left, right);
+    if let Direct::By(law) = direct {
+        return Outcome::Direct(law);
+    }
+    let slots = slots_of(ws.len());
+    if slots == 0 {
+        return Outcome::Full;
+    }
+    if 31 < left.len() {
+        return Outcome::Full;
+    }
+    note_start(ws, left);
+    // 620 results: one for each of 31 places, each law and each direction.
+    let mut res = [0u32; 24800];
+    let mut order = [0u32; 620];
+    explore(right, limits, ws, slots, &mut res, &mut order)
 }

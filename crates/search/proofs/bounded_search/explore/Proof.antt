@@ -36,10 +36,7 @@ module _ (c : tie.At-loop Inv-loop μ-loop Inv-outer μ-outer) where
       Opened (a .right .now) (a .limits) (a .ws .now) (o .ws) (o .noted) (o .i) (distance-of (o .ws) (o .i)) (e .last .1 .1 .1 .0) (e .last .1 .1 .1 .1 .0) (e .result)
   opened =
       let o = c .before .before .before .before .before .before .before .before .before .before .before .before .before .before .before .outer in
-      let a = c .before .before .before .before .before .before .before .before .before .before .before .before .before .before .before .before .before .before .before .before .args in
-      let e = c .before .before .before .before .before .open-slot in
-      turns-start (a .right .now) (a .limits) (a .slots) (a .ws .now) (o .ws) (o .noted) (o .i) (o .inv .6) (o .inv .1) (c .before .before .before .before .before .before .before .before .before .before .before .before .before .before .outer-test .taken) (omega (arith, c .before .before .before .before .before .before .before .before .before .before .before .before .if1 .left)) (omega (arith, c .before .before .before .before .before .before .before .before .before .if2 .left))
-      (e .last .1 .1 .1 .0) (e .last .1 .1 .1 .1 .0) (e .result) (e .ensures)
+      turns-start (o .inv .6) (o .inv .1) (c .before .before .before .before .before .before .before .before .before .before .before .before .before .before .outer-test .taken) (omega (arith, c .before .before .before .before .before .before .before .before .before .before .before .before .if1 .left)) (omega (arith, c .before .before .before .before .before .before .before .before .before .if2 .left)) (c .before .before .before .before .before .open-slot .ensures)
 
   room : let e = c .before .before .before .before .before .open-slot in (e .result ≤ length (e .last .1 .1 .1 .1 .0)) × (SLOT * e .result ≤ length (e .last .1 .1 .1 .0))
   room =
@@ -94,18 +91,12 @@ loop-again : tie.Need-loop-again Inv-loop μ-loop Inv-outer μ-outer
 loop-again c =
     let f = c .before .before .before .before .take-result in
     let l = c .before .before .before .before .before .before .before .before .before in
-    let o = l .before .before .before .before .before .before .before .before .before .before .before .before .before .before .before .outer in
-    let a = l .before .before .before .before .before .before .before .before .before .before .before .before .before .before .before .before .before .before .before .before .args in
-    let e = l .before .before .before .before .before .open-slot in
-    let r = room l in
-    let h = c .before .before .before .before .before .before .before .before .loop-test .taken in
     let v = l .loop in (
-      omega (arith, h),
+      omega (arith, c .before .before .before .before .before .before .before .before .loop-test .taken),
       v .inv .1,
       v .inv .2,
       f .kept .0 ∙ v .inv .3,
-      turns-known (a .right .now) (a .limits) (a .slots) (v .ws) (v .noted) (o .i) (distance-of (o .ws) (o .i)) (e .last .1 .1 .1 .0) (e .last .1 .1 .1 .1 .0) (e .result) (v .j) (v .inv .1) h
-          (r .0) (r .1) (f .result) (f .last .0) (f .ensures) (o .ws) (o .noted) (v .inv .4) (c .enum-told .given .1),
+      turns-known (v .inv .1) (c .before .before .before .before .before .before .before .before .loop-test .taken) (room l .0) (room l .1) (f .ensures) (v .inv .4) (c .enum-told .given .1),
     )
 
 enum-told-2 : tie.Need-enum-told-2 Inv-loop μ-loop Inv-outer μ-outer
@@ -121,18 +112,12 @@ loop-again-2 : tie.Need-loop-again-2 Inv-loop μ-loop Inv-outer μ-outer
 loop-again-2 c =
     let f = c .before .before .before .before .take-result in
     let l = c .before .before .before .before .before .before .before .before .before in
-    let o = l .before .before .before .before .before .before .before .before .before .before .before .before .before .before .before .outer in
-    let a = l .before .before .before .before .before .before .before .before .before .before .before .before .before .before .before .before .before .before .before .before .args in
-    let e = l .before .before .before .before .before .open-slot in
-    let r = room l in
-    let h = c .before .before .before .before .before .before .before .before .loop-test .taken in
     let v = l .loop in (
-      omega (arith, h),
+      omega (arith, c .before .before .before .before .before .before .before .before .loop-test .taken),
       omega (arith, v .inv .1),
       omega (arith, (rw (c .enum-told2 .given .1) at (f .ensures)) .room),
       f .kept .0 ∙ v .inv .3,
-      turns-noted (a .right .now) (a .limits) (a .slots) (v .ws) (v .noted) (o .i) (distance-of (o .ws) (o .i)) (e .last .1 .1 .1 .0) (e .last .1 .1 .1 .1 .0) (e .result) (v .j) (v .inv .1) h
-          (r .0) (r .1) (f .result) (f .last .0) (f .ensures) (o .ws) (o .noted) (v .inv .4) (c .enum-told2 .given .1),
+      turns-noted (v .inv .1) (c .before .before .before .before .before .before .before .before .loop-test .taken) (room l .0) (room l .1) (f .ensures) (v .inv .4) (c .enum-told2 .given .1),
     )
 
 enum-told-3 : tie.Need-enum-told-3 Inv-loop μ-loop Inv-outer μ-outer
@@ -158,7 +143,6 @@ outer-again c =
     let l = c .before in
     let v = l .loop in
     let o = l .before .before .before .before .before .before .before .before .before .before .before .before .before .before .before .outer in
-    let a = l .before .before .before .before .before .before .before .before .before .before .before .before .before .before .before .before .before .before .before .before .args in
     let e = l .before .before .before .before .before .open-slot in (
       omega (arith, v .inv .1),
       v .inv .2,
@@ -166,8 +150,7 @@ outer-again c =
       e .kept .1 .1 .1 .0 ∙ o .inv .3,
       e .kept .1 .1 .1 .1 .0 ∙ o .inv .4,
       refl,
-      turns-end (a .right .now) (a .limits) (o .i) (distance-of (o .ws) (o .i)) (e .last .1 .1 .1 .0) (e .last .1 .1 .1 .1 .0) (e .result) (o .ws) (o .noted) (v .ws) (v .noted) (v .j)
-          (v .inv .4) (a .ws .now) (opened l) (omega (arith, c .loop-test .left)) (room l .0),
+      turns-end (v .inv .4) (opened l) (omega (arith, c .loop-test .left)) (room l .0),
     )
 
 same-length : tie.Need-same-length Inv-loop μ-loop Inv-outer μ-outer
@@ -180,11 +163,7 @@ same-length-3 : tie.Need-same-length-3 Inv-loop μ-loop Inv-outer μ-outer
 same-length-3 c = search needs
 
 returns : tie.Need-returns Inv-loop μ-loop Inv-outer μ-outer
-returns c =
-    let o = c .before .outer in
-    let b = c .before .before .before .before .before .before in
-    let a = b .args in
-    rw (o .inv .5) (ends (a .right .now) (a .limits) (a .slots) (a .ws .now) (o .ws) (o .noted) (o .i) (o .inv .6) (o .inv .1) (omega arith))
+returns c = let o = c .before .outer in rw (o .inv .5) (ends (o .inv .6) (o .inv .1) (omega arith))
 
 same-length-4 : tie.Need-same-length-4 Inv-loop μ-loop Inv-outer μ-outer
 same-length-4 c = search needs
@@ -196,11 +175,7 @@ same-length-6 : tie.Need-same-length-6 Inv-loop μ-loop Inv-outer μ-outer
 same-length-6 c = search needs
 
 returns-2 : tie.Need-returns-2 Inv-loop μ-loop Inv-outer μ-outer
-returns-2 c =
-    let o = c .before .before .before .outer in
-    let b = c .before .before .before .before .before .before .before .before in
-    let a = b .args in
-    rw (o .inv .5) (ends-limit (a .right .now) (a .limits) (a .slots) (a .ws .now) (o .ws) (o .noted) (o .i) (o .inv .6) (o .inv .1) (omega arith))
+returns-2 c = let o = c .before .before .before .outer in rw (o .inv .5) (ends-limit (o .inv .6) (o .inv .1) (omega arith))
 
 same-length-7 : tie.Need-same-length-7 Inv-loop μ-loop Inv-outer μ-outer
 same-length-7 c = search needs
@@ -212,11 +187,7 @@ same-length-9 : tie.Need-same-length-9 Inv-loop μ-loop Inv-outer μ-outer
 same-length-9 c = search needs
 
 returns-3 : tie.Need-returns-3 Inv-loop μ-loop Inv-outer μ-outer
-returns-3 c =
-    let o = c .before .before .before .before .before .before .outer in
-    let b = c .before .before .before .before .before .before .before .before .before .before .before in
-    let a = b .args in
-    rw (o .inv .5) (ends-far (a .right .now) (a .limits) (a .slots) (a .ws .now) (o .ws) (o .noted) (o .i) (o .inv .6) (o .inv .1) (omega arith) (omega arith))
+returns-3 c = let o = c .before .before .before .before .before .before .outer in rw (o .inv .5) (ends-far (o .inv .6) (o .inv .1) (omega arith) (omega arith))
 
 same-length-10 : tie.Need-same-length-10 Inv-loop μ-loop Inv-outer μ-outer
 same-length-10 c = search needs
@@ -231,14 +202,8 @@ returns-4 : tie.Need-returns-4 Inv-loop μ-loop Inv-outer μ-outer
 returns-4 c =
     let f = c .before .before .before .before .take-result in
     let l = c .before .before .before .before .before .before .before .before .before in
-    let o = l .before .before .before .before .before .before .before .before .before .before .before .before .before .before .before .outer in
-    let a = l .before .before .before .before .before .before .before .before .before .before .before .before .before .before .before .before .before .before .before .before .args in
-    let e = l .before .before .before .before .before .open-slot in
-    let r = room l in
-    let h = c .before .before .before .before .before .before .before .before .loop-test .taken in
     let v = l .loop in
-    ends-proved (a .right .now) (a .limits) (a .slots) (v .ws) (v .noted) (o .i) (distance-of (o .ws) (o .i)) (e .last .1 .1 .1 .0) (e .last .1 .1 .1 .1 .0) (e .result) (v .j) (v .inv .1) h
-    (r .0) (r .1) (f .result) (f .last .0) (f .ensures) (o .ws) (o .noted) (v .inv .4) (a .ws .now) (opened l) (c .enum-told3 .given .1)
+    ends-proved (v .inv .1) (c .before .before .before .before .before .before .before .before .loop-test .taken) (room l .0) (room l .1) (f .ensures) (v .inv .4) (opened l) (c .enum-told3 .given .1)
 
 same-length-13 : tie.Need-same-length-13 Inv-loop μ-loop Inv-outer μ-outer
 same-length-13 c = search needs
@@ -253,14 +218,8 @@ returns-5 : tie.Need-returns-5 Inv-loop μ-loop Inv-outer μ-outer
 returns-5 c =
     let f = c .before .before .before .before .take-result in
     let l = c .before .before .before .before .before .before .before .before .before in
-    let o = l .before .before .before .before .before .before .before .before .before .before .before .before .before .before .before .outer in
-    let a = l .before .before .before .before .before .before .before .before .before .before .before .before .before .before .before .before .before .before .before .before .args in
-    let e = l .before .before .before .before .before .open-slot in
-    let r = room l in
-    let h = c .before .before .before .before .before .before .before .before .loop-test .taken in
     let v = l .loop in
-    ends-full (a .right .now) (a .limits) (a .slots) (v .ws) (v .noted) (o .i) (distance-of (o .ws) (o .i)) (e .last .1 .1 .1 .0) (e .last .1 .1 .1 .1 .0) (e .result) (v .j) (v .inv .1) h
-    (r .0) (r .1) (f .result) (f .last .0) (f .ensures) (o .ws) (o .noted) (v .inv .4) (a .ws .now) (opened l) (c .enum-told4 .given .1)
+    ends-full (v .inv .1) (c .before .before .before .before .before .before .before .before .loop-test .taken) (room l .0) (room l .1) (f .ensures) (v .inv .4) (opened l) (c .enum-told4 .given .1)
 
 pub explore-spec : {M : Type 1} → statement M
 explore-spec =
