@@ -15,7 +15,7 @@ use Rattle.search.specs.Line.{Line, forward, back, at-root, root-lines, 
 use Rattle.search.specs.Place.{subterm-at, placed, lines-at, gather}
 use Rattle.search.specs.Coded.{law-at, numbered-law}
 use Rattle.search.specs.Ordered.{none}
-use Rattle.search.specs.Resulted.{line-of, Adds, Resulted}
+use Rattle.search.specs.Resulted.{tried-by, Adds, Resulted}
 use Rattle.search.specs.Theory.Positions.{gather-snoc, lines-in-order}
 use Rattle.search.specs.declared.search.Law.{Law}
 use Rattle.search.specs.declared.search.Direction.{Direction}
@@ -47,7 +47,7 @@ unfolding root-lines
 one-law w t = rw append-nil
 
 first-more : (place parent n : ℕ) → n < 10 → (w : Law) → w ≡ numbered-law n → (t : Term)
-    → (first-laws place n t ++ line-of (step-of w Forward place parent) t) ++ line-of (step-of w Back place parent) t ≡ first-laws place (n + 1) t
+    → (first-laws place n t ++ tried-by (step-of w Forward place parent) t) ++ tried-by (step-of w Back place parent) t ≡ first-laws place (n + 1) t
 first-more place parent n h w e t =
     let u = subterm-at t place in
     let f = placed t place in
@@ -63,8 +63,8 @@ module _ {xs : List ℕ} {room deep parent : ℕ} (place : ℕ) {res order : Lis
 
   module _ (n : ℕ) {res₁ order₁ : List ℕ} {r₁ : ℕ} (A : Adds xs room deep parent (first-laws place n) (2 * n) res order count res₁ order₁ r₁) where
     pub laws-more : n < 10 → (w : Law) → w ≡ numbered-law n → {room₁ room₂ : ℕ} → room₁ ≡ room → room₂ ≡ room → {res₂ order₂ res₃ order₃ : List ℕ} {r₂ r₃ : ℕ}
-        → Adds xs room₁ deep parent (line-of (step-of w Forward place parent)) 1 res₁ order₁ r₁ res₂ order₂ r₂
-        → Adds xs room₂ deep parent (line-of (step-of w Back place parent)) 1 res₂ order₂ r₂ res₃ order₃ r₃
+        → Adds xs room₁ deep parent (tried-by (step-of w Forward place parent)) 1 res₁ order₁ r₁ res₂ order₂ r₂
+        → Adds xs room₂ deep parent (tried-by (step-of w Back place parent)) 1 res₂ order₂ r₂ res₃ order₃ r₃
         → Adds xs room deep parent (first-laws place (n + 1)) (2 * (n + 1)) res order count res₃ order₃ r₃
     laws-more h w e p q F B =
         adds-as (first-laws place (n + 1)) (2 * (n + 1)) (λ t k. first-more place parent n h w e t) (omega arith) (adds-then (adds-then A (rw p at F)) (rw q at B))
