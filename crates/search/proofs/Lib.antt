@@ -18,3 +18,6 @@ pub mod Slots
 pub mod Noting
 pub mod Sorting
 pub mod Keeping
+pub mod Tracing
+pub mod Turning
+pub mod Traced

@@ -147,7 +147,7 @@ starts {ws} {ws′} {xs} w =
     record { slots = λ t h. slots-more [] (record { term = t; trail = [] }) ws ws′ refl (record { slot = λ k q. absurd (omega arith) }) (first t h) }
   where
     first : (t : Term) → IsRun xs t → Slot ws′ (record { term = t; trail = [] } ∷ []) 0 (record { term = t; trail = [] })
-    first t h = record { run = w .run t h; origin = rw (w .origin) refl; distance = w .distance }
+    first t h = record { run = w .run t h; origin = rw (w .origin) (refl, refl); distance = w .distance }
 
 pub notes : {ws ws′ : List ℕ} {count : ℕ} {xs : List ℕ} {s : Step} {d : ℕ} → Writes ws ws′ count xs (From s) d → Notes ws ws′ count xs s d
 notes {ws} {ws′} {count} {xs} {s} {d} w = record { kept = w .kept; slots = slots }

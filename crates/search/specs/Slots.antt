@@ -49,8 +49,9 @@ pub record Leads (s : Step) (ns : List Noted) (k : ℕ) (n : Noted) : Type 0 whe
   pub marks : Marks s (noted-at ns (s .parent) .term) line
   pub is : n ≡ entry (noted-at ns (s .parent) .trail) line
 
+-- slot 0 alone has the start
 abbrev pub Comes : Origin → List Noted → ℕ → Noted → Type 0
-Comes Start ns k n = n .trail ≡ []
+Comes Start ns k n = (k ≡ 0) × (n .trail ≡ [])
 Comes (From s) ns k n = Leads s ns k n
 
 -- slot k has n, one of the noted terms ns

@@ -13,7 +13,7 @@ use crate::search::Law;
 use terms::term;
 use terms::term::Comparison;
 
-const SLOT: usize = 40;
+pub const SLOT: usize = 40;
 
 // A line: the place is the position in the run where the replaced subterm starts, the parent the slot of the term that is opened.
 pub struct Step {

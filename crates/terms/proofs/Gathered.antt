@@ -23,7 +23,7 @@ use Rattle.terms.proofs.Inserted.{inserted}
 
 -- letters in a list and letters of a term
 
-letters-small : (x : ℕ) (xs : List ℕ) → x < ZERO → letters-of (x ∷ xs) ≡ x ∷ letters-of xs
+pub letters-small : (x : ℕ) (xs : List ℕ) → x < ZERO → letters-of (x ∷ xs) ≡ x ∷ letters-of xs
 unfolding letters-of
 letters-small x xs h = rw (lt-ltb x ZERO h, letters-of)
 
@@ -31,7 +31,7 @@ letters-other : (x : ℕ) (xs : List ℕ) → ZERO ≤ x → letters-of (x ∷ x
 unfolding letters-of
 letters-other x xs h = rw (le-ltb x ZERO h, letters-of)
 
-letters-append : (xs ys : List ℕ) → letters-of (xs ++ ys) ≡ letters-of xs ++ letters-of ys
+pub letters-append : (xs ys : List ℕ) → letters-of (xs ++ ys) ≡ letters-of xs ++ letters-of ys
 unfolding letters-of
 letters-append [] ys = refl
 letters-append (x ∷ xs) ys =
@@ -53,10 +53,10 @@ letters-term {t = t} h = rw (h .whole) (letters-run t (h .fine))
 
 -- a list that fills a front
 
-fills-front : {n : ℕ} (l out out′ : List ℕ) → Fills l out (All n) out′ → take n out′ ≡ l
+pub fills-front : {n : ℕ} (l out out′ : List ℕ) → Fills l out (All n) out′ → take n out′ ≡ l
 fills-front {n} l out out′ (e, h, w) = rw w (take-at l (drop n out) n (sym e))
 
-fills-length : {n : ℕ} (l out out′ : List ℕ) → Fills l out (All n) out′ → length out′ ≡ length out
+pub fills-length : {n : ℕ} (l out out′ : List ℕ) → Fills l out (All n) out′ → length out′ ≡ length out
 fills-length {n} l out out′ (e, h, w) = omega (arith, ap length w ∙ length-append l (drop n out), length-drop n out)
 
 -- and what lies behind it
@@ -70,7 +70,7 @@ pub fills-then : {n : ℕ} (l l′ out mid out′ : List ℕ) (r : Listed) → F
 fills-then l l′ out mid out′ (All m) f g (e, h, w) = (e, omega (arith, fills-length l out mid f), w ∙ ap (λ d. l′ ++ d) (fills-drop l out mid m f (omega (arith, f .0))))
 fills-then l l′ out mid out′ TooMany f g (h, w) = (omega (arith, fills-length l out mid f), w ∙ fills-length l out mid f)
 
-fills-none : (l l′ out out′ : List ℕ) → length l ≤ length l′ → Fills l out TooMany out′ → Fills l′ out TooMany out′
+pub fills-none : (l l′ out out′ : List ℕ) → length l ≤ length l′ → Fills l out TooMany out′ → Fills l′ out TooMany out′
 fills-none l l′ out out′ g (h, w) = (omega arith, w)
 
 -- the loop of `gather`

@@ -204,7 +204,7 @@ fn insert(out: &mut [u32], n: usize, x: u32) -> Listed
 }
 
 // The letters of a run put among the first `n` numbers, one after another.
-fn gather(s: &[u32], out: &mut [u32], n: usize) -> Listed
+pub fn gather(s: &[u32], out: &mut [u32], n: usize) -> Listed
     ensures { λ r. ⌜ Fills (insert-all lost compare (take n (now (out .entry))) (letters-of (now (s .entry)))) (now (out .entry)) r (now (out .exit)) ⌝ }
 {
     let mut count = least(n, out.len());

@@ -15,14 +15,14 @@ use Rattle.words.proofs.Decoded.{least-numbered}
 use Rattle.words.proofs.Parts.{front-stored}
 use Rattle.words.proofs.Visited.{Made}
 
--- a side renamed at the front of a buffer of 31 numbers
-module _ (f : ℕ → ℕ) (xs buffer : List ℕ) {x u : List ℕ} (b : length buffer ≡ 31)
-    (e : x ≡ sets buffer 0 (rename-run f xs)) (d : u ≡ take (length xs) x) (h : length xs ≤ 31) where
-  renamed-front : u ≡ rename-run f xs
+-- a run renamed at the front of a buffer of n numbers
+module _ (f : ℕ → ℕ) (xs buffer : List ℕ) {x u : List ℕ} {n : ℕ} (b : length buffer ≡ n)
+    (e : x ≡ sets buffer 0 (rename-run f xs)) (d : u ≡ take (length xs) x) (h : length xs ≤ n) where
+  pub renamed-front : u ≡ rename-run f xs
   renamed-front =
       d ∙ rw (e, ← length-map xs (rename-number f)) (front-stored buffer (rename-run f xs) (omega (arith, length-map xs (rename-number f))))
 
-  renamed-short : length u ≤ 31
+  renamed-short : length u ≤ n
   renamed-short = omega (arith, ap length renamed-front, length-map xs (rename-number f))
 
 -- both sides

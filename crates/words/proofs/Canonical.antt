@@ -66,10 +66,9 @@ renamed-fine f k one h = h
 renamed-fine f k (add s t) h = (renamed-fine f k s (h .0), renamed-fine f k t (h .1))
 renamed-fine f k (mul s t) h = (renamed-fine f k s (h .0), renamed-fine f k t (h .1))
 
-renaming-fine : (names : List ℕ) → length names ≤ 6 → (c : ℕ) (t : Term) → Fine t → Fine (rename-term (renaming names c) t)
-renaming-fine names l c =
-    renamed-fine (renaming names c)
-    (λ n h. renamed-below ZERO n names (decoded (length names) 0 c) h (λ p m. omega (arith, decoded-below (length names) 0 c m)))
+pub renaming-below : (names : List ℕ) → length names ≤ 6 → (c n : ℕ) → n < ZERO → renaming names c n < ZERO
+renaming-below names l c n h =
+    renamed-below ZERO n names (decoded (length names) 0 c) h (λ p m. omega (arith, decoded-below (length names) 0 c m))
 
 -- the least over all renamings
 
@@ -83,7 +82,7 @@ module _ (names : List ℕ) (few : length names ≤ 6) (s t : Term) (f : Fine s)
 
   run-least : both run (least order rename-term names s t) ≡ least order-numbers rename-run names (run s) (run t)
   run-least =
-      code-least run Fine run-carries rename-term names s t (λ c. renaming-fine names few c s f) (λ c. renaming-fine names few c t g)
+      code-least run Fine run-carries rename-term names s t (λ c. renamed-fine (renaming names c) (renaming-below names few c) s f) (λ c. renamed-fine (renaming names c) (renaming-below names few c) t g)
       ∙ (λ i. least-to order-numbers (λ c. run-candidate c i) (factorial (length names) - 1))
       ∙ least-candidate names (run s) (run t)
 

@@ -29,7 +29,7 @@ map-counts f g (suc k) i j h =
     let d : suc j + r ≡ j + suc r = omega arith in
     rw (c, d) (h (suc r) (omega arith))))
 
-count-from-add : (k m i : ℕ) → count-from (k + m) i ≡ count-from k i ++ count-from m (i + k)
+pub count-from-add : (k m i : ℕ) → count-from (k + m) i ≡ count-from k i ++ count-from m (i + k)
 unfolding count-from
 count-from-add zero m i =
     let d : 0 + m ≡ m = omega arith in

@@ -16,7 +16,7 @@ use Rattle.words.specs.Multiply.{Puts, Fits, PutsWords, Multiplies, atom
 use Rattle.words.specs.Theory.Bound.{atoms, size-atoms, most, most-most, most-bound, expand-bound}
 use Rattle.words.specs.Theory.Longest.{longest-expand}
 use Rattle.words.specs.declared.normal_form.Expanded.{Expanded}
-use Rattle.words.proofs.Stand.{between-end, between-front, between-words}
+use Rattle.words.proofs.Stand.{between-end, between-front}
 use Rattle.words.proofs.Multiplied.{letter-words}
 use Rattle.words.proofs.Puts.{puts-then, puts-anew}
 
@@ -168,7 +168,5 @@ multiplied-out {ws = ws} {ss = ss} {r = r} e =
       few = e .few (omega arith);
       exact = λ t h small words scratch.
           let room : Room t 0 ws ss = record { before = 0; few = omega arith; small = omega (arith, size-atoms t); words = words; scratch = scratch } in
-          let p = e .exact t (holds-whole h) room .1 .put in
-          let n : r .count ≡ length (expand t) = omega (arith, between-end p) in
-          (n, rw n (between-words p));
+          e .exact t (holds-whole h) room .1;
     }

@@ -19,3 +19,8 @@ pub mod Kept
 pub mod Visited
 pub mod Candidates
 pub mod Canonical
+pub mod SlotWords
+pub mod BoundedWords
+pub mod RenamedWords
+pub mod WordNames
+pub mod CanonicalWords

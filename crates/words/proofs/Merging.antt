@@ -9,8 +9,7 @@ use lib.ListN.{length, take, drop, getD, set, length-set, drop-of-length-le}
 use lib.Seq.{drop-cons, take-suc-set, take-all}
 use Rattle.terms.specs.Promises.{Compares, ordering-of}
 use Rattle.terms.specs.declared.term.Comparison.{Comparison}
-use Rattle.terms.specs.Sort.{kept}
-use Rattle.terms.specs.Theory.Sorted.{before, Sorted}
+use Rattle.terms.specs.Sort.{kept, before, Sorted}
 use Rattle.words.specs.Words.{Word, order-words, normal}
 use Rattle.words.specs.Spelled.{word-at, words-at}
 use Rattle.words.specs.Sort.{first-next, from-first, Merges}

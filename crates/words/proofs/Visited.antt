@@ -8,7 +8,7 @@ use Rattle.terms.specs.Compare.{Ordering, order-numbers}
 use Rattle.terms.specs.Equation.{Equation, orient}
 use Rattle.words.specs.Rename.{lesser}
 use Rattle.words.specs.Decoded.{factorial, least-to}
-use Rattle.words.specs.Candidate.{sides, Within, Room, Keeps, KeepsLesser, Visits, Finds}
+use Rattle.words.specs.Candidate.{sides, Within, Room, Keeps, KeepsLesser, Tries, Visits, Finds}
 use Rattle.words.specs.declared.candidate.Lengths.{Lengths}
 use Rattle.words.proofs.Decoded.{factorial-positive}
 
@@ -25,16 +25,21 @@ pub record Made (n : ℕ) (g : ℕ → Equation (List ℕ)) (c : ℕ) (u v left 
 
 module _ {IsRoom : Type 0} {n c : ℕ} {g : ℕ → Equation (List ℕ)} {u v left right : List ℕ} (made : IsRoom → Made n g c u v left right)
     {best r : Lengths} {left′ right′ : List ℕ} where
-  pub visit-first : c ≡ 0 → Keeps u v left right r left′ right′ → Visits IsRoom g c left right best r left′ right′
+  visit-first : c ≡ 0 → Keeps u v left right r left′ right′ → Visits IsRoom g c left right best r left′ right′
   unfolding least-to
   visit-first z k = record { within = λ w. k .within; exact = λ h p. k .exact n (made h .room) ∙ made h .equation ∙ rw z }
 
-  pub visit-next : (c ≡ 0 → ⊥) → KeepsLesser u v left right best r left′ right′ → Visits IsRoom g c left right best r left′ right′
+  visit-next : (c ≡ 0 → ⊥) → KeepsLesser u v left right best r left′ right′ → Visits IsRoom g c left right best r left′ right′
   visit-next z k =
       record {
         within = k .within;
         exact = λ h p. k .exact n (made h .room) ∙ rw (made h .equation, p (omega arith)) (least-next order-numbers g c z);
       }
+
+pub visited : {IsRoom : Type 0} {n c : ℕ} {g : ℕ → Equation (List ℕ)} {u v left right : List ℕ} → (IsRoom → Made n g c u v left right)
+    → {best r : Lengths} {left′ right′ : List ℕ} → Tries u v c left right best r left′ right′ → Visits IsRoom g c left right best r left′ right′
+visited {c = zero} made t = visit-first made refl (t .first refl)
+visited {c = suc c} made t = visit-next made (λ e. omega arith) (t .later (λ e. omega arith))
 
 -- all of them, in a loop
 

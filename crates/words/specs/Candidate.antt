@@ -41,6 +41,11 @@ pub record KeepsLesser (xs ys left right : List ℕ) (best r : Lengths) (left′
   pub within : Within left right best → Within left right r
   pub exact : (n : ℕ) → Room n xs ys left right → sides r left′ right′ ≡ lesser order-numbers (sides best left right) (orient order-numbers xs ys)
 
+-- two runs tried as candidate number c: the first is kept, and a later one if it makes a lesser equation than the best so far
+pub record Tries (xs ys : List ℕ) (c : ℕ) (left right : List ℕ) (best r : Lengths) (left′ right′ : List ℕ) : Type 0 where
+  pub first : c ≡ 0 → Keeps xs ys left right r left′ right′
+  pub later : (c ≡ 0 → ⊥) → KeepsLesser xs ys left right best r left′ right′
+
 -- the least of the candidates before c becomes the least of those up to c, if there is room
 pub record Visits (IsRoom : Type 0) (candidate : ℕ → Equation (List ℕ)) (c : ℕ)
     (left right : List ℕ) (best r : Lengths) (left′ right′ : List ℕ) : Type 0 where

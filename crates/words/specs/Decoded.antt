@@ -31,5 +31,6 @@ unfolding lesser
 least-to o candidate zero = candidate zero
 least-to o candidate (suc c) = lesser o (least-to o candidate c) (candidate (suc c))
 
+-- a function on both sides
 abbrev pub both : {A B : Type 0} → (A → B) → Equation A → Equation B
 both f e = record { left = f (e .left); right = f (e .right) }

@@ -9,7 +9,7 @@ use Rattle.terms.specs.Term.{Term, size}
 use Rattle.terms.specs.Run.{ZERO, ONE}
 use Rattle.terms.specs.Held.{IsRun, Holds}
 use Rattle.words.specs.Words.{Word, products, expand}
-use Rattle.words.specs.Spelled.{SLOT, words-in}
+use Rattle.words.specs.Spelled.{SLOT}
 use Rattle.words.specs.Theory.Bound.{atoms, most}
 use Rattle.words.specs.Theory.Longest.{longest}
 use Rattle.words.specs.declared.normal_form.Expanded.{Expanded}
@@ -85,4 +85,4 @@ pub record Expands (xs : List ℕ) (at : ℕ) (ws ss : List ℕ) (j : ℕ) (r : 
 -- the term of a run is multiplied out into the first r slots
 pub record MultipliesOut (xs ws ss : List ℕ) (r : ℕ) (ws′ : List ℕ) : Type 0 where
   pub few : r ≤ MOST
-  pub exact : (t : Term) → IsRun xs t → size t ≤ 31 → SLOT * MOST ≤ length ws → SLOT * MOST ≤ length ss → (r ≡ length (expand t)) × (words-in ws′ r ≡ expand t)
+  pub exact : (t : Term) → IsRun xs t → size t ≤ 31 → SLOT * MOST ≤ length ws → SLOT * MOST ≤ length ss → Puts (expand t) ws 0 r ws′

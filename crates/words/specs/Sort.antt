@@ -7,8 +7,7 @@ use lib.ListN.{length, take, drop}
 use Rattle.terms.specs.Compare.{Ordering}
 use Rattle.terms.specs.Lists.{_∈_}
 use Rattle.terms.specs.Run.{ZERO}
-use Rattle.terms.specs.Sort.{kept}
-use Rattle.terms.specs.Theory.Sorted.{before, Sorted}
+use Rattle.terms.specs.Sort.{kept, before, Sorted}
 use Rattle.words.specs.Words.{Word, order-words, normal}
 use Rattle.words.specs.Spelled.{spelled, words-at}
 

@@ -9,9 +9,13 @@ ghost use Rattle.terms.specs.Promises.{ordering-of};
 ghost use Rattle.words.specs.Rename.{renamed, least};
 ghost use Rattle.words.specs.Decoded.{decoded, factorial, renaming};
 ghost use Rattle.words.specs.RenameRun.{rename-number, rename-run};
-ghost use Rattle.words.specs.Candidate.{Room, ordered, Keeps, KeepsLesser, Visits, Finds, candidate, CanonicalTerms};
+ghost use Rattle.words.specs.Candidate.{Room, ordered, Keeps, KeepsLesser, Tries, Visits, Finds, candidate, CanonicalTerms};
+
+pub mod words;
+
 use super::normal_form::ZERO;
 use super::normal_form::copy;
+use super::normal_form::front;
 use terms::candidate::smaller;
 use terms::term;
 use terms::term::Comparison;
@@ -68,7 +72,7 @@ fn new_number(names: &[u32], numbers: &[u32], x: u32) -> u32
 }
 
 // A run renamed into a buffer, as far as it fits.
-fn rename_run(run: &[u32], names: &[u32], numbers: &[u32], out: &mut [u32])
+pub fn rename_run(run: &[u32], names: &[u32], numbers: &[u32], out: &mut [u32])
     ensures { λ _. ⌜ now (out .exit) ≡ sets (now (out .entry)) 0 (rename-run (renamed (now (names .entry)) (now (numbers .entry))) (now (run .entry))) ⌝ }
 {
     let mut i = 0;
@@ -101,16 +105,6 @@ fn compare_equations(a: &[u32], b: &[u32], c: &[u32], d: &[u32]) -> Comparison
         Comparison::Equal => term::compare(b, d),
         Comparison::Greater => Comparison::Greater,
     }
-}
-
-// The first n numbers of a list, or all if there are fewer.
-fn front(xs: &[u32], n: usize) -> &[u32]
-    ensures { λ r. ⌜ now r ≡ take n (now (xs .entry)) ⌝ }
-{
-    if xs.len() < n {
-        return xs;
-    }
-    &xs[..n]
 }
 
 // How long the two runs are that two buffers hold at their fronts.
@@ -160,7 +154,24 @@ pub fn keep_lesser<'a>(
     }
 }
 
-// Both sides by renaming number c, into two buffers.
+// Two runs tried as candidate number c: kept if it is the first, or makes a lesser equation than the best so far.
+pub fn try_equation<'a>(
+    x: &'a [u32],
+    y: &'a [u32],
+    c: usize,
+    left: &mut [u32],
+    right: &mut [u32],
+    best: Lengths,
+) -> Lengths
+    ensures { λ r. ⌜ Tries (now (x .entry)) (now (y .entry)) c (now (left .entry)) (now (right .entry)) best r (now (left .exit)) (now (right .exit)) ⌝ }
+{
+    if c == 0 {
+        return keep(x, y, left, right);
+    }
+    keep_lesser(x, y, left, right, best)
+}
+
+// Both sides by renaming number c, into two buffers; a permutation has at most six numbers, one for each name.
 fn rename_both(a: &[u32], b: &[u32], names: &[u32], c: usize, x: &mut [u32], y: &mut [u32])
     requires { ⌜ length (now names) ≤ 6 ⌝ }
     ensures { λ _. ⌜ (now (x .exit) ≡ sets (now (x .entry)) 0 (rename-run (renaming (now (names .entry)) c) (now (a .entry)))) × (now (y .exit) ≡ sets (now (y .entry)) 0 (rename-run (renaming (now (names .entry)) c) (now (b .entry)))) ⌝ }
@@ -173,7 +184,7 @@ fn rename_both(a: &[u32], b: &[u32], names: &[u32], c: usize, x: &mut [u32], y: 
     rename_run(b, names, used, y);
 }
 
-// Renaming number c tried: kept if it is the first, or gives a lesser equation than the best so far. A side has at most 31 numbers.
+// Renaming number c tried. The buffers have room for the runs of terms of 31 nodes.
 fn visit(
     a: &[u32],
     b: &[u32],
@@ -191,10 +202,7 @@ fn visit(
     rename_both(a, b, names, c, &mut x, &mut y);
     let u = front(&x, a.len());
     let v = front(&y, b.len());
-    if c == 0 {
-        return keep(u, v, left, right);
-    }
-    keep_lesser(u, v, left, right, best)
+    try_equation(u, v, c, left, right, best)
 }
 
 // The least equation over all renamings of the names, kept in the buffers.
@@ -218,7 +226,7 @@ fn least_renaming(
     best
 }
 
-// The least equation over all renamings of the letters of two terms; nothing if they are more than six.
+// The least equation over all renamings of the letters of two terms; nothing if there are more than six letters.
 pub fn canonical_terms(a: &[u32], b: &[u32], left: &mut [u32], right: &mut [u32]) -> Lengths
     ensures { λ r. ⌜ CanonicalTerms (now (a .entry)) (now (b .entry)) (now (left .entry)) (now (right .entry)) r (now (left .exit)) (now (right .exit)) ⌝ }
 {

@@ -1,12 +1,18 @@
 // The words of a term: its summands when multiplied out, sorted.
 ghost use mathlib.Core.Path.{_≡_};
 ghost use mathlib.Core.List.{[], _∷_, _++_};
+ghost use lib.ListN.{take};
 ghost use lib.Seq.{sets};
 ghost use Rattle.words.specs.Spelled.{word-at};
 ghost use Rattle.words.specs.Multiply.{atom-words, PutsWords, JoinsRow, Joins, Multiplies, Expands, MultipliesOut};
+ghost use Rattle.words.specs.WordLists.{WordsOf};
+use super::sort::spell_sorted;
 
 // The most words of a term of 31 nodes.
-const MOST: usize = 324;
+pub const MOST: usize = 324;
+
+// The numbers in so many slots: a word has at most 16 letters.
+pub const ROOM: usize = 5508;
 
 // In a run the numbers below it are letters, and it is 0.
 pub const ZERO: u32 = 4096;
@@ -52,8 +58,18 @@ pub fn copy(out: &mut [u32], at: usize, numbers: &[u32])
     }
 }
 
+// The first n numbers of a list, or all if there are fewer.
+pub fn front(xs: &[u32], n: usize) -> &[u32]
+    ensures { λ r. ⌜ now r ≡ take n (now (xs .entry)) ⌝ }
+{
+    if xs.len() < n {
+        return xs;
+    }
+    &xs[..n]
+}
+
 // The letters of `a`, then those of `b`, put as a word into slot `k`, if there is room: the next slot.
-fn put_word(words: &mut [u32], k: usize, a: &[u32], b: &[u32]) -> usize
+pub fn put_word(words: &mut [u32], k: usize, a: &[u32], b: &[u32]) -> usize
     ensures { λ r. ⌜ PutsWords ((now (a .entry) ++ now (b .entry)) ∷ []) (now (words .entry)) k r (now (words .exit)) ⌝ }
 {
     if MOST <= k {
@@ -170,4 +186,15 @@ pub fn multiply_out(run: &[u32], words: &mut [u32], scratch: &mut [u32]) -> usiz
     ensures { λ r. ⌜ MultipliesOut (now (run .entry)) (now (words .entry)) (now (scratch .entry)) r (now (words .exit)) ⌝ }
 {
     expand_at(run, 0, words, 0, scratch).count
+}
+
+// The words of the term of a run, written at the front of `out`, if there is room: where they end.
+// A term of 31 nodes has at most 324 words, for which there are 324 slots of 17 numbers.
+pub fn words_of(run: &[u32], out: &mut [u32]) -> usize
+    ensures { λ r. ⌜ WordsOf (now (run .entry)) (now (out .entry)) r (now (out .exit)) ⌝ }
+{
+    let mut words = [0u32; ROOM];
+    let mut scratch = [0u32; ROOM];
+    let n = multiply_out(run, &mut words, &mut scratch);
+    spell_sorted(front(&words, 17 * n), out)
 }

@@ -1,13 +1,16 @@
 // Slots sorted by the words in them, and the words written as a run.
 ghost use mathlib.Core.Path.{_≡_};
-ghost use Prim.Native.Nat.{_+_, _≤_};
+ghost use Prim.Native.Nat.{_+_, _*_, _≤_};
 ghost use mathlib.Core.List.{[], _∷_};
 ghost use lib.ListN.{length, take, drop};
 ghost use Rattle.terms.specs.Sort.{kept};
 ghost use Rattle.words.specs.Words.{normal};
 ghost use Rattle.words.specs.Rename.{count-from};
-ghost use Rattle.words.specs.Spelled.{words-at};
+ghost use Rattle.words.specs.Spelled.{SLOT, words-at, words-in};
+ghost use Rattle.words.specs.Multiply.{MOST};
 ghost use Rattle.words.specs.Sort.{from-first, Merges, Spells};
+ghost use Rattle.words.specs.WordLists.{slot-words};
+use super::normal_form::MOST;
 use super::normal_form::copy;
 use super::normal_form::word_of;
 use terms::term::Comparison;
@@ -118,4 +121,26 @@ pub fn spell(words: &[u32], order: &[u32], out: &mut [u32]) -> usize
         i += 1;
     }
     n
+}
+
+// The words in the first slots, as many as `order` is long, sorted and written at the front of `out`, if there is room: where they end.
+fn sort_and_spell(words: &[u32], order: &mut [u32], spare: &mut [u32], out: &mut [u32]) -> usize
+    requires { ⌜ (length (now order) ≤ MOST) × (length (now order) ≤ length (now spare)) ⌝ }
+    ensures { λ r. ⌜ Spells (normal kept (words-in (now (words .entry)) (length (now (order .entry))))) (now (out .entry)) r (now (out .exit)) ⌝ }
+{
+    number_slots(order);
+    sort(words, order, spare);
+    spell(words, order, out)
+}
+
+// The words in all the slots, sorted and written at the front of `out`, if there is room: where they end.
+// A term of 31 nodes has at most 324 words.
+pub fn spell_sorted(words: &[u32], out: &mut [u32]) -> usize
+    requires { ⌜ length (now words) ≤ SLOT * MOST ⌝ }
+    ensures { λ r. ⌜ Spells (normal kept (slot-words (now (words .entry)))) (now (out .entry)) r (now (out .exit)) ⌝ }
+{
+    let mut order = [0u32; MOST];
+    let mut spare = [0u32; MOST];
+    let n = words.len() / 17;
+    sort_and_spell(words, &mut order[..n], &mut spare, out)
 }

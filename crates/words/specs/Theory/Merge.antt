@@ -7,9 +7,9 @@ use lib.Dec.{T}
 use lib.Seq.{append-snoc}
 use Rattle.terms.specs.Lists.{_∈_, here, append-cases}
 use Rattle.terms.specs.Compare.{Ordering}
-use Rattle.terms.specs.Sort.{kept, insert, sort}
+use Rattle.terms.specs.Sort.{kept, insert, sort, before, Below, Sorted}
 use Rattle.terms.specs.Theory.Order.{IsOrder, flip-gt, cases}
-use Rattle.terms.specs.Theory.Sorted.{before, Below, Sorted, insert-below, sorted-least}
+use Rattle.terms.specs.Theory.Sorted.{insert-below, sorted-least}
 use Rattle.terms.specs.Theory.Sorting.{sort-fold, sort-of-permutation}
 use Rattle.terms.specs.Theory.SortMembers.{sort-member}
 use Rattle.words.specs.Sort.{first-next}

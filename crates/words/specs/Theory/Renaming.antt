@@ -29,7 +29,7 @@ rename-term-depends (add s t) f g h =
 rename-term-depends (mul s t) f g h =
     ap₂ mul (rename-term-depends s f g (λ n m. h n (in-left (letters t) m))) (rename-term-depends t f g (λ n m. h n (in-right (letters s) m)))
 
-map-words-depends : (ws : List Word) → Depends (λ f. map (map f)) (flatten ws) ws
+pub map-words-depends : (ws : List Word) → Depends (λ f. map (map f)) (flatten ws) ws
 unfolding flatten
 map-words-depends [] f g h = refl
 map-words-depends (w ∷ ws) f g h =

@@ -37,8 +37,10 @@ loop-again : tie.Need-loop-again Inv-loop μ-loop
 loop-again c =
     let v = c .before .before .before .before in
     let l = v .before .before .before .before .loop in
-    let still = room-as-long (l .inv .1 .same-left) (l .inv .1 .same-right) in
-    (omega arith, one-more-visited (l .inv .1) still (v .visit .ensures) (v .visit .kept .1 .1 .1 .1 .0) (v .visit .kept .1 .1 .1 .1 .1 .0))
+    let k = v .visit .kept in (
+      omega arith,
+      one-more-visited (l .inv .1) (room-as-long (l .inv .1 .same-left) (l .inv .1 .same-right)) (v .visit .ensures) (k .1 .1 .1 .1 .0) (k .1 .1 .1 .1 .1 .0),
+    )
 
 same-length : tie.Need-same-length Inv-loop μ-loop
 same-length c = search needs

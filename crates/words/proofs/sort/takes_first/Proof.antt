@@ -4,8 +4,7 @@ use mathlib.Core.Path.{_≡_, sym}
 use Rattle.terms.specs.Promises.{ordering-of}
 use Rattle.terms.specs.declared.term.Comparison.{Comparison}
 use Rattle.terms.specs.declared.term.Comparison.the-variants.{Less, Equal, Greater}
-use Rattle.terms.specs.Sort.{kept}
-use Rattle.terms.specs.Theory.Sorted.{before}
+use Rattle.terms.specs.Sort.{kept, before}
 use Rattle.words.specs.Sort.{from-first}
 use Rattle.words.proofs.Merging.{no-first, no-second, both-there}
 use borrow.Author.Needs.{needs}

@@ -4,8 +4,8 @@ use mathlib.Core.Path.{sym}
 use lib.ListN.{length-take}
 use lib.Seq.{take-all}
 use borrow.Author.Needs.{needs}
-use Rattle.words.proofs.candidate.front.Statement.{statement}
-use Rattle.words.proofs.candidate.front.Tie as tie
+use Rattle.words.proofs.normal_form.front.Statement.{statement}
+use Rattle.words.proofs.normal_form.front.Tie as tie
 
 returns : tie.Need-returns
 returns c = sym (take-all (c .before .args .n) (c .before .args .xs .now) (omega arith))

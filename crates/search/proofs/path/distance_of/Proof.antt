@@ -1,0 +1,35 @@
+-- `distance_of` meets its contract: past the end of the slots every number is 0.
+use Prim.Native.Nat.{_+_, _*_}
+use native.Mathlib.Omega.{arith}
+use mathlib.Core.Path.{sym}
+use lib.ListN.{List·getD-eq-default}
+use Rattle.search.specs.Slots.{SLOT}
+use borrow.Author.Needs.{needs}
+use Rattle.search.proofs.path.distance_of.Statement.{statement}
+use Rattle.search.proofs.path.distance_of.Tie as tie
+
+mul-at : tie.Need-mul-at
+mul-at c = search needs
+
+add-at : tie.Need-add-at
+add-at c = search needs
+
+returns : tie.Need-returns
+returns c = sym (List·getD-eq-default (c .before .args .ws .now) 0 (c .if1 .taken))
+
+mul-result : tie.Need-mul-result
+mul-result c = search needs
+
+shared-slice-read-result : tie.Need-shared-slice-read-result
+shared-slice-read-result c = search needs
+
+cast-result : tie.Need-cast-result
+cast-result c = omega (arith, c .shared-slice-known .given (SLOT * c .before .before .args .k + 5))
+
+returns-2 : tie.Need-returns-2
+returns-2 c = search needs
+
+pub distance-of-spec : {M : Type 1} → statement M
+distance-of-spec =
+    tie.close
+    (tie.spec mul-at add-at returns mul-result shared-slice-read-result cast-result returns-2)

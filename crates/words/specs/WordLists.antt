@@ -1,0 +1,53 @@
+-- Whole lists of words: those of a term, and those renamed, as the functions that make them promise.
+use Prim.Native.Nat.{ℕ, _*_, _/_, _≤_, _<_}
+use mathlib.Core.Path.{_≡_}
+use mathlib.Core.List.{List, _++_}
+use lib.ListN.{length, take}
+use Rattle.terms.specs.Term.{Term, size}
+use Rattle.terms.specs.Letters.{letters, rising}
+use Rattle.terms.specs.Run.{ZERO}
+use Rattle.terms.specs.Held.{IsRun}
+use Rattle.words.specs.Words.{Word, words}
+use Rattle.words.specs.Spelled.{SLOT, spelled, words-in}
+use Rattle.words.specs.Rename.{rename-words, canonical-words}
+use Rattle.words.specs.Multiply.{MOST, LONGEST}
+use Rattle.words.specs.Sort.{Lettered}
+use Rattle.words.specs.Candidate.{Within}
+use Rattle.words.specs.Theory.Longest.{longest}
+use Rattle.words.specs.declared.candidate.Lengths.{Lengths}
+
+-- the words in all the slots that a list has
+abbrev pub slot-words : List ℕ → List Word
+slot-words ws = words-in ws (length ws / SLOT)
+
+-- as few and as short as those of a term of 31 nodes, of letters below 4096
+pub record Bounded (us : List Word) : Type 0 where
+  pub few : length us ≤ MOST
+  pub short : longest us ≤ LONGEST
+  pub small : Lettered us
+
+-- the words of the term of a run
+pub record WordsOf (xs out : List ℕ) (r : ℕ) (out′ : List ℕ) : Type 0 where
+  pub within : r ≤ length out
+  pub exact : (t : Term) → IsRun xs t → size t ≤ 31 → SLOT * MOST ≤ length out → take r out′ ≡ spelled (words t)
+
+-- the words in the slots ws renamed, by way of the slots ss
+pub record RenamesWords (f : ℕ → ℕ) (ws ss out : List ℕ) (r : ℕ) (out′ : List ℕ) : Type 0 where
+  pub within : r ≤ length out
+  pub exact : Bounded (slot-words ws) → ((n : ℕ) → n < ZERO → f n < ZERO) → SLOT * MOST ≤ length ss → SLOT * MOST ≤ length out
+      → take r out′ ≡ spelled (rename-words f (slot-words ws))
+
+-- room to rename the words in two lists of slots
+pub record WordRoom (us vs left right : List ℕ) : Type 0 where
+  pub first : Bounded (slot-words us)
+  pub second : Bounded (slot-words vs)
+  pub left-room : SLOT * MOST ≤ length left
+  pub right-room : SLOT * MOST ≤ length right
+
+-- the canonical equation of the words of two terms of at most 31 nodes with at most six letters
+pub record CanonicalWords (xs ys left right : List ℕ) (r : Lengths) (left′ right′ : List ℕ) : Type 0 where
+  pub within : Within left right r
+  pub exact : (s t : Term) → IsRun xs s → IsRun ys t → size s ≤ 31 → size t ≤ 31
+      → length (rising (letters s ++ letters t)) ≤ 6 → SLOT * MOST ≤ length left → SLOT * MOST ≤ length right
+      → (take (r .left) left′ ≡ spelled (canonical-words (words s) (words t) .left))
+      × (take (r .right) right′ ≡ spelled (canonical-words (words s) (words t) .right))
