@@ -6,7 +6,7 @@ use mathlib.Core.Logic.{inl, inr}
 use mathlib.Core.Bool.{Bool, true, false, cond}
 use mathlib.Core.Option.{Option, none, some}
 use mathlib.Core.List.{List, [], _∷_, map}
-use lib.ListN.{length, getD}
+use lib.ListN.{getD}
 use borrow.Author.Tests.{le-leb, lt-leb}
 use Rattle.terms.specs.Term.{Term, size, same}
 use Rattle.terms.specs.Held.{IsRun}
@@ -15,7 +15,7 @@ use Rattle.search.specs.Law as law
 use Rattle.search.specs.Line as line
 use Rattle.search.specs.Line.{Line, from, to, rewrite, changed, at-root}
 use Rattle.search.specs.Place.{subterm-at, replace-at, placed}
-use Rattle.search.specs.Span.{Pattern, Within}
+use Rattle.search.specs.Span.{Pattern}
 use Rattle.search.specs.Coded.{law-of, direction-of, SideAt, Row}
 use Rattle.search.specs.Bound.{BindsSide, BindsLaw}
 use Rattle.search.specs.Spliced.{part, Put, Splices, kept, tried, Gives, Tries}
@@ -98,9 +98,6 @@ module _ (w : Law) (d : Direction) (xs : List ℕ) (at : ℕ) where
 
   pub law-bound : (r : Binding) (z : Spans) → BindsLaw w d xs at r → r ≡ Bound z → BindsLaw w d xs at (Bound z)
   law-bound r z B e = rw e at B
-
-  pub law-within : (z : Spans) → BindsLaw w d xs at (Bound z) → Within (length xs) z
-  law-within z B = B .within
 
   pub tries-nothing : (r : Binding) (room : ℕ) (out : List ℕ) → BindsLaw w d xs at r → r ≡ Unbound → Tries w d xs at room out Nothing
   tries-nothing r room out B e =

@@ -1,6 +1,6 @@
 -- `put_line` meets its contract: the row of the law has the side that is put in.
 use Rattle.search.proofs.Matching.{end-within}
-use Rattle.search.proofs.Trying.{law-within, to-forward, to-back, tries-put}
+use Rattle.search.proofs.Trying.{to-forward, to-back, tries-put}
 use borrow.Author.Needs.{needs}
 use Rattle.search.proofs.line.put_line.Statement.{statement}
 use Rattle.search.proofs.line.put_line.Tie as tie
@@ -45,7 +45,7 @@ part-splice-end : tie.Need-part-splice-end
 part-splice-end c = search needs
 
 splice-requires : tie.Need-splice-requires
-splice-requires c κs = search (law-within, end-within, needs)
+splice-requires c κs = search (end-within, needs)
 
 enum-told-2 : tie.Need-enum-told-2
 enum-told-2 c = search needs
@@ -60,7 +60,7 @@ part-splice-end-2 : tie.Need-part-splice-end-2
 part-splice-end-2 c = search needs
 
 splice-requires-2 : tie.Need-splice-requires-2
-splice-requires-2 c κs = search (law-within, end-within, needs)
+splice-requires-2 c κs = search (end-within, needs)
 
 same-length : tie.Need-same-length
 same-length c = search needs
