@@ -21,3 +21,9 @@ pub mod Keeping
 pub mod Tracing
 pub mod Turning
 pub mod Traced
+pub mod Running
+pub mod Resulting
+pub mod InTurn
+pub mod Taking
+pub mod Searching
+pub mod Answering

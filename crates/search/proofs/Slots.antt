@@ -109,10 +109,10 @@ module _ (ws ws′ : List ℕ) (count : ℕ) (e : take (SLOT * count) ws′ ≡ 
   origin-kept k h = origin-front ws ws′ (SLOT * count) (SLOT * k + 1) e (omega arith)
 
 module _ (ns : List Noted) (n : Noted) where
-  noted-before : (k : ℕ) → k < length ns → noted-at (ns ++ (n ∷ [])) k ≡ noted-at ns k
+  pub noted-before : (k : ℕ) → k < length ns → noted-at (ns ++ (n ∷ [])) k ≡ noted-at ns k
   noted-before k h = List·getD-append ns (n ∷ []) (record { term = zero; trail = [] }) k h
 
-  noted-last : noted-at (ns ++ (n ∷ [])) (length ns) ≡ n
+  pub noted-last : noted-at (ns ++ (n ∷ [])) (length ns) ≡ n
   noted-last = getD-at ns n [] (record { term = zero; trail = [] }) (length ns) refl
 
   comes-still : (o : Origin) (k : ℕ) (x : Noted) → k ≤ length ns → Comes o ns k x → Comes o (ns ++ (n ∷ [])) k x

@@ -7,7 +7,10 @@ ghost use lib.Seq.{sets};
 ghost use Rattle.search.specs.Origins.{numbers, origin-at};
 ghost use Rattle.search.specs.Slots.{SLOT, Finds, Writes, Starts, Notes};
 ghost use Rattle.search.specs.Ordered.{Spotted, Keeps};
+ghost use Rattle.search.specs.Searched.{slots-of, Opens, Takes, Explores, Searches};
+use crate::results;
 use crate::search;
+use crate::search::Direct;
 use crate::search::Direction;
 use crate::search::Law;
 use terms::term;
@@ -162,4 +165,176 @@ pub fn keep(s: &[u32], step: Step, res: &mut [u32], order: &mut [u32], count: us
     let end = count + 1;
     term::shift(&mut order[..end], p, count as u32);
     end
+}
+
+// How far a search goes: lines in a path, size and depth of a result, terms that are opened.
+pub struct Limits {
+    pub steps: usize,
+    pub size: usize,
+    pub depth: usize,
+    pub nodes: usize,
+}
+
+// The results of the term noted in slot `i`.
+fn open_slot(ws: &[u32], i: usize, limits: Limits, res: &mut [u32], order: &mut [u32]) -> usize
+    requires { ⌜ (SLOT * i + SLOT ≤ length (now ws)) × (i < 65535) × (SLOT * 620 ≤ length (now res)) × (620 ≤ length (now order)) ⌝ }
+    ensures { λ r. ⌜ Opens (now (ws .entry)) i limits (now (res .exit)) (now (order .exit)) r ⌝ }
+{
+    let a = SLOT * i;
+    let n = ws[a] as usize;
+    if 31 < n {
+        return 0;
+    }
+    let b = a + 8;
+    results::results_of(
+        &ws[b..b + n],
+        i as u32,
+        limits.size,
+        limits.depth,
+        res,
+        order,
+    )
+}
+
+// What became of a result.
+pub enum Taken {
+    Known,
+    Noted,
+    Right,
+    Full,
+}
+
+// Takes the result in slot `k` of `res`, whose source has a distance: it is noted unless it is noted already or no slot is left.
+fn take_result(
+    ws: &mut [u32],
+    noted: usize,
+    slots: usize,
+    res: &[u32],
+    k: u32,
+    distance: u32,
+    right: &[u32],
+) -> Taken
+    requires { ⌜ (noted ≤ slots) × (SLOT * slots ≤ length (now ws)) × (distance < 4294967295) ⌝ }
+    ensures { λ r. ⌜ Takes (now (ws .entry)) noted slots (now (res .entry)) k distance (now (right .entry)) r (now (ws .exit)) ⌝ }
+{
+    let a = SLOT * (k as usize);
+    if res.len() < a + SLOT {
+        return Taken::Known;
+    }
+    let n = res[a] as usize;
+    if 31 < n {
+        return Taken::Known;
+    }
+    let b = a + 8;
+    let s = &res[b..b + n];
+    if listed(ws, noted, s) {
+        return Taken::Known;
+    }
+    if slots <= noted {
+        return Taken::Full;
+    }
+    let Origin::From(step) = read_origin(res, a + 1) else {
+        return Taken::Known;
+    };
+    note(ws, noted, s, step, distance + 1);
+    if term::equal(s, right) {
+        return Taken::Right;
+    }
+    Taken::Noted
+}
+
+pub enum Outcome {
+    Direct(Law),
+    // How many terms are opened and noted: right is the last that is noted.
+    Proved(usize, usize),
+    Unproved(usize),
+    Full,
+}
+
+// Opens the noted terms in turn, from the first one on, and notes their results.
+fn explore(
+    right: &[u32],
+    limits: Limits,
+    ws: &mut [u32],
+    slots: usize,
+    res: &mut [u32],
+    order: &mut [u32],
+) -> Outcome
+    requires { ⌜ (0 < slots) × (slots ≤ 65535) × (SLOT * slots ≤ length (now ws)) × (SLOT * 620 ≤ length (now res)) × (620 ≤ length (now order)) × (limits .steps ≤ 4294967295) ⌝ }
+    ensures { λ r. ⌜ Explores (now (right .entry)) limits slots (now (ws .entry)) (now (ws .exit)) r ⌝ }
+{
+    let mut outcome = Outcome::Unproved(0);
+    let mut noted = 1;
+    let mut i = 0;
+    'outer: while i < noted {
+        if limits.nodes <= i {
+            break;
+        }
+        let distance = ws[SLOT * i + 5];
+        if limits.steps <= distance as usize {
+            break;
+        }
+        let count = open_slot(ws, i, limits, res, order);
+        let mut j = 0;
+        while j < count {
+            let k = order[j];
+            j += 1;
+            match take_result(ws, noted, slots, res, k, distance, right) {
+                Taken::Known => {}
+                Taken::Noted => {
+                    noted += 1;
+                }
+                Taken::Right => {
+                    outcome = Outcome::Proved(i + 1, noted + 1);
+                    break 'outer;
+                }
+                Taken::Full => {
+                    outcome = Outcome::Full;
+                    break 'outer;
+                }
+            }
+        }
+        i += 1;
+        outcome = Outcome::Unproved(i);
+    }
+    outcome
+}
+
+// How many slots of a workspace of `n` numbers are used.
+fn slots_of(n: usize) -> usize
+    ensures { λ r. ⌜ r ≡ slots-of n ⌝ }
+{
+    let all = n / SLOT;
+    if 65535 < all {
+        return 65535;
+    }
+    all
+}
+
+// Searches for a path from left to right. A direct match needs no slot; otherwise left is noted first.
+pub fn search_bounded_rewrite(
+    left: &[u32],
+    right: &[u32],
+    limits: Limits,
+    ws: &mut [u32],
+) -> Outcome
+    requires { ⌜ limits .steps ≤ 4294967295 ⌝ }
+    ensures { λ r. ⌜ Searches (now (left .entry)) (now (right .entry)) limits (now (ws .exit)) r ⌝ }
+{
+    let direct = search::search_direct_axiom(left, right);
+    if let Direct::By(law) = direct {
+        return Outcome::Direct(law);
+    }
+    let slots = slots_of(ws.len());
+    if slots == 0 {
+        return Outcome::Full;
+    }
+    if 31 < left.len() {
+        return Outcome::Full;
+    }
+    note_start(ws, left);
+    // 620 results: one for each of 31 places, each law and each direction.
+    let mut res = [0u32; 24800];
+    let mut order = [0u32; 620];
+    explore(right, limits, ws, slots, &mut res, &mut order)
 }

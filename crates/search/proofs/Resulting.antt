@@ -1,0 +1,206 @@
+-- The results of an opened term, in term order after each line that is tried.
+use Prim.Native.Nat.{ℕ, _+_, _≤_, _<_}
+use native.Mathlib.Omega.{arith}
+use mathlib.Core.Path.{_≡_, refl, sym, ap, _∙_}
+use mathlib.Core.Logic.{⊎-elim}
+use mathlib.Core.Bool.{Bool, true, false, cond, _&&_}
+use mathlib.Core.Option.{Option, none, some}
+use mathlib.Core.List.{List, [], _∷_, _++_, foldl-append}
+use borrow.Author.Tests.{le-leb, lt-leb}
+use lib.Dec.{leb}
+use lib.ListN.{length, take}
+use lib.Seq.{length-take-le}
+use Rattle.terms.specs.Lists.{_∈_, here, there, not-in-nil, cons-cases, of-map, only-one}
+use Rattle.terms.specs.Term.{Term, size, depth, same}
+use Rattle.terms.specs.Held.{IsRun}
+use Rattle.terms.specs.Sort.{lost, insert, insert-all}
+use Rattle.terms.specs.Promises.{Deep}
+use Rattle.terms.specs.Theory.Held.{size-of}
+use Rattle.search.specs.Law as law
+use Rattle.search.specs.Line as line
+use Rattle.search.specs.Line.{Line, Limits, by-result, within, allowed, changed, at-root, from, to, rewrite}
+use Rattle.search.specs.Place.{subterm-at, placed}
+use Rattle.search.specs.Coded.{law-of, direction-of}
+use Rattle.search.specs.Spliced.{kept, tried, Gives, Tries}
+use Rattle.search.specs.Slots.{Marks}
+use Rattle.search.specs.Ordered.{Ordered, Keeps}
+use Rattle.search.specs.Resulted.{line-of, Adds}
+use Rattle.search.specs.declared.search.Law.{Law}
+use Rattle.search.specs.declared.search.Direction.{Direction}
+use Rattle.search.specs.declared.bounded_search.Step.{Step}
+use Rattle.search.specs.declared.line.Filled.{Filled}
+use Rattle.search.specs.declared.line.Filled.the-variants.{To, Nothing}
+use Rattle.search.proofs.Coded.{law-named}
+
+-- the lines that keep the limits
+
+module _ (m : Limits) where
+  allowed-in : (x : Line) (xs : List Line) → within m (x .result) ≡ true → allowed m (x ∷ xs) ≡ x ∷ allowed m xs
+  unfolding allowed
+  allowed-in x xs e = rw (e, allowed)
+
+  allowed-out : (x : Line) (xs : List Line) → within m (x .result) ≡ false → allowed m (x ∷ xs) ≡ allowed m xs
+  unfolding allowed
+  allowed-out x xs e = rw (e, allowed)
+
+  allowed-append : (xs ys : List Line) → allowed m (xs ++ ys) ≡ allowed m xs ++ allowed m ys
+  unfolding allowed
+  allowed-append [] ys = refl
+  allowed-append (x ∷ xs) ys = go (within m (x .result)) (allowed-append xs ys)
+    where
+      go : (b : Bool) → allowed m (xs ++ ys) ≡ allowed m xs ++ allowed m ys
+          → elim b [ true ↦ x ∷ allowed m (xs ++ ys) | false ↦ allowed m (xs ++ ys) ] ≡ elim b [ true ↦ x ∷ allowed m xs | false ↦ allowed m xs ] ++ allowed m ys
+      go true e = ap (λ l. x ∷ l) e
+      go false e = e
+
+  within-both : (t : Term) → size t ≤ m .size → depth t ≤ m .depth → within m t ≡ true
+  unfolding within
+  within-both t h k = rw (le-leb (size t) (m .size) h, le-leb (depth t) (m .depth) k)
+
+  within-large : (t : Term) → leb (size t) (m .size) ≡ false → within m t ≡ false
+  unfolding within
+  within-large t e = rw e
+
+  within-deep : (t : Term) → m .depth < depth t → within m t ≡ false
+  unfolding within
+  within-deep t k = rw (lt-leb (depth t) (m .depth) k) (both (leb (size t) (m .size)))
+    where
+      both : (b : Bool) → (b && false) ≡ false
+      both true = refl
+      both false = refl
+
+  -- lines that are too large are not allowed
+  allowed-kept : (xs : List Line) → allowed m (kept (m .size) xs) ≡ allowed m xs
+  unfolding kept
+  allowed-kept [] = refl
+  allowed-kept (x ∷ xs) = go (leb (size (x .result)) (m .size)) refl (allowed-kept xs)
+    where
+      go : (b : Bool) → leb (size (x .result)) (m .size) ≡ b → allowed m (kept (m .size) xs) ≡ allowed m xs
+          → allowed m (cond b (x ∷ kept (m .size) xs) (kept (m .size) xs)) ≡ allowed m (x ∷ xs)
+      go true e i = more (within m (x .result)) refl i
+        where
+          more : (b : Bool) → within m (x .result) ≡ b → allowed m (kept (m .size) xs) ≡ allowed m xs → allowed m (x ∷ kept (m .size) xs) ≡ allowed m (x ∷ xs)
+          more true w i = allowed-in x (kept (m .size) xs) w ∙ ap (λ l. x ∷ l) i ∙ sym (allowed-in x xs w)
+          more false w i = allowed-out x (kept (m .size) xs) w ∙ i ∙ sym (allowed-out x xs w)
+      go false e i = i ∙ sym (allowed-out x xs (within-large (x .result) e))
+
+-- what a step says of its line
+
+kept-member : (m : ℕ) (xs : List Line) (z : Line) → z ∈ kept m xs → z ∈ xs
+unfolding kept
+kept-member m [] z k = k
+kept-member m (x ∷ xs) z k = go (leb (size (x .result)) m) (kept-member m xs z) k
+  where
+    go : (b : Bool) → (z ∈ kept m xs → z ∈ xs) → z ∈ cond b (x ∷ kept m xs) (kept m xs) → z ∈ x ∷ xs
+    go true f k = ⊎-elim here (λ n. there (f n)) (cons-cases k)
+    go false f k = there (f k)
+
+changed-member : (t : Term) (w : law.Law) (d : line.Direction) (o : Option Term) (z : Line) → z ∈ changed t w d o → (z .law ≡ w .name) × (z .direction ≡ d)
+unfolding changed
+changed-member t w d none z k = absurd (not-in-nil k)
+changed-member t w d (some u) z k = go (same u t) k
+  where
+    go : (b : Bool) → z ∈ cond b [] (record { law = w .name; direction = d; place = []; result = u } ∷ []) → (z .law ≡ w .name) × (z .direction ≡ d)
+    go true k = absurd (not-in-nil k)
+    go false k = let e = only-one k in (ap (λ x. x .law) e, ap (λ x. x .direction) e)
+
+line-marks : (s : Step) (t : Term) → s .place < size t → (z : Line) → z ∈ line-of s t → Marks s t z
+unfolding placed at-root
+line-marks s t h z k =
+    let u = subterm-at t (s .place) in
+    let w = law-of (s .law) in
+    let d = direction-of (s .direction) in
+    let (y, n, e) = of-map (placed t (s .place)) (at-root u w d) k in
+    let (p, q) = changed-member u w d (rewrite (from d w) (to d w) u) y n in
+    record {
+      law = ap (λ x. x .law) (sym e) ∙ p ∙ law-named (s .law);
+      direction = ap (λ x. x .direction) (sym e) ∙ q;
+      inside = h;
+      place = ap (λ x. x .place) (sym e);
+    }
+
+-- lines one after another
+
+module _ {xs : List ℕ} {room deep from : ℕ} where
+  pub adds-none : (res order : List ℕ) (count : ℕ) → Adds xs room deep from (λ t. []) 0 res order count res order count
+  unfolding allowed
+  adds-none res order count = record { low = omega arith; high = omega arith; exact = λ t m ys h s d O. O }
+
+  pub adds-then : {new new′ : Term → List Line} {most most′ : ℕ} {res order res′ order′ res″ order″ : List ℕ} {count r r′ : ℕ}
+      → Adds xs room deep from new most res order count res′ order′ r → Adds xs room deep from new′ most′ res′ order′ r res″ order″ r′
+      → Adds xs room deep from (λ t. new t ++ new′ t) (most + most′) res order count res″ order″ r′
+  adds-then {new} {new′} A B =
+      record {
+        low = omega (arith, A .low, B .low);
+        high = omega (arith, A .high, B .high);
+        exact = λ t m ys h s d O.
+            rw (allowed-append m (new t) (new′ t), foldl-append (λ l x. insert lost by-result x l) ys (allowed m (new t)) (allowed m (new′ t)))
+            (B .exact t m (insert-all lost by-result ys (allowed m (new t))) h s d (A .exact t m ys h s d O));
+      }
+
+  -- the same lines, said another way
+  pub adds-as : {new : Term → List Line} (new′ : Term → List Line) {most : ℕ} (most′ : ℕ) {res order res′ order′ : List ℕ} {count r : ℕ}
+      → ((t : Term) → IsRun xs t → new t ≡ new′ t) → most ≤ most′ → Adds xs room deep from new most res order count res′ order′ r
+      → Adds xs room deep from new′ most′ res order count res′ order′ r
+  adds-as new′ most′ e h A =
+      record { low = A .low; high = omega (arith, A .high); exact = λ t m ys k s d O. rw (← (e t k)) (A .exact t m ys k s d O) }
+
+-- a step tried
+
+pub tries-within : {w : Law} {d : Direction} {xs : List ℕ} {at room : ℕ} {out : List ℕ} {f : Filled} {k : ℕ} → Tries w d xs at room out f → f ≡ To k → k ≤ room
+tries-within T e = (rw e at T) .within .1
+
+module _ (s : Step) (xs : List ℕ) (room deep : ℕ) (out res order : List ℕ) (count : ℕ) (f : Filled) (inside : s .place < length xs)
+    (T : Tries (s .law) (s .direction) xs (s .place) room out f) where
+  -- the line that is tried decides what the limits allow
+  by-tried : (res′ order′ : List ℕ) (r : ℕ) → count ≤ r → r ≤ count + 1
+      → ((t : Term) (m : Limits) (ys : List Line) → m .size ≡ room → m .depth ≡ deep → Ordered t (s .parent) res count (take count order) ys
+      → (zs : List Line) → Gives out f zs → ((z : Line) → z ∈ zs → Marks s t z) → Ordered t (s .parent) res′ r (take r order′) (insert-all lost by-result ys (allowed m zs)))
+      → Adds xs room deep (s .parent) (line-of s) 1 res order count res′ order′ r
+  unfolding tried
+  by-tried res′ order′ r low high g =
+      record {
+        low = low;
+        high = high;
+        exact = λ t m ys h e d O.
+            let i : s .place < size t = omega (arith, size-of h) in
+            rw (← (ap (λ z. allowed m (kept z (line-of s t))) (sym e) ∙ allowed-kept m (line-of s t)))
+            (g t m ys e d O (kept room (line-of s t)) (T .exact t h i) (λ z k. line-marks s t i z (kept-member room (line-of s t) z k)));
+      }
+
+  pub adds-nothing : f ≡ Nothing → Adds xs room deep (s .parent) (line-of s) 1 res order count res order count
+  unfolding allowed
+  adds-nothing e = by-tried res order count (omega arith) (omega arith) (λ t m ys q d O zs G M. go t m ys O zs (rw e at G))
+    where
+      go : (t : Term) (m : Limits) (ys : List Line) → Ordered t (s .parent) res count (take count order) ys → (zs : List Line) → Gives out Nothing zs
+          → Ordered t (s .parent) res count (take count order) (insert-all lost by-result ys (allowed m zs))
+      go t m ys O [] G = O
+      go t m ys O (z ∷ zs) G = absurd G
+
+  module _ (k : ℕ) (e : f ≡ To k) (whole : length out ≡ room) where
+    -- one line, whose result stands at the front of the buffer
+    by-line : (res′ order′ : List ℕ) (r : ℕ) → count ≤ r → r ≤ count + 1
+        → ((t : Term) (m : Limits) (ys : List Line) (x : Line) → m .depth ≡ deep → Ordered t (s .parent) res count (take count order) ys → size (x .result) ≤ m .size
+        → IsRun (take k out) (x .result) → Marks s t x → Ordered t (s .parent) res′ r (take r order′) (insert-all lost by-result ys (allowed m (x ∷ []))))
+        → Adds xs room deep (s .parent) (line-of s) 1 res order count res′ order′ r
+    by-line res′ order′ r low high g = by-tried res′ order′ r low high (λ t m ys q d O zs G M. go t m ys q d O zs (rw e at G) M)
+      where
+        go : (t : Term) (m : Limits) (ys : List Line) → m .size ≡ room → m .depth ≡ deep → Ordered t (s .parent) res count (take count order) ys
+            → (zs : List Line) → Gives out (To k) zs → ((z : Line) → z ∈ zs → Marks s t z) → Ordered t (s .parent) res′ r (take r order′) (insert-all lost by-result ys (allowed m zs))
+        go t m ys q d O [] G M = absurd G
+        go t m ys q d O (x ∷ []) G M = g t m ys x d O (omega (arith, size-of G, length-take-le k out (omega (arith, tries-within T e)), tries-within T e)) G (M x (here refl))
+        go t m ys q d O (x ∷ y ∷ zs) G M = absurd G
+
+    module _ (v : ℕ) (D : Deep (take k out) v) where
+      pub adds-too-deep : deep < v → Adds xs room deep (s .parent) (line-of s) 1 res order count res order count
+      unfolding allowed
+      adds-too-deep h =
+          by-line res order count (omega arith) (omega arith)
+          (λ t m ys x d O z H M. rw (allowed-out m x [] (within-deep m (x .result) (omega (arith, D .terms (x .result) H)))) O)
+
+      pub adds-kept : v ≤ deep → (res′ order′ : List ℕ) (r : ℕ) → Keeps (take k out) s res order res′ order′ count r
+          → Adds xs room deep (s .parent) (line-of s) 1 res order count res′ order′ r
+      unfolding allowed
+      adds-kept h res′ order′ r K =
+          by-line res′ order′ r (K .low) (K .high)
+          (λ t m ys x d O z H M. rw (allowed-in m x [] (within-both m (x .result) z (omega (arith, D .terms (x .result) H)))) (K .sorts t ys x H M O))

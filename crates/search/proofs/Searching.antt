@@ -1,0 +1,219 @@
+-- The search as its loops go: the noted terms in turn, and for each its results in turn.
+use Prim.Native.Nat.{ℕ, suc, _+_, _-_, _*_, _≤_, _<_}
+use native.Mathlib.Omega.{arith}
+use native.Mathlib.Nat.{sub-zero}
+use native.Mathlib.Numerals.{add-one}
+use mathlib.Core.Path.{_≡_, refl, sym, ap, _∙_}
+use mathlib.Core.List.{List, [], _∷_, _++_}
+use lib.ListN.{length, take, drop, getD, length-append, drop-of-length-le}
+use lib.Seq.{drop-cons, getD-take, length-take-le}
+use Rattle.terms.specs.Term.{Term}
+use Rattle.terms.specs.Held.{IsRun}
+use Rattle.search.specs.Law.{semiring}
+use Rattle.search.specs.Line.{Line, results}
+use Rattle.search.specs.Search as search
+use Rattle.search.specs.Search.{Noted, entry, note, goes-on, unproved, run}
+use Rattle.search.specs.Slots.{SLOT, distance-of, noted-at, Slots}
+use Rattle.search.specs.Ordered.{Result, Ordered}
+use Rattle.search.specs.Searched.{limits-of, begun, Opens, Became, Takes, Reaches, Explores}
+use Rattle.search.specs.declared.bounded_search.Limits.{Limits}
+use Rattle.search.specs.declared.bounded_search.Taken.{Taken}
+use Rattle.search.specs.declared.bounded_search.Taken.the-variants as taken
+use Rattle.search.specs.declared.bounded_search.Outcome.the-variants.{Proved, Unproved, Full}
+use Rattle.search.proofs.Slots.{noted-before, noted-last}
+use Rattle.search.proofs.Sorting.{line-at, ordered-length, ordered-at}
+use Rattle.search.proofs.Running.{note-known, note-right, note-new, note-new-grows, after, after-grows, run-limit, run-end, run-far, run-opens}
+
+-- o is the outcome of the search to t from where it is: `count` terms are noted, and the i-th is next to open
+pub record Stands (o : search.Outcome) (m : Limits) (t : Term) (ws : List ℕ) (count i : ℕ) : Type 0 where
+  pub ns : List Noted
+  pub slots : Slots ws ns
+  pub counted : length ns ≡ count
+  pub is : o ≡ run (results semiring (limits-of m)) (m .steps) t (m .nodes - i) i ns
+
+abbrev following : Limits → Term → ℕ → search.Turn → search.Outcome
+following m t i = after (results semiring (limits-of m)) (m .steps) t (m .nodes - (i + 1)) (i + 1)
+
+-- o is that outcome where the i-th term, at distance d, is open, with n results in res, of which the j-th is next to take
+pub record Turns (o : search.Outcome) (m : Limits) (t : Term) (ws : List ℕ) (count i d : ℕ) (res order : List ℕ) (n j : ℕ) : Type 0 where
+  pub ns : List Noted
+  pub slots : Slots ws ns
+  pub counted : length ns ≡ count
+  pub distance : d ≡ length (noted-at ns i .trail)
+  pub lines : List Line
+  pub ordered : Ordered (noted-at ns i .term) i res n (take n order) lines
+  pub is : o ≡ following m t i (note t (noted-at ns i .trail) (drop j lines) ns)
+
+-- what holds of every search that starts with what a workspace has, ws₀
+abbrev pub Always : List ℕ → Limits → List ℕ → (search.Outcome → Term → Type 0) → Type 0
+Always right m ws₀ P = (s t : Term) → Slots ws₀ (record { term = s; trail = [] } ∷ []) → IsRun right t → m .size ≤ 31 → P (begun (limits-of m) s t) t
+
+-- the loops' invariants, of which the second tells how the results were taken since the term was opened
+
+abbrev pub Standing : List ℕ → Limits → List ℕ → List ℕ → ℕ → ℕ → Type 0
+Standing right m ws₀ ws count i = Always right m ws₀ (λ o t. Stands o m t ws count i)
+
+abbrev pub Opened : List ℕ → Limits → List ℕ → List ℕ → ℕ → ℕ → ℕ → List ℕ → List ℕ → ℕ → Type 0
+Opened right m ws₀ ws count i d res order n = Always right m ws₀ (λ o t. Turns o m t ws count i d res order n 0)
+
+abbrev pub Turning : List ℕ → Limits → ℕ → ℕ → List ℕ → List ℕ → ℕ → List ℕ → ℕ → List ℕ → ℕ → ℕ → Type 0
+Turning right m i d res order n ws₁ count₁ ws count j =
+    (o : search.Outcome) (t : Term) → IsRun right t → Turns o m t ws₁ count₁ i d res order n 0 → Turns o m t ws count i d res order n j
+
+pub starts : (right : List ℕ) (m : Limits) (ws : List ℕ) → Standing right m ws ws 1 0
+starts right m ws s t S ht k = record { ns = record { term = s; trail = [] } ∷ []; slots = S; counted = refl; is = rw (sub-zero (m .nodes)) }
+
+module _ {right : List ℕ} {m : Limits} {slots : ℕ} {ws₀ ws : List ℕ} {count i : ℕ} (St : Standing right m ws₀ ws count i) (room : count ≤ slots) where
+  abbrev next : Term → List Line
+  next = results semiring (limits-of m)
+
+  -- it ends with no path: all noted terms are opened, or as many as may be, or the next one is too far away
+
+  stops : ((t : Term) (ns : List Noted) → Slots ws ns → length ns ≡ count → run next (m .steps) t (m .nodes - i) i ns ≡ unproved i (length ns))
+      → Explores right m slots ws₀ ws (Unproved i)
+  stops e =
+      record { exact = λ s t S ht k. let g = St s t S ht k in (length (g .ns), omega (arith, g .counted), g .is ∙ e t (g .ns) (g .slots) (g .counted)) }
+
+  pub ends : count ≤ i → Explores right m slots ws₀ ws (Unproved i)
+  ends h = stops (λ t ns S c. run-end next (m .steps) t i ns (m .nodes - i) (omega arith))
+
+  pub ends-limit : m .nodes ≤ i → Explores right m slots ws₀ ws (Unproved i)
+  ends-limit h = stops (λ t ns S c. run-limit next (m .steps) t i ns (m .nodes - i) (omega arith))
+
+  module _ (h : i < count) where
+    distance-here : (ns : List Noted) → Slots ws ns → length ns ≡ count → distance-of ws i ≡ length (noted-at ns i .trail)
+    distance-here ns S c = S .slot i (omega arith) .distance
+
+    pub ends-far : m .steps ≤ distance-of ws i → Explores right m slots ws₀ ws (Unproved i)
+    ends-far far = stops (λ t ns S c. run-far next (m .steps) t i ns (omega arith) (m .nodes - i) (omega (arith, distance-here ns S c)))
+
+    pub turns-start : i < m .nodes → distance-of ws i < m .steps → {res order : List ℕ} {n : ℕ} → Opens ws i m res order n
+        → Opened right m ws₀ ws count i (distance-of ws i) res order n
+    turns-start q near O s t S ht k =
+        let g = St s t S ht k in
+        let x = noted-at (g .ns) i in
+        let e = distance-here (g .ns) (g .slots) (g .counted) in
+        let c = g .counted in
+        record {
+          ns = g .ns;
+          slots = g .slots;
+          counted = c;
+          distance = e;
+          lines = next (x .term);
+          ordered = O .exact (x .term) (g .slots .slot i (omega arith) .run) k;
+          is = g .is ∙ run-opens next (m .steps) t i (g .ns) (omega arith) (m .nodes - i) (m .nodes - (i + 1)) (omega arith) (omega arith);
+        }
+
+-- the j-th result is taken
+module _ {right : List ℕ} {m : Limits} {slots : ℕ} {ws : List ℕ} {count i d : ℕ} {res order : List ℕ} {n j : ℕ} {r : Taken} {ws′ : List ℕ} (inside : i < count) (h : j < n)
+    (room : n ≤ length order) (whole : SLOT * n ≤ length res) (T : Takes ws count slots res (getD order j 0) d right r ws′) where
+  module _ (o : search.Outcome) (t : Term) (ht : IsRun right t) (g : Turns o m t ws count i d res order n j) where
+    abbrev parent : Noted
+    parent = noted-at (g .ns) i
+
+    abbrev x : Line
+    x = line-at (g .lines) j
+
+    abbrev rest : List Line
+    rest = drop (j + 1) (g .lines)
+
+    abbrev more : List Noted
+    more = g .ns ++ (entry (parent .trail) x ∷ [])
+
+    long : length (take n order) ≡ n
+    long = length-take-le n order room
+
+    next-line : drop j (g .lines) ≡ x ∷ rest
+    next-line = rw add-one (drop-cons (g .lines) j (line-at [] 0) (omega (arith, ordered-length (g .ordered), long)))
+
+    goes : o ≡ following m t i (note t (parent .trail) (x ∷ rest) (g .ns))
+    goes = g .is ∙ ap (λ l. following m t i (note t (parent .trail) l (g .ns))) next-line
+
+    became : Became r slots ws′ (g .ns) parent x t
+    became =
+        let e : getD (take n order) j 0 ≡ getD order j 0 = getD-take n order j 0 h in
+        let (b, R) = ordered-at (g .ordered) j (omega (arith, long)) in
+        T .exact (g .ns) i x t (g .slots) (g .counted) inside (omega arith) (rw e at R) (g .distance) ht
+
+    known : r ≡ taken.Known → Turns o m t ws′ count i d res order n (j + 1)
+    known e =
+        let (b, S) = rw e at became in
+        record {
+          ns = g .ns;
+          slots = S;
+          counted = g .counted;
+          distance = g .distance;
+          lines = g .lines;
+          ordered = g .ordered;
+          is = goes ∙ ap (following m t i) (note-known t (parent .trail) x rest (g .ns) b);
+        }
+
+    -- one more noted term leaves the parent as it is
+    parent-still : noted-at more i ≡ parent
+    parent-still = noted-before (g .ns) (entry (parent .trail) x) i (omega (arith, g .counted))
+
+    counted-more : length more ≡ count + 1
+    counted-more = length-append (g .ns) (entry (parent .trail) x ∷ []) ∙ ap (λ k. k + 1) (g .counted)
+
+    noted : r ≡ taken.Noted → Turns o m t ws′ (count + 1) i d res order n (j + 1)
+    noted e =
+        let (b, c, S) = rw e at became in
+        record {
+          ns = more;
+          slots = S;
+          counted = counted-more;
+          distance = rw parent-still (g .distance);
+          lines = g .lines;
+          ordered = rw parent-still (g .ordered);
+          is = rw parent-still (goes ∙ ap (following m t i) (note-new t (parent .trail) x rest (g .ns) b c));
+        }
+
+    met : r ≡ taken.Right → Reaches slots ws′ (i + 1) (count + 1) o
+    met e =
+        let (b, c, S) = rw e at became in
+        let k : count + 1 - 1 ≡ length (g .ns) = omega (arith, g .counted) in
+        record {
+          some = omega arith;
+          room = omega (arith, (rw e at T) .room);
+          ns = more;
+          held = S;
+          count = counted-more;
+          is = goes ∙ ap (following m t i) (note-right t (parent .trail) x rest (g .ns) b c)
+              ∙ rw (k, noted-last (g .ns) (entry (parent .trail) x), counted-more);
+        }
+
+    full : r ≡ taken.Full → slots < search.noted o
+    full e =
+        let (b, c) = rw e at became in
+        let turn = note t (parent .trail) (x ∷ rest) (g .ns) in
+        rw goes
+        (omega (
+          arith,
+          c,
+          note-new-grows t (parent .trail) x rest (g .ns) b,
+          after-grows (results semiring (limits-of m)) (m .steps) t (m .nodes - (i + 1)) (i + 1) turn,
+        ))
+
+  module _ {ws₁ : List ℕ} {count₁ : ℕ} (Tu : Turning right m i d res order n ws₁ count₁ ws count j) where
+    pub turns-known : r ≡ taken.Known → Turning right m i d res order n ws₁ count₁ ws′ count (j + 1)
+    turns-known e o t ht g = known o t ht (Tu o t ht g) e
+
+    pub turns-noted : r ≡ taken.Noted → Turning right m i d res order n ws₁ count₁ ws′ (count + 1) (j + 1)
+    turns-noted e o t ht g = noted o t ht (Tu o t ht g) e
+
+    module _ {ws₀ : List ℕ} (O : Opened right m ws₀ ws₁ count₁ i d res order n) where
+      pub ends-proved : r ≡ taken.Right → Explores right m slots ws₀ ws′ (Proved (i + 1) (count + 1))
+      ends-proved e = record { exact = λ s t S ht k. let o = begun (limits-of m) s t in met o t ht (Tu o t ht (O s t S ht k)) e }
+
+      pub ends-full : r ≡ taken.Full → Explores right m slots ws₀ ws′ Full
+      ends-full e = record { exact = λ s t S ht k. let o = begun (limits-of m) s t in full o t ht (Tu o t ht (O s t S ht k)) e }
+
+-- all results are taken
+pub turns-end : {right : List ℕ} {m : Limits} {i d : ℕ} {res order : List ℕ} {n : ℕ} {ws₁ : List ℕ} {count₁ : ℕ} {ws : List ℕ} {count j : ℕ}
+    → Turning right m i d res order n ws₁ count₁ ws count j → {ws₀ : List ℕ} → Opened right m ws₀ ws₁ count₁ i d res order n → n ≤ j → n ≤ length order
+    → Standing right m ws₀ ws count (i + 1)
+unfolding note
+turns-end {m = m} {order = order} {n = n} {j = j} Tu O h room s t S ht k =
+    let g = Tu (begun (limits-of m) s t) t ht (O s t S ht k) in
+    let e : length (g .lines) ≤ j = omega (arith, ordered-length (g .ordered), length-take-le n order room) in
+    record { ns = g .ns; slots = g .slots; counted = g .counted; is = g .is ∙ rw (drop-of-length-le (g .lines) e) }

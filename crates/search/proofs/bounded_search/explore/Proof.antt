@@ -1,0 +1,277 @@
+-- `explore` meets its contract. The outer loop's invariant: the search goes on from the `i`-th of `noted` terms. The inner loop's: since the
+-- term was opened, its first `j` results are taken.
+use Prim.Native.Nat.{_≤_, _<_, _+_, _-_, _*_}
+use native.Mathlib.Omega.{arith}
+use mathlib.Core.Path.{_≡_, refl, sym, _∙_}
+use lib.ListN.{length}
+use Rattle.search.specs.Slots.{SLOT, distance-of}
+use Rattle.search.specs.declared.bounded_search.Outcome.the-variants.{Unproved}
+use Rattle.search.proofs.Searching.{Standing, Opened, Turning, starts, ends, ends-limit, ends-far, turns-start, turns-known, turns-noted, ends-proved, ends-full, turns-end}
+use borrow.Author.Needs.{needs}
+use Rattle.search.proofs.bounded_search.explore.Statement.{statement}
+use Rattle.search.proofs.bounded_search.explore.Tie as tie
+use Rattle.search.proofs.bounded_search.explore.Reads as reads
+use Rattle.search.proofs.bounded_search.explore.Lts as lts
+use Rattle.search.proofs.bounded_search.open_slot.Reads as open-slot-reads
+use Rattle.search.proofs.bounded_search.take_result.Reads as take-result-reads
+
+abbrev Inv-loop : tie.InvT-loop
+Inv-loop right limits ws₀ slots res order noted₀ i distance count j₀ ws noted j = (j ≤ count) × (i < noted) × (noted ≤ slots) × (length ws ≡ length ws₀) × Turning right limits i distance res order count ws₀ noted₀ ws noted j
+
+abbrev μ-loop : tie.MeasureT-loop
+μ-loop right limits ws₀ slots res order noted₀ i distance count j₀ ws noted j = count - j
+
+abbrev Inv-outer : tie.InvT-outer
+Inv-outer right limits ws₀ slots res₀ order₀ outcome₀ noted₀ i₀ ws res order outcome noted i = (i ≤ noted) × (noted ≤ slots) × (length ws ≡ length ws₀) × (length res ≡ length res₀) × (length order ≡ length order₀) × (outcome ≡ Unproved i) × Standing right limits ws₀ ws noted i
+
+abbrev μ-outer : tie.MeasureT-outer
+μ-outer right limits ws₀ slots res₀ order₀ outcome₀ noted₀ i₀ ws res order outcome noted i = slots - i
+
+-- at the inner loop: the term that is open, and the room that its results have
+module _ (c : tie.At-loop Inv-loop μ-loop Inv-outer μ-outer) where
+  opened :
+      let o = c .before .before .before .before .before .before .before .before .before .before .before .before .before .before .before .outer in
+      let a = c .before .before .before .before .before .before .before .before .before .before .before .before .before .before .before .before .before .before .before .before .args in
+      let e = c .before .before .before .before .before .open-slot in
+      Opened (a .right .now) (a .limits) (a .ws .now) (o .ws) (o .noted) (o .i) (distance-of (o .ws) (o .i)) (e .last .1 .1 .1 .0) (e .last .1 .1 .1 .1 .0) (e .result)
+  opened =
+      let o = c .before .before .before .before .before .before .before .before .before .before .before .before .before .before .before .outer in
+      turns-start (o .inv .6) (o .inv .1) (c .before .before .before .before .before .before .before .before .before .before .before .before .before .before .outer-test .taken) (omega (arith, c .before .before .before .before .before .before .before .before .before .before .before .before .if1 .left)) (omega (arith, c .before .before .before .before .before .before .before .before .before .if2 .left)) (c .before .before .before .before .before .open-slot .ensures)
+
+  room : let e = c .before .before .before .before .before .open-slot in (e .result ≤ length (e .last .1 .1 .1 .1 .0)) × (SLOT * e .result ≤ length (e .last .1 .1 .1 .0))
+  room =
+      let o = c .before .before .before .before .before .before .before .before .before .before .before .before .before .before .before .outer in
+      let p = c .before .before .before .before .before .before .before .before .before .before .before .before .before .before .before .before .before .before .before .before .pre in
+      let e = c .before .before .before .before .before .open-slot in
+      (omega (arith, e .ensures .few, e .kept .1 .1 .1 .1 .0, o .inv .4, p .4), omega (arith, e .ensures .few, e .kept .1 .1 .1 .0, o .inv .3, p .3))
+
+outer-holds : tie.Need-outer-holds Inv-loop μ-loop Inv-outer μ-outer
+outer-holds c = search (starts, needs)
+
+mul-distance : tie.Need-mul-distance Inv-loop μ-loop Inv-outer μ-outer
+mul-distance c = search needs
+
+add-distance : tie.Need-add-distance Inv-loop μ-loop Inv-outer μ-outer
+add-distance c = search needs
+
+mul-distance-2 : tie.Need-mul-distance-2 Inv-loop μ-loop Inv-outer μ-outer
+mul-distance-2 c = search needs
+
+slice-read-distance : tie.Need-slice-read-distance Inv-loop μ-loop Inv-outer μ-outer
+slice-read-distance c = search needs
+
+cast-if2 : tie.Need-cast-if2 Inv-loop μ-loop Inv-outer μ-outer
+cast-if2 c = omega (arith, c .slice-known4 .given (40 * c .before .before .before .before .outer .i + 5))
+
+open-slot-requires : tie.Need-open-slot-requires Inv-loop μ-loop Inv-outer μ-outer
+open-slot-requires c κs = search needs
+
+loop-holds : tie.Need-loop-holds Inv-loop μ-loop Inv-outer μ-outer
+loop-holds c = search needs
+
+mul-k : tie.Need-mul-k Inv-loop μ-loop Inv-outer μ-outer
+mul-k c = search needs
+
+slice-read-k : tie.Need-slice-read-k Inv-loop μ-loop Inv-outer μ-outer
+slice-read-k c = search needs
+
+add-j : tie.Need-add-j Inv-loop μ-loop Inv-outer μ-outer
+add-j c = search needs
+
+take-result-requires : tie.Need-take-result-requires Inv-loop μ-loop Inv-outer μ-outer
+take-result-requires c κs = search needs
+
+enum-told : tie.Need-enum-told Inv-loop μ-loop Inv-outer μ-outer
+enum-told c = search needs
+
+loop-less : tie.Need-loop-less Inv-loop μ-loop Inv-outer μ-outer
+loop-less c = search needs
+
+loop-again : tie.Need-loop-again Inv-loop μ-loop Inv-outer μ-outer
+loop-again c =
+    let f = c .before .before .before .before .take-result in
+    let l = c .before .before .before .before .before .before .before .before .before in
+    let v = l .loop in (
+      omega (arith, c .before .before .before .before .before .before .before .before .loop-test .taken),
+      v .inv .1,
+      v .inv .2,
+      f .kept .0 ∙ v .inv .3,
+      turns-known (v .inv .1) (c .before .before .before .before .before .before .before .before .loop-test .taken) (room l .0) (room l .1) (f .ensures) (v .inv .4) (c .enum-told .given .1),
+    )
+
+enum-told-2 : tie.Need-enum-told-2 Inv-loop μ-loop Inv-outer μ-outer
+enum-told-2 c = search needs
+
+add-noted : tie.Need-add-noted Inv-loop μ-loop Inv-outer μ-outer
+add-noted c = search needs
+
+loop-less-2 : tie.Need-loop-less-2 Inv-loop μ-loop Inv-outer μ-outer
+loop-less-2 c = search needs
+
+loop-again-2 : tie.Need-loop-again-2 Inv-loop μ-loop Inv-outer μ-outer
+loop-again-2 c =
+    let f = c .before .before .before .before .take-result in
+    let l = c .before .before .before .before .before .before .before .before .before in
+    let v = l .loop in (
+      omega (arith, c .before .before .before .before .before .before .before .before .loop-test .taken),
+      omega (arith, v .inv .1),
+      omega (arith, (rw (c .enum-told2 .given .1) at (f .ensures)) .room),
+      f .kept .0 ∙ v .inv .3,
+      turns-noted (v .inv .1) (c .before .before .before .before .before .before .before .before .loop-test .taken) (room l .0) (room l .1) (f .ensures) (v .inv .4) (c .enum-told2 .given .1),
+    )
+
+enum-told-3 : tie.Need-enum-told-3 Inv-loop μ-loop Inv-outer μ-outer
+enum-told-3 c = search needs
+
+add-t35 : tie.Need-add-t35 Inv-loop μ-loop Inv-outer μ-outer
+add-t35 c = search needs
+
+add-t36 : tie.Need-add-t36 Inv-loop μ-loop Inv-outer μ-outer
+add-t36 c = search needs
+
+enum-told-4 : tie.Need-enum-told-4 Inv-loop μ-loop Inv-outer μ-outer
+enum-told-4 c = search needs
+
+add-i : tie.Need-add-i Inv-loop μ-loop Inv-outer μ-outer
+add-i c = search needs
+
+outer-less : tie.Need-outer-less Inv-loop μ-loop Inv-outer μ-outer
+outer-less c = search needs
+
+outer-again : tie.Need-outer-again Inv-loop μ-loop Inv-outer μ-outer
+outer-again c =
+    let l = c .before in
+    let v = l .loop in
+    let o = l .before .before .before .before .before .before .before .before .before .before .before .before .before .before .before .outer in
+    let e = l .before .before .before .before .before .open-slot in (
+      omega (arith, v .inv .1),
+      v .inv .2,
+      v .inv .3 ∙ o .inv .2,
+      e .kept .1 .1 .1 .0 ∙ o .inv .3,
+      e .kept .1 .1 .1 .1 .0 ∙ o .inv .4,
+      refl,
+      turns-end (v .inv .4) (opened l) (omega (arith, c .loop-test .left)) (room l .0),
+    )
+
+same-length : tie.Need-same-length Inv-loop μ-loop Inv-outer μ-outer
+same-length c = search needs
+
+same-length-2 : tie.Need-same-length-2 Inv-loop μ-loop Inv-outer μ-outer
+same-length-2 c = search needs
+
+same-length-3 : tie.Need-same-length-3 Inv-loop μ-loop Inv-outer μ-outer
+same-length-3 c = search needs
+
+returns : tie.Need-returns Inv-loop μ-loop Inv-outer μ-outer
+returns c = let o = c .before .outer in rw (o .inv .5) (ends (o .inv .6) (o .inv .1) (omega arith))
+
+same-length-4 : tie.Need-same-length-4 Inv-loop μ-loop Inv-outer μ-outer
+same-length-4 c = search needs
+
+same-length-5 : tie.Need-same-length-5 Inv-loop μ-loop Inv-outer μ-outer
+same-length-5 c = search needs
+
+same-length-6 : tie.Need-same-length-6 Inv-loop μ-loop Inv-outer μ-outer
+same-length-6 c = search needs
+
+returns-2 : tie.Need-returns-2 Inv-loop μ-loop Inv-outer μ-outer
+returns-2 c = let o = c .before .before .before .outer in rw (o .inv .5) (ends-limit (o .inv .6) (o .inv .1) (omega arith))
+
+same-length-7 : tie.Need-same-length-7 Inv-loop μ-loop Inv-outer μ-outer
+same-length-7 c = search needs
+
+same-length-8 : tie.Need-same-length-8 Inv-loop μ-loop Inv-outer μ-outer
+same-length-8 c = search needs
+
+same-length-9 : tie.Need-same-length-9 Inv-loop μ-loop Inv-outer μ-outer
+same-length-9 c = search needs
+
+returns-3 : tie.Need-returns-3 Inv-loop μ-loop Inv-outer μ-outer
+returns-3 c = let o = c .before .before .before .before .before .before .outer in rw (o .inv .5) (ends-far (o .inv .6) (o .inv .1) (omega arith) (omega arith))
+
+same-length-10 : tie.Need-same-length-10 Inv-loop μ-loop Inv-outer μ-outer
+same-length-10 c = search needs
+
+same-length-11 : tie.Need-same-length-11 Inv-loop μ-loop Inv-outer μ-outer
+same-length-11 c = search needs
+
+same-length-12 : tie.Need-same-length-12 Inv-loop μ-loop Inv-outer μ-outer
+same-length-12 c = search needs
+
+returns-4 : tie.Need-returns-4 Inv-loop μ-loop Inv-outer μ-outer
+returns-4 c =
+    let f = c .before .before .before .before .take-result in
+    let l = c .before .before .before .before .before .before .before .before .before in
+    let v = l .loop in
+    ends-proved (v .inv .1) (c .before .before .before .before .before .before .before .before .loop-test .taken) (room l .0) (room l .1) (f .ensures) (v .inv .4) (opened l) (c .enum-told3 .given .1)
+
+same-length-13 : tie.Need-same-length-13 Inv-loop μ-loop Inv-outer μ-outer
+same-length-13 c = search needs
+
+same-length-14 : tie.Need-same-length-14 Inv-loop μ-loop Inv-outer μ-outer
+same-length-14 c = search needs
+
+same-length-15 : tie.Need-same-length-15 Inv-loop μ-loop Inv-outer μ-outer
+same-length-15 c = search needs
+
+returns-5 : tie.Need-returns-5 Inv-loop μ-loop Inv-outer μ-outer
+returns-5 c =
+    let f = c .before .before .before .before .take-result in
+    let l = c .before .before .before .before .before .before .before .before .before in
+    let v = l .loop in
+    ends-full (v .inv .1) (c .before .before .before .before .before .before .before .before .loop-test .taken) (room l .0) (room l .1) (f .ensures) (v .inv .4) (opened l) (c .enum-told4 .given .1)
+
+pub explore-spec : {M : Type 1} → statement M
+explore-spec =
+    tie.close
+    (tie.spec
+    Inv-loop
+    μ-loop
+    Inv-outer
+    μ-outer
+    outer-holds
+    mul-distance
+    add-distance
+    mul-distance-2
+    slice-read-distance
+    cast-if2
+    open-slot-requires
+    loop-holds
+    mul-k
+    slice-read-k
+    add-j
+    take-result-requires
+    enum-told
+    loop-less
+    loop-again
+    enum-told-2
+    add-noted
+    loop-less-2
+    loop-again-2
+    enum-told-3
+    add-t35
+    add-t36
+    enum-told-4
+    add-i
+    outer-less
+    outer-again
+    same-length
+    same-length-2
+    same-length-3
+    returns
+    same-length-4
+    same-length-5
+    same-length-6
+    returns-2
+    same-length-7
+    same-length-8
+    same-length-9
+    returns-3
+    same-length-10
+    same-length-11
+    same-length-12
+    returns-4
+    same-length-13
+    same-length-14
+    same-length-15
+    returns-5)

@@ -1,0 +1,73 @@
+-- `search_bounded_rewrite` meets its contract: a law for each way out.
+use mathlib.Core.Path.{sym, ap, _∙_}
+use Rattle.search.specs.Searched.{slots-of}
+use Rattle.search.proofs.Answering.{searches-direct, searches-none, searches-long, searches}
+use borrow.Author.Needs.{needs}
+use Rattle.search.proofs.bounded_search.search_bounded_rewrite.Statement.{statement}
+use Rattle.search.proofs.bounded_search.search_bounded_rewrite.Tie as tie
+use Rattle.search.proofs.bounded_search.search_bounded_rewrite.Reads as reads
+use Rattle.search.proofs.bounded_search.search_bounded_rewrite.Lts as lts
+use Rattle.search.proofs.bounded_search.explore.Reads as explore-reads
+use Rattle.search.proofs.bounded_search.note_start.Reads as note-start-reads
+use Rattle.search.proofs.bounded_search.slots_of.Reads as slots-of-reads
+use Rattle.search.proofs.search.search_direct_axiom.Reads as search-direct-axiom-reads
+
+search-direct-axiom-requires : tie.Need-search-direct-axiom-requires
+search-direct-axiom-requires c κs = search needs
+
+enum-known-direct : tie.Need-enum-known-direct
+enum-known-direct c = search needs
+
+returns : tie.Need-returns
+returns c = searches-direct (c .before .before .before .search-direct-axiom .ensures) (c .before .direct .given .1)
+
+enum-told : tie.Need-enum-told
+enum-told c = search needs
+
+slots-of-requires : tie.Need-slots-of-requires
+slots-of-requires c κs = search needs
+
+returns-2 : tie.Need-returns-2
+returns-2 c = searches-none (c .before .before .before .before .search-direct-axiom .ensures) (c .before .before .enum-told .given .1) (sym (c .before .slots-of .ensures) ∙ c .if1 .taken)
+
+returns-3 : tie.Need-returns-3
+returns-3 c = searches-long (c .before .before .before .before .before .search-direct-axiom .ensures) (c .before .before .before .enum-told .given .1) (c .if2 .taken)
+
+note-start-requires : tie.Need-note-start-requires
+note-start-requires c κs = search needs
+
+slice-aggregate-explore : tie.Need-slice-aggregate-explore
+slice-aggregate-explore c = search needs
+
+slice-aggregate-explore-2 : tie.Need-slice-aggregate-explore-2
+slice-aggregate-explore-2 c = search needs
+
+explore-requires : tie.Need-explore-requires
+explore-requires c κs = search needs
+
+same-length : tie.Need-same-length
+same-length c = search needs
+
+returns-4 : tie.Need-returns-4
+returns-4 c =
+    let e = c .before .before .before .before .explore in
+    let n = c .before .before .before .before .before .before .before .before .before .before .note-start in
+    searches (c .before .before .before .before .before .before .before .before .before .before .before .before .before .before .before .before .before .search-direct-axiom .ensures) (c .before .before .before .before .before .before .before .before .before .before .before .before .before .before .before .enum-told .given .1) (c .before .before .before .before .before .before .before .before .before .before .before .before .before .before .slots-of .ensures ∙ ap slots-of (sym (e .kept .1 .1 .0 ∙ n .kept .0))) (n .ensures) (e .ensures)
+
+pub search-bounded-rewrite-spec : {M : Type 1} → statement M
+search-bounded-rewrite-spec =
+    tie.close
+    (tie.spec
+    search-direct-axiom-requires
+    enum-known-direct
+    returns
+    enum-told
+    slots-of-requires
+    returns-2
+    returns-3
+    note-start-requires
+    slice-aggregate-explore
+    slice-aggregate-explore-2
+    explore-requires
+    same-length
+    returns-4)

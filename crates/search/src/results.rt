@@ -1,0 +1,114 @@
+// The results of an opened term. They stand apart from the search, which asks for them once for each term that it opens.
+ghost use Prim.Native.Nat.{_+_, _*_, _≤_, _<_};
+ghost use lib.ListN.{length};
+ghost use Rattle.search.specs.Law.{semiring};
+ghost use Rattle.search.specs.Place.{lines-at};
+ghost use Rattle.search.specs.Slots.{SLOT};
+ghost use Rattle.search.specs.Resulted.{line-of, Adds, Resulted};
+use crate::bounded_search;
+use crate::bounded_search::Step;
+use crate::line;
+use crate::line::Filled;
+use crate::search;
+use crate::search::Direction;
+use terms::term;
+
+// Tries a step: its result goes among the first `count`, which are in term order, if the buffer has room for it and it keeps the depth.
+fn try_line(
+    step: Step,
+    s: &[u32],
+    depth: usize,
+    out: &mut [u32],
+    res: &mut [u32],
+    order: &mut [u32],
+    count: usize,
+) -> usize
+    requires { ⌜ (step .place < length (now s)) × (length (now out) ≤ 31) × (SLOT * count + SLOT ≤ length (now res)) × (count < length (now order)) × (count < 620) ⌝ }
+    ensures { λ r. ⌜ Adds (now (s .entry)) (length (now (out .entry))) depth (step .parent) (line-of step) 1 (now (res .entry)) (now (order .entry)) count (now (res .exit)) (now (order .exit)) r ⌝ }
+{
+    let law = step.law;
+    let direction = step.direction;
+    let at = step.place as usize;
+    let Filled::To(m) = line::law_line(law, direction, s, at, out) else {
+        return count;
+    };
+    if depth < term::depth(&out[..m]) {
+        return count;
+    }
+    bounded_search::keep(&out[..m], step, res, order, count)
+}
+
+// Tries each law at a place, forward before back.
+fn lines_at(
+    s: &[u32],
+    place: u32,
+    parent: u32,
+    depth: usize,
+    out: &mut [u32],
+    res: &mut [u32],
+    order: &mut [u32],
+    count: usize,
+) -> usize
+    requires { ⌜ (place < length (now s)) × (length (now out) ≤ 31) × (SLOT * (count + 20) ≤ length (now res)) × (count + 20 ≤ length (now order)) × (count ≤ 600) ⌝ }
+    ensures { λ r. ⌜ Adds (now (s .entry)) (length (now (out .entry))) depth parent (λ t. lines-at semiring t place) 20 (now (res .entry)) (now (order .entry)) count (now (res .exit)) (now (order .exit)) r ⌝ }
+{
+    let mut kept = count;
+    let mut n = 0;
+    while n < 10 {
+        let law = search::law_of(n);
+        let forward = Step {
+            law,
+            direction: Direction::Forward,
+            place,
+            parent,
+        };
+        let back = Step {
+            law,
+            direction: Direction::Back,
+            place,
+            parent,
+        };
+        kept = try_line(forward, s, depth, out, res, order, kept);
+        kept = try_line(back, s, depth, out, res, order, kept);
+        n += 1;
+    }
+    kept
+}
+
+// The results of the term of a run that keep size and depth, in term order: `order` names their slots. At most 620 lines are tried,
+// one for each of 31 places, each law and each direction.
+pub fn results_of(
+    s: &[u32],
+    parent: u32,
+    size: usize,
+    depth: usize,
+    res: &mut [u32],
+    order: &mut [u32],
+) -> usize
+    requires { ⌜ (SLOT * 620 ≤ length (now res)) × (620 ≤ length (now order)) ⌝ }
+    ensures { λ r. ⌜ Resulted (now (s .entry)) parent size depth (now (res .exit)) (now (order .exit)) r ⌝ }
+{
+    if 31 < s.len() {
+        return 0;
+    }
+    if 31 < size {
+        return 0;
+    }
+    let mut out = [0u32; 31];
+    let mut count = 0;
+    let mut i = 0;
+    while i < s.len() {
+        count = lines_at(
+            s,
+            i as u32,
+            parent,
+            depth,
+            &mut out[..size],
+            res,
+            order,
+            count,
+        );
+        i += 1;
+    }
+    count
+}
