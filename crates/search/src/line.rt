@@ -150,14 +150,3 @@ pub fn put_line(
         Direction::Back => splice(&sides[1..left], s, z, at, end, out),
     }
 }
-
-// The line of a law at the subterm that starts at `at`. The run of its result stands at the front of the buffer.
-pub fn law_line(law: Law, direction: Direction, s: &[u32], at: usize, out: &mut [u32]) -> Filled
-    requires { ⌜ at ≤ length (now s) ⌝ }
-    ensures { λ r. ⌜ Tries law direction (now (s .entry)) at (length (now (out .entry))) (now (out .exit)) r ⌝ }
-{
-    let Binding::Bound(z) = bind_law(law, direction, s, at) else {
-        return Filled::Nothing;
-    };
-    put_line(law, direction, s, at, z, out)
-}
