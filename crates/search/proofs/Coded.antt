@@ -36,7 +36,6 @@ pub law-read-back : (w : Law) → numbered-law (law-number w) ≡ w
 law-read-back = each-law (λ w. numbered-law (law-number w) ≡ w) (refl, refl, refl, refl, refl, refl, refl, refl, refl, refl)
 
 pub law-ranked : (w : Law) → law-number w ≡ rank (name-of w)
-unfolding rank
 law-ranked = each-law (λ w. law-number w ≡ rank (name-of w)) (refl, refl, refl, refl, refl, refl, refl, refl, refl, refl)
 
 pub number-below : (w : Law) → law-number w < 10

@@ -56,7 +56,8 @@ rename-bounded f k {us} b =
     }
 
 -- what is written of bounded words
-pub bounded-written : {us : List Word} → Bounded us → {out out′ : List ℕ} {r : ℕ} → SLOT * MOST ≤ length out → Spells (normal kept us) out r out′ → take r out′ ≡ spelled (normal kept us)
+pub bounded-written : {us : List Word} → Bounded us → {out out′ : List ℕ} {r : ℕ} → SLOT * MOST ≤ length out
+    → Spells (normal kept us) out r out′ → take r out′ ≡ spelled (normal kept us)
 bounded-written {us} b h s =
     let c = sort-bounded b in
     s .exact (c .small) (omega (arith, c .few, c .short, spelled-length (normal kept us) (omega (arith, c .short)))) .numbers

@@ -82,7 +82,8 @@ module _ (names : List ℕ) (few : length names ≤ 6) (s t : Term) (f : Fine s)
 
   run-least : both run (least order rename-term names s t) ≡ least order-numbers rename-run names (run s) (run t)
   run-least =
-      code-least run Fine run-carries rename-term names s t (λ c. renamed-fine (renaming names c) (renaming-below names few c) s f) (λ c. renamed-fine (renaming names c) (renaming-below names few c) t g)
+      code-least run Fine run-carries rename-term names s t
+      (λ c. renamed-fine (renaming names c) (renaming-below names few c) s f) (λ c. renamed-fine (renaming names c) (renaming-below names few c) t g)
       ∙ (λ i. least-to order-numbers (λ c. run-candidate c i) (factorial (length names) - 1))
       ∙ least-candidate names (run s) (run t)
 

@@ -54,12 +54,14 @@ abbrev slot-letters : (us vs : List ℕ) → List ℕ
 slot-letters us vs = rising (letters-of (flatten (slot-words us)) ++ letters-of (flatten (slot-words vs)))
 
 module _ (xs ys us vs left right : List ℕ) (p : Multiplied xs us) (q : Multiplied ys vs) where
-  names-listed : (s t : Term) → IsRun xs s → IsRun ys t → size s ≤ 31 → size t ≤ 31 → slot-letters us vs ≡ rising (flatten (expand s) ++ flatten (expand t))
+  names-listed : (s t : Term) → IsRun xs s → IsRun ys t → size s ≤ 31 → size t ≤ 31
+      → slot-letters us vs ≡ rising (flatten (expand s) ++ flatten (expand t))
   names-listed s t u v a b =
       rw (p .words s u a, q .words t v b, word-letters (expand-bounded s (u .fine) a), word-letters (expand-bounded t (v .fine) b))
 
   -- the promise, by what became of the letters
-  pub too-many : {names names′ : List ℕ} {l : Listed} → length names ≡ 6 → Lists (flatten (slot-words us)) (flatten (slot-words vs)) names l names′ → l ≡ TooMany
+  pub too-many : {names names′ : List ℕ} {l : Listed} → length names ≡ 6
+      → Lists (flatten (slot-words us)) (flatten (slot-words vs)) names l names′ → l ≡ TooMany
       → CanonicalWords xs ys left right (record { left = 0; right = 0 }) left right
   too-many e f d =
       record {
@@ -67,7 +69,8 @@ module _ (xs ys us vs left right : List ℕ) (p : Multiplied xs us) (q : Multipl
         exact = λ s t u v a b few c r. absurd (omega (arith, (rw d at (f .numbers)) .0, ap length (names-listed s t u v a b), fewer-letters s t));
       }
 
-  pub all-listed : {names names′ used left′ right′ : List ℕ} {l : Listed} {k : ℕ} {r : Lengths} → Lists (flatten (slot-words us)) (flatten (slot-words vs)) names l names′ → l ≡ All k → used ≡ take k names′
+  pub all-listed : {names names′ used left′ right′ : List ℕ} {l : Listed} {k : ℕ} {r : Lengths}
+      → Lists (flatten (slot-words us)) (flatten (slot-words vs)) names l names′ → l ≡ All k → used ≡ take k names′
       → Finds (WordRoom us vs left right) (both spelled (least order-lists rename-words used (slot-words us) (slot-words vs))) left right r left′ right′
       → CanonicalWords xs ys left right r left′ right′
   all-listed {names} {names′} {used} {left′} {right′} {l} {k} {r} f d e found = record { within = found .within; exact = exact }

@@ -29,7 +29,8 @@ use Rattle.words.proofs.BoundedWords.{rename-bounded, bounded-written}
 
 -- one word, by way of a buffer
 pub word-renamed : (f : ℕ → ℕ) (xs buffer : List ℕ) {x u ws ws′ : List ℕ} {j k : ℕ} → length buffer ≡ LONGEST
-    → x ≡ sets buffer 0 (rename-run f xs) → u ≡ take (length xs) x → PutsWords ((u ++ []) ∷ []) ws j k ws′ → PutsWords (rename-run f xs ∷ []) ws j k ws′
+    → x ≡ sets buffer 0 (rename-run f xs) → u ≡ take (length xs) x → PutsWords ((u ++ []) ∷ []) ws j k ws′
+    → PutsWords (rename-run f xs ∷ []) ws j k ws′
 word-renamed f xs buffer b e d p =
     record {
       few = p .few;
@@ -68,7 +69,8 @@ words-renamed f ws ss p e s =
           bounded-written d room (rw l at s);
     }
 
-pub slots-as-long : {f : ℕ → ℕ} {ws ss ss₁ out out′ : List ℕ} {r : ℕ} → length ss₁ ≡ length ss → RenamesWords f ws ss₁ out r out′ → RenamesWords f ws ss out r out′
+pub slots-as-long : {f : ℕ → ℕ} {ws ss ss₁ out out′ : List ℕ} {r : ℕ} → length ss₁ ≡ length ss
+    → RenamesWords f ws ss₁ out r out′ → RenamesWords f ws ss out r out′
 slots-as-long e p = record { within = p .within; exact = λ b k slots. p .exact b k (omega arith) }
 
 -- the equation that renaming number c makes of the words in two lists of slots

@@ -1,4 +1,4 @@
--- The words in all the slots of a list: one slot after another, sorted and written, and put there before.
+-- The words in the slots of a list: one slot after another, and as they were put there.
 use Prim.Native.Nat.{ℕ, _+_, _*_, _/_, _≤_}
 use native.Mathlib.Omega.{arith}
 use native.Mathlib.Nat.{zero-add, le-refl}
@@ -25,7 +25,8 @@ module _ (ws : List ℕ) where
   words-in-next n = words-in-add n 1
 
 -- some words put after others
-pub puts-more : {us vs : List Word} {ws ws₁ ws₂ : List ℕ} {i j k : ℕ} → PutsWords us ws i j ws₁ → PutsWords vs ws₁ j k ws₂ → PutsWords (us ++ vs) ws i k ws₂
+pub puts-more : {us vs : List Word} {ws ws₁ ws₂ : List ℕ} {i j k : ℕ}
+    → PutsWords us ws i j ws₁ → PutsWords vs ws₁ j k ws₂ → PutsWords (us ++ vs) ws i k ws₂
 puts-more p q = record { few = λ h. q .few (p .few h); exact = λ f. puts-both f (p .exact) (q .exact) }
 
 -- the words put into the first n slots are those in all the slots of that part

@@ -11,6 +11,7 @@ ghost use Rattle.words.specs.Decoded.{decoded, factorial, renaming};
 ghost use Rattle.words.specs.RenameRun.{rename-number, rename-run};
 ghost use Rattle.words.specs.Candidate.{Room, ordered, Keeps, KeepsLesser, Tries, Visits, Finds, candidate, CanonicalTerms};
 
+// The same for lists of words.
 pub mod words;
 
 use super::normal_form::ZERO;

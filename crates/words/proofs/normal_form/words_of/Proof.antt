@@ -25,7 +25,9 @@ front-requires : tie.Need-front-requires
 front-requires c κs = search needs
 
 spell-sorted-requires : tie.Need-spell-sorted-requires
-spell-sorted-requires c κs = rw (c .before .front .ensures) (simp length-take (omega (arith, c .before .before .before .before .before .multiply-out .ensures .few)))
+spell-sorted-requires c κs =
+    rw (c .before .front .ensures)
+    (simp length-take (omega (arith, c .before .before .before .before .before .multiply-out .ensures .few)))
 
 same-length : tie.Need-same-length
 same-length c = search needs
@@ -33,7 +35,9 @@ same-length c = search needs
 returns : tie.Need-returns
 returns c =
     let m = c .before .before .before .before .before .before .before .before in
-    words-written (multiplied (omega arith) (omega arith) (m .multiply-out .ensures) (c .before .before .before .before .front .ensures)) (c .before .before .spell-sorted .ensures)
+    words-written
+    (multiplied (omega arith) (omega arith) (m .multiply-out .ensures) (c .before .before .before .before .front .ensures))
+    (c .before .before .spell-sorted .ensures)
 
 pub words-of-spec : {M : Type 1} → statement M
 words-of-spec =

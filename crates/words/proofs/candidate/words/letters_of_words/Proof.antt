@@ -23,7 +23,9 @@ returns : tie.Need-returns
 returns c =
     let g = c .before .before .before .before in
     let a = g .before .before .before .before .before .args in
-    lists-none (flatten (slot-words (a .u .now))) (flatten (slot-words (a .v .now))) (a .out .now) (g .gather-words .last .1 .0) (g .gather-words .result) (g .gather-words .ensures) (c .enum-told .given .1)
+    lists-none (flatten (slot-words (a .u .now))) (flatten (slot-words (a .v .now))) (a .out .now)
+    (g .gather-words .last .1 .0) (g .gather-words .result) (g .gather-words .ensures)
+    (c .enum-told .given .1)
 
 gather-words-requires-2 : tie.Need-gather-words-requires-2
 gather-words-requires-2 c κs =
@@ -38,7 +40,9 @@ returns-2 c =
     let h = c .before .before in
     let g = h .before .before .before .before .before .before .before in
     let a = g .before .before .before .before .before .args in
-    lists-all (flatten (slot-words (a .u .now))) (flatten (slot-words (a .v .now))) (a .out .now) (g .gather-words .last .1 .0) (g .gather-words .result) (g .gather-words .ensures) _ (c .before .before .before .before .before .listed .given .1) (h .gather-words2 .last .1 .0) (h .gather-words2 .result) (h .gather-words2 .ensures)
+    lists-all (flatten (slot-words (a .u .now))) (flatten (slot-words (a .v .now))) (a .out .now)
+    (g .gather-words .last .1 .0) (g .gather-words .result) (g .gather-words .ensures) _
+    (c .before .before .before .before .before .listed .given .1) (h .gather-words2 .last .1 .0) (h .gather-words2 .result) (h .gather-words2 .ensures)
 
 pub letters-of-words-spec : {M : Type 1} → statement M
 letters-of-words-spec =

@@ -31,7 +31,8 @@ returns : tie.Need-returns
 returns c =
     let r = c .before .before .before .before .before .before .before .before in
     let a = r .before .before .before .before .before .before .args in
-    word-renamed (renamed (a .names .now) (a .numbers .now)) (a .word .now) _ refl (r .rename-run .ensures) (c .before .before .before .before .front .ensures) (c .before .before .put-word .ensures)
+    word-renamed (renamed (a .names .now) (a .numbers .now)) (a .word .now) _ refl
+    (r .rename-run .ensures) (c .before .before .before .before .front .ensures) (c .before .before .put-word .ensures)
 
 pub put-renamed-spec : {M : Type 1} → statement M
 put-renamed-spec =

@@ -14,7 +14,10 @@ use Rattle.words.proofs.candidate.words.rename_slots.Statement.{stateme
 use Rattle.words.proofs.candidate.words.rename_slots.Tie as tie
 
 abbrev Inv-loop : tie.InvT-loop
-Inv-loop words names numbers slots₀ next₀ i₀ slots next i = (i ≤ length words / 17) × (length slots ≡ length slots₀) × PutsWords (map (rename-run (renamed names numbers)) (words-in words i)) slots₀ 0 next slots
+Inv-loop words names numbers slots₀ next₀ i₀ slots next i =
+    (i ≤ length words / 17)
+    × (length slots ≡ length slots₀)
+    × PutsWords (map (rename-run (renamed names numbers)) (words-in words i)) slots₀ 0 next slots
 
 abbrev μ-loop : tie.MeasureT-loop
 μ-loop words names numbers slots₀ next₀ i₀ slots next i = length words / 17 - i
@@ -39,8 +42,11 @@ loop-again c =
     let p = c .before .before in
     let l = p .before .before .before .before in
     let a = l .before .before .before .before .before .args in
-    let f = rename-run (renamed (a .names .now) (a .numbers .now)) in
-    (omega arith, p .put-renamed .kept .1 .1 .1 .0 ∙ l .loop .inv .1, one-more-renamed f (a .words .now) (a .slots .now) (l .loop .i) (l .loop .inv .2) (p .before .before .word-of .ensures) (p .put-renamed .ensures))
+    let f = rename-run (renamed (a .names .now) (a .numbers .now)) in (
+      omega arith,
+      p .put-renamed .kept .1 .1 .1 .0 ∙ l .loop .inv .1,
+      one-more-renamed f (a .words .now) (a .slots .now) (l .loop .i) (l .loop .inv .2) (p .before .before .word-of .ensures) (p .put-renamed .ensures),
+    )
 
 same-length : tie.Need-same-length Inv-loop μ-loop
 same-length c = search needs

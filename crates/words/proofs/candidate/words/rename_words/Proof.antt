@@ -17,7 +17,9 @@ front-requires : tie.Need-front-requires
 front-requires c κs = search needs
 
 spell-sorted-requires : tie.Need-spell-sorted-requires
-spell-sorted-requires c κs = rw (c .before .front .ensures) (simp length-take (omega (arith, c .before .before .before .before .before .rename-slots .ensures .few (omega arith))))
+spell-sorted-requires c κs =
+    rw (c .before .front .ensures)
+    (simp length-take (omega (arith, c .before .before .before .before .before .rename-slots .ensures .few (omega arith))))
 
 same-length : tie.Need-same-length
 same-length c = search needs
@@ -29,7 +31,8 @@ returns : tie.Need-returns
 returns c =
     let r = c .before .before .before .before .before .before .before .before in
     let a = r .before .before .before .before .before .before .before .args in
-    words-renamed (renamed (a .names .now) (a .numbers .now)) (a .words .now) (a .slots .now) (r .rename-slots .ensures) (c .before .before .before .before .front .ensures) (c .before .before .spell-sorted .ensures)
+    words-renamed (renamed (a .names .now) (a .numbers .now)) (a .words .now) (a .slots .now)
+    (r .rename-slots .ensures) (c .before .before .before .before .front .ensures) (c .before .before .spell-sorted .ensures)
 
 pub rename-words-spec : {M : Type 1} → statement M
 rename-words-spec =
