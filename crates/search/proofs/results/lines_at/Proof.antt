@@ -46,7 +46,7 @@ loop-again c = search (step-passed, needs)
 keep-line-requires : tie.Need-keep-line-requires Inv-loop μ-loop
 keep-line-requires c κs =
     let b = c .before .before .before .before .before .before .bind-law in
-    (search needs, law-bound _ _ _ _ _ _ (b .ensures) (c .before .before .before .before .binding .given .1), search needs)
+    (search needs, law-bound _ _ _ _ _ _ (b .ensures) (c .before .before .before .before .binding .given .1), search needs, search needs, search needs, search needs)
 
 loop-less-2 : tie.Need-loop-less-2 Inv-loop μ-loop
 loop-less-2 c = search needs
