@@ -1,4 +1,4 @@
-// One line of a law at one place of a term, put together as a run in a buffer.
+// A law at one place of a term: its letters bound there, and its line put together as a run in a buffer.
 ghost use Prim.Native.Nat.{_≤_};
 ghost use lib.ListN.{length};
 ghost use Rattle.search.specs.Span.{Within};
@@ -69,7 +69,7 @@ pub enum Filled {
     Nothing,
 }
 
-// Puts the run of a law's side, with the bound parts for its letters, after the first `n` numbers of a buffer.
+// Puts the run of a law's side, whose letters are bound, with their parts for them after the first `n` numbers of a buffer.
 fn fill(q: &[u32], s: &[u32], z: Spans, out: &mut [u32], n: usize) -> Filled
     requires { ⌜ (n ≤ length (now out)) × Within (length (now s)) z ⌝ }
     ensures { λ r. ⌜ Fills (now (q .entry)) (now (s .entry)) z (now (out .entry)) (now (out .exit)) n r ⌝ }
