@@ -9,6 +9,7 @@ pub mod Front
 pub mod Filling
 pub mod Splits
 pub mod Splicing
+pub mod Knowing
 pub mod Rewriting
 pub mod Trying
 pub mod Directing

@@ -5,7 +5,7 @@ use native.Mathlib.Nat.{sub-zero}
 use mathlib.Core.Path.{_≡_, refl, sym, ap, _∙_}
 use mathlib.Core.Logic.{inl, inr}
 use mathlib.Core.Bool.{Bool, true, false}
-use mathlib.Core.Option.{Option, none, some}
+use mathlib.Core.Option.{some}
 use mathlib.Core.List.{List, _++_, append-assoc}
 use lib.ListN.{length, take, drop, length-drop}
 use lib.Seq.{length-take-le}
@@ -18,36 +18,29 @@ use Rattle.terms.specs.Theory.Held.{size-of}
 use Rattle.terms.specs.Promises.{Equals}
 use Rattle.terms.proofs.Compared.{equal-reflects}
 use Rattle.terms.proofs.Held.{held-part, run-one}
-use Rattle.search.specs.Match.{Bindings, put, join}
+use Rattle.search.specs.Match.{Bindings, put}
 use Rattle.search.specs.Place.{subterm-at, replace-at}
 use Rattle.search.specs.Span.{span-of, Pattern, Meant, Means}
-use Rattle.search.specs.Filled.{Holding, Between, Fills}
+use Rattle.search.specs.Filled.{Between, Fills}
 use Rattle.search.specs.Spliced.{part, Finished, Finishes, Put, Splices}
 use Rattle.search.specs.declared.search.Spans.{Spans}
 use Rattle.search.specs.declared.line.Filled.{Filled}
 use Rattle.search.specs.declared.line.Filled.the-variants.{To, Nothing}
 use Rattle.search.proofs.Front.{front-part, take-rest}
+use Rattle.search.proofs.Filling.{join-parts}
 use Rattle.search.proofs.Splits.{fine-at, starts, run-spliced, size-replaced, fine-replaced}
 
 -- what is put in is fine, since each part is
-fine-join : (f : Term → Term → Term) → ((s t : Term) → Fine s → Fine t → Fine (f s t)) → (a b : Option Term) → ((u : Term) → a ≡ some u → Fine u) → ((u : Term) → b ≡ some u → Fine u)
-    → (u : Term) → join f a b ≡ some u → Fine u
-unfolding join
-fine-join f c none b p q u e = absurd (let z : _≡_ {A = ℕ} 0 1 = cc in omega arith)
-fine-join f c (some s) none p q u e = absurd (let z : _≡_ {A = ℕ} 0 1 = cc in omega arith)
-fine-join f c (some s) (some t) p q u e = let k : f s t ≡ u = cc in rw k at (c s t (p s refl) (q t refl))
-
 fine-put : {xs : List ℕ} {z : Spans} {σ : Bindings} → Means xs z σ → (p : Term) → Pattern p → (u : Term) → put p σ ≡ some u → Fine u
 unfolding put Pattern Fine
-fine-put {xs} {z} {σ} M (letter n) h u e = go (σ n) (M .letters n h) e
+fine-put {xs} {z} M (letter n) h u e = go (rw e at (M .letters n h))
   where
-    go : (o : Option Term) → Meant xs (span-of z n) o → o ≡ some u → Fine u
-    go none m e = absurd (let z : _≡_ {A = ℕ} 0 1 = cc in omega arith)
-    go (some v) m e = let k : v ≡ u = cc in rw k at (m .0 .fine)
+    go : Meant xs (span-of z n) (some u) → Fine u
+    go m = m .0 .fine
 fine-put M zero h u e = let k : zero ≡ u = cc in rw (← k) tt
 fine-put M one h u e = let k : one ≡ u = cc in rw (← k) tt
-fine-put {σ = σ} M (add p q) h u e = fine-join add (λ s t a b. (a, b)) (put p σ) (put q σ) (fine-put M p (h .0)) (fine-put M q (h .1)) u e
-fine-put {σ = σ} M (mul p q) h u e = fine-join mul (λ s t a b. (a, b)) (put p σ) (put q σ) (fine-put M p (h .0)) (fine-put M q (h .1)) u e
+fine-put {σ = σ} M (add p q) h u e = let (s, t, a, b, k) = join-parts add (put p σ) (put q σ) u e in rw (← k) (fine-put M p (h .0) s a, fine-put M q (h .1) t b)
+fine-put {σ = σ} M (mul p q) h u e = let (s, t, a, b, k) = join-parts mul (put p σ) (put q σ) u e in rw (← k) (fine-put M p (h .0) s a, fine-put M q (h .1) t b)
 
 -- the test for the same terms
 
@@ -86,16 +79,12 @@ module _ (xs : List ℕ) (at end : ℕ) (before : List ℕ) (n m : ℕ) (out : L
 
 module _ (q xs : List ℕ) (z : Spans) (at end room : ℕ) (out : List ℕ) where
   -- nothing, where each term that is put in has no room
-  none-fits : ((t p : Term) (σ : Bindings) (u : Term) → IsRun xs t → at < size t → Means xs z σ → IsRun q p → Pattern p → put p σ ≡ some u → room < size (replace-at t at u))
+  none-fits : ((t p u : Term) (σ : Bindings) → IsRun xs t → at < size t → Means xs z σ → IsRun q p → Pattern p → put p σ ≡ some u → room < size (replace-at t at u))
       → Splices q xs z at end room out Nothing
-  none-fits f = record { within = tt; exact = λ t p σ ht h e M hp g. go t (put p σ) (λ u j. f t p σ u ht h M hp g j) }
-    where
-      go : (t : Term) (o : Option Term) → ((u : Term) → o ≡ some u → room < size (replace-at t at u)) → Put t at room out Nothing o
-      go t none f = tt
-      go t (some u) f = inr (f u refl)
+  none-fits f = record { within = tt; exact = λ t p u σ ht h e M hp g j. inr (f t p u σ ht h M hp g j) }
 
   pub splice-short : room < at → Splices q xs z at end room out Nothing
-  splice-short k = none-fits (λ t p σ u ht h M hp g j. omega (arith, size-replaced t at h u .0, size-replaced t at h u .1))
+  splice-short k = none-fits (λ t p u σ ht h M hp g j. omega (arith, size-replaced t at h u .0, size-replaced t at h u .1))
 
 -- the buffer after what stands before
 
@@ -108,7 +97,7 @@ module _ (q xs : List ℕ) (z : Spans) (at end : ℕ) (out out₁ out₂ : List 
   pub splice-unfilled : r ≡ Nothing → Splices q xs z at end (length out) out₂ Nothing
   splice-unfilled e =
       none-fits q xs z at end (length out) out₂
-      (λ t p σ u ht h M hp g j. omega (arith, n-is, size-replaced t at h u .0, size-replaced t at h u .1, rw (e, j) at (F .exact p σ M hp g)))
+      (λ t p u σ ht h M hp g j. omega (arith, n-is, size-replaced t at h u .0, size-replaced t at h u .1, rw e at (F .exact p u σ M hp g j)))
 
   module _ (m : ℕ) (e : r ≡ To m) where
     pub filled-within : (n ≤ m) × (m ≤ length out)
@@ -116,7 +105,7 @@ module _ (q xs : List ℕ) (z : Spans) (at end : ℕ) (out out₁ out₂ : List 
 
     module _ (out₃ : List ℕ) (f : Filled) (l′ : length out₂ ≡ length out₁) (G : Finishes xs at end out₂ n m out₃ f) where
       put-in : (t : Term) → IsRun xs t → at < size t → end ≡ at + size (subterm-at t at) → (u : Term) → Fine u → m ≡ n + size u → take m out₂ ≡ take n out₁ ++ run u
-          → Put t at (length out) out₃ f (some u)
+          → Put t at (length out) out₃ f u
       put-in t ht h g u fu c d = go f (G .is)
         where
           w : Term
@@ -141,7 +130,7 @@ module _ (q xs : List ℕ) (z : Spans) (at end : ℕ) (out out₁ out₂ : List 
           unchanged : run u ≡ run w → u ≡ w
           unchanged k = run-one (record { fine = fu; whole = refl }) (record { fine = fw; whole = k })
 
-          go : (f : Filled) → Finished xs at end out₂ n m out₃ f → Put t at (length out) out₃ f (some u)
+          go : (f : Filled) → Finished xs at end out₂ n m out₃ f → Put t at (length out) out₃ f u
           go Nothing (inl k) = inl (same-yes u w (unchanged (sym new ∙ k ∙ old)))
           go Nothing (inr k) = inr (omega (arith, n-is, size-of ht, size-replaced t at h u .0))
           go (To k) G = (
@@ -151,13 +140,12 @@ module _ (q xs : List ℕ) (z : Spans) (at end : ℕ) (out out₁ out₂ : List 
           )
 
       pub splice-filled : Splices q xs z at end (length out) out₃ f
-      splice-filled = record { within = inside f (G .is); exact = λ t p σ ht h g M hp gp. go t p σ ht h g (put p σ) (rw e at (F .exact p σ M hp gp)) (fine-put M p gp) }
+      splice-filled =
+          record {
+            within = inside f (G .is);
+            exact = λ t p u σ ht h g M hp gp j. let H = rw e at (F .exact p u σ M hp gp j) in put-in t ht h g u (fine-put M p gp u j) (H .0) (H .1);
+          }
         where
           inside : (f : Filled) → Finished xs at end out₂ n m out₃ f → Between 0 (length out) f
           inside Nothing G = tt
           inside (To k) G = (omega arith, omega (arith, G .2))
-
-          go : (t p : Term) (σ : Bindings) → IsRun xs t → at < size t → end ≡ at + size (subterm-at t at) → (o : Option Term) → Holding out₁ out₂ n (To m) o → ((u : Term) → o ≡ some u → Fine u)
-              → Put t at (length out) out₃ f o
-          go t p σ ht h g none H fu = absurd H
-          go t p σ ht h g (some u) H fu = put-in t ht h g u (fu u refl) (H .0) (H .1)

@@ -1,7 +1,7 @@
 -- A law's side with the bound terms put in, as a run after the first n numbers of a buffer.
 use Prim.Native.Nat.{ℕ, _+_, _≤_, _<_}
 use mathlib.Core.Path.{_≡_}
-use mathlib.Core.Option.{Option, none, some}
+use mathlib.Core.Option.{some}
 use mathlib.Core.List.{List, _++_}
 use lib.ListN.{length, take}
 use Rattle.terms.specs.Term.{Term, size}
@@ -13,12 +13,10 @@ use Rattle.search.specs.declared.search.Spans.{Spans}
 use Rattle.search.specs.declared.line.Filled.{Filled}
 use Rattle.search.specs.declared.line.Filled.the-variants.{To, Nothing}
 
--- the answer against the term that is put in: nothing where a letter is not known or there is no room
-abbrev pub Holding : List ℕ → List ℕ → ℕ → Filled → Option Term → Type 0
-Holding before after n (To m) none = ⊥
-Holding before after n (To m) (some u) = (m ≡ n + size u) × (take m after ≡ take n before ++ run u)
-Holding before after n Nothing none = Unit {0}
-Holding before after n Nothing (some u) = length before < n + size u
+-- the answer against the term that is put in: nothing where there is no room for it
+abbrev pub Holding : List ℕ → List ℕ → ℕ → Filled → Term → Type 0
+Holding before after n (To m) u = (m ≡ n + size u) × (take m after ≡ take n before ++ run u)
+Holding before after n Nothing u = length before < n + size u
 
 -- where the run ends, if there is one
 abbrev pub Between : ℕ → ℕ → Filled → Type 0
@@ -27,4 +25,4 @@ Between low high Nothing = Unit {0}
 
 pub record Fills (q xs : List ℕ) (z : Spans) (before after : List ℕ) (n : ℕ) (r : Filled) : Type 0 where
   pub within : Between n (length before) r
-  pub exact : (p : Term) (σ : Bindings) → Means xs z σ → IsRun q p → Pattern p → Holding before after n r (put p σ)
+  pub exact : (p u : Term) (σ : Bindings) → Means xs z σ → IsRun q p → Pattern p → put p σ ≡ some u → Holding before after n r u

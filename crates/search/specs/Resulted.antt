@@ -19,7 +19,7 @@ tried-by s t = map (placed t (s .place)) (at-root (subterm-at t (s .place)) (law
 
 -- what the functions promise
 
--- of `try_line` and `lines_at`: the lines `new`, at most `most`, are tried after others, and the first r slots have all the results, in term order
+-- of `keep_line` and `lines_at`: the lines `new`, at most `most`, are tried after others, and the first r slots have all the results, in term order
 pub record Adds (xs : List ℕ) (room deep from : ℕ) (new : Term → List Line) (most : ℕ) (res order : List ℕ) (count : ℕ) (res′ order′ : List ℕ) (r : ℕ) : Type 0 where
   pub low : count ≤ r
   pub high : r ≤ count + most

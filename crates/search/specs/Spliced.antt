@@ -3,7 +3,7 @@ use Prim.Native.Nat.{ℕ, _+_, _-_, _≤_, _<_}
 use mathlib.Core.Path.{_≡_}
 use mathlib.Core.Logic.{_⊎_}
 use mathlib.Core.Bool.{true, false, cond}
-use mathlib.Core.Option.{Option, none, some}
+use mathlib.Core.Option.{some}
 use mathlib.Core.List.{List, [], _∷_, _++_, map}
 use lib.Dec.{leb}
 use lib.ListN.{length, take, drop}
@@ -12,7 +12,7 @@ use Rattle.terms.specs.Held.{IsRun}
 use Rattle.search.specs.Law as law
 use Rattle.search.specs.Match.{Bindings, put}
 use Rattle.search.specs.Line as line
-use Rattle.search.specs.Line.{Line, from, to, at-root}
+use Rattle.search.specs.Line.{Line, at-root}
 use Rattle.search.specs.Place.{subterm-at, replace-at, placed}
 use Rattle.search.specs.Span.{Pattern, Means}
 use Rattle.search.specs.Coded.{law-of, direction-of}
@@ -36,17 +36,15 @@ Finished xs at end before n m out Nothing = (part before n m ≡ part xs at end)
 pub record Finishes (xs : List ℕ) (at end : ℕ) (before : List ℕ) (n m : ℕ) (out : List ℕ) (r : Filled) : Type 0 where
   pub is : Finished xs at end before n m out r
 
--- the answer against what is put in for the subterm with number i: nothing where that is unknown, changes nothing or has no room
-abbrev pub Put : Term → ℕ → ℕ → List ℕ → Filled → Option Term → Type 0
-Put t i room out (To m) none = ⊥
-Put t i room out (To m) (some u) = (same u (subterm-at t i) ≡ false) × (size (replace-at t i u) ≤ room) × IsRun (take m out) (replace-at t i u)
-Put t i room out Nothing none = Unit {0}
-Put t i room out Nothing (some u) = (same u (subterm-at t i) ≡ true) ⊎ (room < size (replace-at t i u))
+-- the answer against what is put in for the subterm with number i: nothing where that changes nothing or has no room
+abbrev pub Put : Term → ℕ → ℕ → List ℕ → Filled → Term → Type 0
+Put t i room out (To m) u = (same u (subterm-at t i) ≡ false) × (size (replace-at t i u) ≤ room) × IsRun (take m out) (replace-at t i u)
+Put t i room out Nothing u = (same u (subterm-at t i) ≡ true) ⊎ (room < size (replace-at t i u))
 
 pub record Splices (q xs : List ℕ) (z : Spans) (at end room : ℕ) (out : List ℕ) (r : Filled) : Type 0 where
   pub within : Between 0 room r
-  pub exact : (t p : Term) (σ : Bindings) → IsRun xs t → at < size t → end ≡ at + size (subterm-at t at) → Means xs z σ → IsRun q p → Pattern p
-      → Put t at room out r (put p σ)
+  pub exact : (t p u : Term) (σ : Bindings) → IsRun xs t → at < size t → end ≡ at + size (subterm-at t at) → Means xs z σ → IsRun q p → Pattern p → put p σ ≡ some u
+      → Put t at room out r u
 
 -- the lines whose results have at most m nodes
 unfoldable pub kept : ℕ → List Line → List Line
@@ -67,12 +65,7 @@ Gives out (To m) (x ∷ y ∷ xs) = ⊥
 Gives out Nothing [] = Unit {0}
 Gives out Nothing (x ∷ xs) = ⊥
 
--- p and q are the runs of a law's sides, q the one that is put in
-pub record Rewrites (p q xs : List ℕ) (at room : ℕ) (out : List ℕ) (r : Filled) : Type 0 where
-  pub within : Between 0 room r
-  pub exact : (t : Term) (w : law.Law) (d : line.Direction) → IsRun xs t → at < size t → IsRun p (from d w) → Pattern (from d w) → IsRun q (to d w) → Pattern (to d w)
-      → Gives out r (tried room t at w d)
-
+-- of `put_line`
 pub record Tries (w : Law) (d : Direction) (xs : List ℕ) (at room : ℕ) (out : List ℕ) (r : Filled) : Type 0 where
   pub within : Between 0 room r
   pub exact : (t : Term) → IsRun xs t → at < size t → Gives out r (tried room t at (law-of w) (direction-of d))

@@ -1,9 +1,11 @@
-// One line of a law at one place of a term, put together as a run in a buffer.
+// A law at one place of a term: its letters bound there, and its line put together as a run in a buffer.
 ghost use Prim.Native.Nat.{_≤_};
 ghost use lib.ListN.{length};
 ghost use Rattle.search.specs.Span.{Within};
+ghost use Rattle.search.specs.Bound.{BindsAll, BindsSide, BindsLaw};
 ghost use Rattle.search.specs.Filled.{Fills};
-ghost use Rattle.search.specs.Spliced.{Finishes, Splices, Rewrites, Tries};
+ghost use Rattle.search.specs.Spliced.{Finishes, Splices, Tries};
+ghost use Rattle.search.specs.declared.search.Binding.the-variants.{Bound};
 use crate::search;
 use crate::search::Binding;
 use crate::search::Direction;
@@ -11,13 +13,63 @@ use crate::search::Law;
 use crate::search::Spans;
 use terms::term;
 
+// Whether each letter of a law's side stands for a part.
+fn binds_all(q: &[u32], z: Spans) -> bool
+    ensures { λ r. ⌜ BindsAll (now (q .entry)) z r ⌝ }
+{
+    let mut k = 0;
+    while k < q.len() {
+        let x = q[k];
+        k += 1;
+        if 3 <= x {
+            continue;
+        }
+        let v = search::span_of(z, x);
+        let len = v.len;
+        if len == 0 {
+            return false;
+        }
+    }
+    true
+}
+
+// Matches a law's side p with the term that starts at `at`: the law is bound only if each letter of its other side, q, is.
+fn bind_side(p: &[u32], q: &[u32], s: &[u32], at: usize) -> Binding
+    requires { ⌜ at ≤ length (now s) ⌝ }
+    ensures { λ r. ⌜ BindsSide (now (p .entry)) (now (q .entry)) (now (s .entry)) at r ⌝ }
+{
+    let Binding::Bound(z) = search::bind(p, s, at, search::no_spans()) else {
+        return Binding::Unbound;
+    };
+    if binds_all(q, z) {
+        return Binding::Bound(z);
+    }
+    Binding::Unbound
+}
+
+// What the letters of a law stand for at the subterm that starts at `at`. A law that does not match there, or leaves a letter
+// of the side put in unbound, is unbound.
+pub fn bind_law(law: Law, direction: Direction, s: &[u32], at: usize) -> Binding
+    requires { ⌜ at ≤ length (now s) ⌝ }
+    ensures { λ r. ⌜ BindsLaw law direction (now (s .entry)) at r ⌝ }
+{
+    let row = search::row_of(law);
+    let left = 1 + row[0] as usize;
+    let right = 9 + row[8] as usize;
+    let sides = &row[..];
+    match direction {
+        Direction::Forward => bind_side(&sides[1..left], &sides[9..right], s, at),
+        Direction::Back => bind_side(&sides[9..right], &sides[1..left], s, at),
+    }
+}
+
 // Where a run that was put in a buffer ends.
 pub enum Filled {
     To(usize),
     Nothing,
 }
 
-// Puts the run of a law's side, with the bound parts for its letters, after the first `n` numbers of a buffer.
+// Puts the run of a law's side, whose letters are bound, with their parts for them after the first `n` numbers of a buffer.
 fn fill(q: &[u32], s: &[u32], z: Spans, out: &mut [u32], n: usize) -> Filled
     requires { ⌜ (n ≤ length (now out)) × Within (length (now s)) z ⌝ }
     ensures { λ r. ⌜ Fills (now (q .entry)) (now (s .entry)) z (now (out .entry)) (now (out .exit)) n r ⌝ }
@@ -31,9 +83,6 @@ fn fill(q: &[u32], s: &[u32], z: Spans, out: &mut [u32], n: usize) -> Filled
             let v = search::span_of(z, x);
             let from = v.at;
             let len = v.len;
-            if len == 0 {
-                return Filled::Nothing;
-            }
             if out.len() - m < len {
                 return Filled::Nothing;
             }
@@ -78,31 +127,26 @@ fn splice(q: &[u32], s: &[u32], z: Spans, at: usize, end: usize, out: &mut [u32]
     finish(s, at, end, out, n, m)
 }
 
-// The line of a law at a place: p and q are the runs of its sides, read from p to q, and the place is the part of s that starts at `at`.
-// The run of its result stands at the front of the buffer. There is none where p does not match, a letter of q is not known, the
-// result is s itself or the buffer is too short.
-fn line(p: &[u32], q: &[u32], s: &[u32], at: usize, out: &mut [u32]) -> Filled
-    requires { ⌜ at ≤ length (now s) ⌝ }
-    ensures { λ r. ⌜ Rewrites (now (p .entry)) (now (q .entry)) (now (s .entry)) at (length (now (out .entry))) (now (out .exit)) r ⌝ }
-{
-    let Binding::Bound(z) = search::bind(p, s, at, search::no_spans()) else {
-        return Filled::Nothing;
-    };
-    let end = term::end_of(s, at);
-    splice(q, s, z, at, end, out)
-}
-
-// The line of a law at the subterm that starts at `at`. The run of its result stands at the front of the buffer.
-pub fn law_line(law: Law, direction: Direction, s: &[u32], at: usize, out: &mut [u32]) -> Filled
-    requires { ⌜ at ≤ length (now s) ⌝ }
+// The line of a law at the subterm that starts at `at`, by the parts that its letters stand for there. The run of its result
+// stands at the front of the buffer; there is none where the result is s itself or the buffer is too short.
+pub fn put_line(
+    law: Law,
+    direction: Direction,
+    s: &[u32],
+    at: usize,
+    z: Spans,
+    out: &mut [u32],
+) -> Filled
+    requires { ⌜ (at ≤ length (now s)) × BindsLaw law direction (now s) at (Bound z) ⌝ }
     ensures { λ r. ⌜ Tries law direction (now (s .entry)) at (length (now (out .entry))) (now (out .exit)) r ⌝ }
 {
     let row = search::row_of(law);
     let left = 1 + row[0] as usize;
     let right = 9 + row[8] as usize;
     let sides = &row[..];
+    let end = term::end_of(s, at);
     match direction {
-        Direction::Forward => line(&sides[1..left], &sides[9..right], s, at, out),
-        Direction::Back => line(&sides[9..right], &sides[1..left], s, at, out),
+        Direction::Forward => splice(&sides[9..right], s, z, at, end, out),
+        Direction::Back => splice(&sides[1..left], s, z, at, end, out),
     }
 }

@@ -4,9 +4,11 @@ ghost use Prim.Native.Nat.{_+_, _*_, _≤_, _<_};
 ghost use lib.ListN.{length};
 ghost use Rattle.search.specs.Law.{semiring};
 ghost use Rattle.search.specs.Place.{lines-at};
+ghost use Rattle.search.specs.Bound.{BindsLaw};
 ghost use Rattle.search.specs.Slots.{SLOT};
 ghost use Rattle.search.specs.Ordered.{Spotted, Keeps};
 ghost use Rattle.search.specs.Resulted.{tried-by, Adds, Resulted};
+ghost use Rattle.search.specs.declared.search.Binding.the-variants.{Bound};
 use crate::bounded_search;
 use crate::bounded_search::Origin;
 use crate::bounded_search::SLOT;
@@ -14,7 +16,8 @@ use crate::bounded_search::Step;
 use crate::line;
 use crate::line::Filled;
 use crate::search;
-use crate::search::Direction;
+use crate::search::Binding;
+use crate::search::Spans;
 use terms::term;
 use terms::term::Comparison;
 
@@ -62,23 +65,25 @@ fn keep(s: &[u32], step: Step, res: &mut [u32], order: &mut [u32], count: usize)
     end
 }
 
-// Tries a step: its result goes among the first `count`, which are in term order, if the buffer has room for it and it keeps the depth.
-fn try_line(
+// Keeps the line of a step whose law is bound: its result goes among the first `count`, which are in term order, if the buffer has
+// room for it and it keeps the depth.
+fn keep_line(
     step: Step,
     s: &[u32],
+    z: Spans,
     depth: usize,
     out: &mut [u32],
     res: &mut [u32],
     order: &mut [u32],
     count: usize,
 ) -> usize
-    requires { ⌜ (step .place < length (now s)) × (length (now out) ≤ 31) × (SLOT * count + SLOT ≤ length (now res)) × (count < length (now order)) × (count < 620) ⌝ }
+    requires { ⌜ (step .place < length (now s)) × BindsLaw (step .law) (step .direction) (now s) (step .place) (Bound z) × (length (now out) ≤ 31) × (SLOT * count + SLOT ≤ length (now res)) × (count < length (now order)) × (count < 620) ⌝ }
     ensures { λ r. ⌜ Adds (now (s .entry)) (length (now (out .entry))) depth (step .parent) (tried-by step) 1 (now (res .entry)) (now (order .entry)) count (now (res .exit)) (now (order .exit)) r ⌝ }
 {
     let law = step.law;
     let direction = step.direction;
     let at = step.place as usize;
-    let Filled::To(m) = line::law_line(law, direction, s, at, out) else {
+    let Filled::To(m) = line::put_line(law, direction, s, at, z, out) else {
         return count;
     };
     if depth < term::depth(&out[..m]) {
@@ -101,25 +106,24 @@ fn lines_at(
     requires { ⌜ (place < length (now s)) × (length (now out) ≤ 31) × (SLOT * (count + 20) ≤ length (now res)) × (count + 20 ≤ length (now order)) × (count ≤ 600) ⌝ }
     ensures { λ r. ⌜ Adds (now (s .entry)) (length (now (out .entry))) depth parent (λ t. lines-at semiring t place) 20 (now (res .entry)) (now (order .entry)) count (now (res .exit)) (now (order .exit)) r ⌝ }
 {
+    let at = place as usize;
     let mut kept = count;
     let mut n = 0;
-    while n < 10 {
-        let law = search::law_of(n);
-        let forward = Step {
-            law,
-            direction: Direction::Forward,
-            place,
-            parent,
-        };
-        let back = Step {
-            law,
-            direction: Direction::Back,
-            place,
-            parent,
-        };
-        kept = try_line(forward, s, depth, out, res, order, kept);
-        kept = try_line(back, s, depth, out, res, order, kept);
+    while n < 20 {
+        let law = search::law_of(n / 2);
+        let direction = search::direction_of(n % 2);
         n += 1;
+        let binding = line::bind_law(law, direction, s, at);
+        let Binding::Bound(z) = binding else {
+            continue;
+        };
+        let step = Step {
+            law,
+            direction,
+            place,
+            parent,
+        };
+        kept = keep_line(step, s, z, depth, out, res, order, kept);
     }
     kept
 }

@@ -67,7 +67,7 @@ module _ {A : Type 0} where
   gather-same f g ℕ.zero h = refl
   gather-same f g (suc n) h = rw (h 0 (omega arith), gather-same (λ i. f (suc i)) (λ i. g (suc i)) n (λ i p. h (suc i) (omega arith)))
 
-gather-map : {A B : Type 0} (h : A → B) (f : ℕ → List A) (n : ℕ) → map h (gather f n) ≡ gather (λ i. map h (f i)) n
+pub gather-map : {A B : Type 0} (h : A → B) (f : ℕ → List A) (n : ℕ) → map h (gather f n) ≡ gather (λ i. map h (f i)) n
 unfolding gather
 gather-map h f ℕ.zero = refl
 gather-map h f (suc n) = map-append h (f 0) (gather (λ i. f (suc i)) n) ∙ ap (λ k. map h (f 0) ++ k) (gather-map h (λ i. f (suc i)) n)

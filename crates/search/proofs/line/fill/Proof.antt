@@ -4,7 +4,7 @@ use native.Mathlib.Omega.{arith}
 use mathlib.Core.Path.{_≡_}
 use lib.ListN.{length, length-set}
 use Rattle.search.proofs.Spans.{old-within}
-use Rattle.search.proofs.Filling.{Filling, filling-starts, letter-missing, letter-long, letter-put, number-long, number-put, fill-ends}
+use Rattle.search.proofs.Filling.{Filling, filling-starts, letter-long, letter-put, number-long, number-put, fill-ends}
 use borrow.Author.Needs.{needs}
 use Rattle.search.proofs.line.fill.Statement.{statement}
 use Rattle.search.proofs.line.fill.Tie as tie
@@ -30,24 +30,18 @@ add-k c = search needs
 span-of-requires : tie.Need-span-of-requires Inv-loop μ-loop
 span-of-requires c κs = search needs
 
+sub-if2 : tie.Need-sub-if2 Inv-loop μ-loop
+sub-if2 c = search needs
+
 same-length : tie.Need-same-length Inv-loop μ-loop
 same-length c = search needs
 
 returns : tie.Need-returns Inv-loop μ-loop
-returns c = search (letter-missing, needs)
-
-sub-if3 : tie.Need-sub-if3 Inv-loop μ-loop
-sub-if3 c = search needs
-
-same-length-2 : tie.Need-same-length-2 Inv-loop μ-loop
-same-length-2 c = search needs
-
-returns-2 : tie.Need-returns-2 Inv-loop μ-loop
-returns-2 c = search (letter-long, old-within, needs)
+returns c = search (letter-long, old-within, needs)
 
 -- the part that a letter stands for lies in s
-part-within : (c : tie.After-append-arg Inv-loop μ-loop) → c .before .before .before .span-of .result .at + c .before .before .before .span-of .result .len ≤ length (c .before .before .before .before .before .before .before .before .before .before .before .args .s .now)
-part-within c = old-within _ (c .before .before .before .span-of .ensures) (c .before .before .before .before .before .before .before .before .before .before .before .pre .1)
+part-within : (c : tie.After-append-arg Inv-loop μ-loop) → c .before .before .span-of .result .at + c .before .before .span-of .result .len ≤ length (c .before .before .before .before .before .before .before .before .before .before .args .s .now)
+part-within c = old-within _ (c .before .before .span-of .ensures) (c .before .before .before .before .before .before .before .before .before .before .pre .1)
 
 add-append : tie.Need-add-append Inv-loop μ-loop
 add-append c = omega (arith, part-within c)
@@ -73,11 +67,11 @@ loop-less c = search needs
 loop-again : tie.Need-loop-again Inv-loop μ-loop
 loop-again c = (search needs, omega arith, omega arith, search needs, search (letter-put, needs))
 
-same-length-3 : tie.Need-same-length-3 Inv-loop μ-loop
-same-length-3 c = search needs
+same-length-2 : tie.Need-same-length-2 Inv-loop μ-loop
+same-length-2 c = search needs
 
-returns-3 : tie.Need-returns-3 Inv-loop μ-loop
-returns-3 c = search (number-long, needs)
+returns-2 : tie.Need-returns-2 Inv-loop μ-loop
+returns-2 c = search (number-long, needs)
 
 mul-out : tie.Need-mul-out Inv-loop μ-loop
 mul-out c = search needs
@@ -94,11 +88,11 @@ loop-less-2 c = search needs
 loop-again-2 : tie.Need-loop-again-2 Inv-loop μ-loop
 loop-again-2 c = (search needs, search needs, simp length-set (omega arith), simp length-set (search needs), search (number-put, needs))
 
-same-length-4 : tie.Need-same-length-4 Inv-loop μ-loop
-same-length-4 c = search needs
+same-length-3 : tie.Need-same-length-3 Inv-loop μ-loop
+same-length-3 c = search needs
 
-returns-4 : tie.Need-returns-4 Inv-loop μ-loop
-returns-4 c = search (fill-ends, needs)
+returns-3 : tie.Need-returns-3 Inv-loop μ-loop
+returns-3 c = search (fill-ends, needs)
 
 pub fill-spec : {M : Type 1} → statement M
 fill-spec =
@@ -111,11 +105,9 @@ fill-spec =
     shared-slice-read-x
     add-k
     span-of-requires
+    sub-if2
     same-length
     returns
-    sub-if3
-    same-length-2
-    returns-2
     add-append
     mul-append
     sub-append
@@ -124,12 +116,12 @@ fill-spec =
     append-requires
     loop-less
     loop-again
-    same-length-3
-    returns-3
+    same-length-2
+    returns-2
     mul-out
     slice-write-out
     add-m
     loop-less-2
     loop-again-2
-    same-length-4
-    returns-4)
+    same-length-3
+    returns-3)

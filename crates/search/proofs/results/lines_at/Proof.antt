@@ -1,51 +1,67 @@
--- `lines_at` meets its contract. The loop's invariant: the lines of the first `n` laws are tried.
-use Prim.Native.Nat.{_≤_, _-_, _*_}
+-- `lines_at` meets its contract. The loop's invariant: the lines of the first `n` steps are tried.
+use Prim.Native.Nat.{_≤_, _-_}
 use native.Mathlib.Omega.{arith}
 use mathlib.Core.Path.{_≡_, refl, _∙_}
 use lib.ListN.{length}
 use Rattle.search.specs.Resulted.{Adds}
-use Rattle.search.proofs.InTurn.{first-laws, laws-none, laws-more, laws-all}
+use Rattle.search.proofs.Trying.{law-bound}
+use Rattle.search.proofs.InTurn.{in-turn, turns-none, step-lines, step-kept, step-passed, steps-all}
 use borrow.Author.Needs.{needs}
 use Rattle.search.proofs.results.lines_at.Statement.{statement}
 use Rattle.search.proofs.results.lines_at.Tie as tie
 
 abbrev Inv-loop : tie.InvT-loop
-Inv-loop s place parent depth out₀ res₀ order₀ count kept₀ n₀ out res order kept n = (n ≤ 10) × (length out ≡ length out₀) × (length res ≡ length res₀) × (length order ≡ length order₀) × Adds s (length out₀) depth parent (first-laws place n) (2 * n) res₀ order₀ count res order kept
+Inv-loop s place parent depth out₀ res₀ order₀ count at kept₀ n₀ out res order kept n = (n ≤ 20) × (length out ≡ length out₀) × (length res ≡ length res₀) × (length order ≡ length order₀) × Adds s (length out₀) depth parent (in-turn (step-lines place parent) n) n res₀ order₀ count res order kept
 
 abbrev μ-loop : tie.MeasureT-loop
-μ-loop s place parent depth out₀ res₀ order₀ count kept₀ n₀ out res order kept n = 10 - n
+μ-loop s place parent depth out₀ res₀ order₀ count at kept₀ n₀ out res order kept n = 20 - n
 
 loop-holds : tie.Need-loop-holds Inv-loop μ-loop
-loop-holds c = let a = c .before .before .before .before .args in (omega arith, refl, refl, refl, laws-none (a .place))
+loop-holds c = let a = c .before .before .before .before .args in (omega arith, refl, refl, refl, turns-none (step-lines (a .place) (a .parent)))
 
 law-of-requires : tie.Need-law-of-requires Inv-loop μ-loop
 law-of-requires c κs = search needs
 
-try-line-requires : tie.Need-try-line-requires Inv-loop μ-loop
-try-line-requires c κs = search needs
-
-try-line-requires-2 : tie.Need-try-line-requires-2 Inv-loop μ-loop
-try-line-requires-2 c κs = search needs
+direction-of-requires : tie.Need-direction-of-requires Inv-loop μ-loop
+direction-of-requires c κs = search needs
 
 add-n : tie.Need-add-n Inv-loop μ-loop
 add-n c = search needs
+
+bind-law-requires : tie.Need-bind-law-requires Inv-loop μ-loop
+bind-law-requires c κs = search needs
+
+enum-known-binding : tie.Need-enum-known-binding Inv-loop μ-loop
+enum-known-binding c = search needs
+
+enum-told : tie.Need-enum-told Inv-loop μ-loop
+enum-told c = search needs
 
 loop-less : tie.Need-loop-less Inv-loop μ-loop
 loop-less c = search needs
 
 loop-again : tie.Need-loop-again Inv-loop μ-loop
-loop-again c =
-    let f = c .before .before .before .before .before .before .before .before .before .before .before .before .before .before .before .before .try-line in
-    let l = c .before .before .before .before .before .before .before .before .before .before .before .before .before .before .before .before .before .before .before .before .before .before in
-    let g = c .before .before .before .before .before .before .try-line2 in
-    let a = c .before .before .before .before .before .before .before .before .before .before .before .before .before .before .before .before .before .before .before .before .before .before .before .before .before .before .before .args in
-    let h = c .before .before .before .before .before .before .before .before .before .before .before .before .before .before .before .before .before .before .before .before .before .loop-test .taken in
-    let w = c .before .before .before .before .before .before .before .before .before .before .before .before .before .before .before .before .before .before .before .before .law-of in (
-      omega (arith, h),
-      g .kept .1 .1 .1 .0 ∙ f .kept .1 .1 .1 .0 ∙ l .loop .inv .1,
-      g .kept .1 .1 .1 .1 .0 ∙ f .kept .1 .1 .1 .1 .0 ∙ l .loop .inv .2,
-      g .kept .1 .1 .1 .1 .1 .0 ∙ f .kept .1 .1 .1 .1 .1 .0 ∙ l .loop .inv .3,
-      laws-more (a .place) (l .loop .n) (l .loop .inv .4) h (w .result) (w .ensures) (l .loop .inv .1) (f .kept .1 .1 .1 .0 ∙ l .loop .inv .1) (f .ensures) (g .ensures),
+loop-again c = search (step-passed, needs)
+
+keep-line-requires : tie.Need-keep-line-requires Inv-loop μ-loop
+keep-line-requires c κs =
+    let b = c .before .before .before .before .before .before .bind-law in
+    (search needs, law-bound _ _ _ _ _ _ (b .ensures) (c .before .before .before .before .binding .given .1), search needs, search needs, search needs, search needs)
+
+loop-less-2 : tie.Need-loop-less-2 Inv-loop μ-loop
+loop-less-2 c = search needs
+
+loop-again-2 : tie.Need-loop-again-2 Inv-loop μ-loop
+loop-again-2 c =
+    let f = c .before .before .before .before .before .before .keep-line in
+    let l = c .before .before .before .before .before .before .before .before .before .before .before .before .before .before .before .before .before .loop in
+    let w = c .before .before .before .before .before .before .before .before .before .before .before .before .before .before .before .law-of in
+    let d = c .before .before .before .before .before .before .before .before .before .before .before .before .before .before .direction-of in (
+      omega (arith, c .before .before .before .before .before .before .before .before .before .before .before .before .before .before .before .before .loop-test .taken),
+      f .kept .1 .1 .1 .1 .0 ∙ l .inv .1,
+      f .kept .1 .1 .1 .1 .1 .0 ∙ l .inv .2,
+      f .kept .1 .1 .1 .1 .1 .1 .0 ∙ l .inv .3,
+      step-kept (c .before .before .before .before .before .before .before .before .before .before .before .before .before .before .before .before .before .before .before .before .before .before .args .place) (l .n) (l .inv .4) (w .result) (d .result) (w .ensures) (d .ensures) (l .inv .1) (f .ensures),
     )
 
 same-length : tie.Need-same-length Inv-loop μ-loop
@@ -58,7 +74,7 @@ same-length-3 : tie.Need-same-length-3 Inv-loop μ-loop
 same-length-3 c = search needs
 
 returns : tie.Need-returns Inv-loop μ-loop
-returns c = let l = c .before .loop in laws-all (c .before .before .before .before .before .before .args .place) (l .n) (l .inv .4) (omega arith) (omega arith)
+returns c = let l = c .before .loop in steps-all (c .before .before .before .before .before .before .args .place) (l .n) (l .inv .4) (omega arith) (omega arith)
 
 pub lines-at-spec : {M : Type 1} → statement M
 lines-at-spec =
@@ -68,11 +84,16 @@ lines-at-spec =
     μ-loop
     loop-holds
     law-of-requires
-    try-line-requires
-    try-line-requires-2
+    direction-of-requires
     add-n
+    bind-law-requires
+    enum-known-binding
+    enum-told
     loop-less
     loop-again
+    keep-line-requires
+    loop-less-2
+    loop-again-2
     same-length
     same-length-2
     same-length-3

@@ -1,18 +1,18 @@
 -- `results_of` meets its contract. The loop's invariant: the lines at the first `i` places are tried.
-use Prim.Native.Nat.{_≤_, _-_, _*_}
+use Prim.Native.Nat.{_+_, _≤_, _-_, _*_}
 use native.Mathlib.Omega.{arith}
 use mathlib.Core.Path.{_≡_, refl, _∙_}
 use lib.ListN.{length, take, length-take}
 use lib.Seq.{length-take-le, length-front}
 use Rattle.terms.specs.Theory.Held.{size-of}
 use Rattle.search.specs.Resulted.{Adds}
-use Rattle.search.proofs.InTurn.{first-places, places-none, places-more, places-all, resulted-never}
+use Rattle.search.proofs.InTurn.{in-turn, turns-none, turns-more, place-lines, places-all, resulted-never}
 use borrow.Author.Needs.{needs}
 use Rattle.search.proofs.results.results_of.Statement.{statement}
 use Rattle.search.proofs.results.results_of.Tie as tie
 
 abbrev Inv-loop : tie.InvT-loop
-Inv-loop s parent size depth res₀ order₀ out₀ count₀ i₀ res order out count i = (i ≤ length s) × (length res ≡ length res₀) × (length order ≡ length order₀) × (length out ≡ 31) × Adds s size depth parent (first-places i) (20 * i) res₀ order₀ 0 res order count
+Inv-loop s parent size depth res₀ order₀ out₀ count₀ i₀ res order out count i = (i ≤ length s) × (length res ≡ length res₀) × (length order ≡ length order₀) × (length out ≡ 31) × Adds s size depth parent (in-turn place-lines i) (20 * i) res₀ order₀ 0 res order count
 
 abbrev μ-loop : tie.MeasureT-loop
 μ-loop s parent size depth res₀ order₀ out₀ count₀ i₀ res order out count i = length s - i
@@ -24,7 +24,7 @@ returns-2 : tie.Need-returns-2 Inv-loop μ-loop
 returns-2 c = let a = c .before .before .before .before .before .args in resulted-never (a .res .now) (a .order .now) (λ t h k q. omega arith)
 
 loop-holds : tie.Need-loop-holds Inv-loop μ-loop
-loop-holds c = (omega arith, refl, refl, refl, places-none)
+loop-holds c = (omega arith, refl, refl, refl, turns-none place-lines)
 
 cast-lines-at : tie.Need-cast-lines-at Inv-loop μ-loop
 cast-lines-at c = search needs
@@ -54,7 +54,7 @@ loop-again c =
       f .kept .1 .1 .1 .1 .1 .0 ∙ l .inv .1,
       f .kept .1 .1 .1 .1 .1 .1 .0 ∙ l .inv .2,
       length-front (l .out) (f .last .1 .1 .1 .1 .0) (a .size) (f .kept .1 .1 .1 .1 .0) ∙ l .inv .3,
-      places-more (l .i) (l .inv .4) e (f .ensures),
+      turns-more place-lines (l .i) (20 * (l .i + 1)) (l .inv .4) e (f .ensures) (omega arith),
     )
 
 same-length : tie.Need-same-length Inv-loop μ-loop

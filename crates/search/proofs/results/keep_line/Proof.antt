@@ -1,16 +1,16 @@
--- `try_line` meets its contract: there is no line, or its result is too deep, or it is kept.
+-- `keep_line` meets its contract: there is no line, or its result is too deep, or it is kept.
 use native.Mathlib.Omega.{arith}
 use lib.ListN.{length-take}
 use Rattle.search.proofs.Resulting.{tries-within, adds-nothing, adds-too-deep, adds-kept}
 use borrow.Author.Needs.{needs}
-use Rattle.search.proofs.results.try_line.Statement.{statement}
-use Rattle.search.proofs.results.try_line.Tie as tie
+use Rattle.search.proofs.results.keep_line.Statement.{statement}
+use Rattle.search.proofs.results.keep_line.Tie as tie
 
 cast-at : tie.Need-cast-at
 cast-at c = search needs
 
-law-line-requires : tie.Need-law-line-requires
-law-line-requires c κs = search needs
+put-line-requires : tie.Need-put-line-requires
+put-line-requires c κs = search needs
 
 enum-known-m : tie.Need-enum-known-m
 enum-known-m c = search needs
@@ -25,10 +25,10 @@ returns : tie.Need-returns
 returns c = search (adds-nothing, needs)
 
 slice-reshare-prefix-depth : tie.Need-slice-reshare-prefix-depth
-slice-reshare-prefix-depth c = omega (arith, tries-within (c .before .before .before .before .before .law-line .ensures) (c .before .m .given .1))
+slice-reshare-prefix-depth c = omega (arith, tries-within (c .before .before .before .before .before .put-line .ensures) (c .before .m .given .1))
 
 slice-aggregate-depth : tie.Need-slice-aggregate-depth
-slice-aggregate-depth c = simp length-take (omega (arith, tries-within (c .before .before .before .before .before .before .law-line .ensures) (c .before .before .m .given .1)))
+slice-aggregate-depth c = simp length-take (omega (arith, tries-within (c .before .before .before .before .before .before .put-line .ensures) (c .before .before .m .given .1)))
 
 depth-requires : tie.Need-depth-requires
 depth-requires c κs = search needs
@@ -40,13 +40,13 @@ returns-2 : tie.Need-returns-2
 returns-2 c = search (adds-too-deep, needs)
 
 slice-reshare-prefix-keep : tie.Need-slice-reshare-prefix-keep
-slice-reshare-prefix-keep c = omega (arith, tries-within (c .before .before .before .before .before .before .before .before .law-line .ensures) (c .before .before .before .before .m .given .1))
+slice-reshare-prefix-keep c = omega (arith, tries-within (c .before .before .before .before .before .before .before .before .put-line .ensures) (c .before .before .before .before .m .given .1))
 
 slice-aggregate-keep : tie.Need-slice-aggregate-keep
-slice-aggregate-keep c = simp length-take (omega (arith, tries-within (c .before .before .before .before .before .before .before .before .before .law-line .ensures) (c .before .before .before .before .before .m .given .1)))
+slice-aggregate-keep c = simp length-take (omega (arith, tries-within (c .before .before .before .before .before .before .before .before .before .put-line .ensures) (c .before .before .before .before .before .m .given .1)))
 
 keep-requires : tie.Need-keep-requires
-keep-requires c κs = simp length-take (omega (arith, tries-within (c .before .before .before .before .before .before .before .before .before .before .before .law-line .ensures) (c .before .before .before .before .before .before .before .m .given .1)))
+keep-requires c κs = simp length-take (omega (arith, tries-within (c .before .before .before .before .before .before .before .before .before .before .before .put-line .ensures) (c .before .before .before .before .before .before .before .m .given .1)))
 
 same-length-3 : tie.Need-same-length-3
 same-length-3 c = search needs
@@ -60,12 +60,12 @@ same-length-5 c = search needs
 returns-3 : tie.Need-returns-3
 returns-3 c = search (adds-kept, needs)
 
-pub try-line-spec : {M : Type 1} → statement M
-try-line-spec =
+pub keep-line-spec : {M : Type 1} → statement M
+keep-line-spec =
     tie.close
     (tie.spec
     cast-at
-    law-line-requires
+    put-line-requires
     enum-known-m
     enum-told
     same-length
