@@ -8,12 +8,13 @@ use mathlib.Core.Bool.{Bool, true, false}
 use mathlib.Core.Option.{Option, none, some}
 use mathlib.Core.List.{List, [], _∷_}
 use lib.Dec.{eqb, leb}
-use Rattle.terms.specs.Lists.{_∈_, here, there, not-in-nil, only-one, cons-cases, append-cases}
+use Rattle.terms.specs.Lists.{_∈_, here, there, not-in-nil, only-one, cons-cases}
 use Rattle.terms.specs.Term.{Term, letter, zero, one, add, mul}
 use Rattle.terms.specs.Letters.{letters}
-use Rattle.terms.specs.Theory.Reflects.{Reflects, leb-reflects}
-use Rattle.text.specs.Bytes.{read-number, pieces}
 use Rattle.terms.specs.Build.{Token, atom, plus, times, operate, push, next, build, single, read}
+use Rattle.terms.specs.Theory.Reflects.{Reflects, leb-reflects}
+use Rattle.search.specs.Theory.Binary.{Binary, add-binary, mul-binary}
+use Rattle.text.specs.Bytes.{read-number, pieces}
 use Rattle.text.specs.TermText.{letter-of, sign, token, read-term}
 use Rattle.text.specs.Theory.TermText.{Readable}
 
@@ -67,19 +68,14 @@ operate-readable f keeps (s ∷ []) h = tt
 operate-readable f keeps (s ∷ t ∷ ts) h =
     λ u i. ⊎-elim (λ e. rw e (keeps s t (h s (here refl)) (h t (there (here refl))))) (λ j. h u (there (there j))) (cons-cases i)
 
-add-readable : (s t : Term) → Readable s → Readable t → Readable (add s t)
-unfolding letters
-add-readable s t h k n i = ⊎-elim (h n) (k n) (append-cases (letters s) i)
-
-mul-readable : (s t : Term) → Readable s → Readable t → Readable (mul s t)
-unfolding letters
-mul-readable s t h k n i = ⊎-elim (h n) (k n) (append-cases (letters s) i)
+binary-readable : {f : Term → Term → Term} → Binary f → (s t : Term) → Readable s → Readable t → Readable (f s t)
+binary-readable F s t h k n i = ⊎-elim (h n) (k n) (F .letter n s t .0 i)
 
 push-readable : (k : Token) → Ok-token k → (ts : List Term) → All-readable ts → If-some All-readable (push k ts)
 unfolding push
 push-readable (atom t) ok ts h = λ u i. ⊎-elim (λ e. rw e ok) (h u) (cons-cases i)
-push-readable plus ok ts h = operate-readable add add-readable ts h
-push-readable times ok ts h = operate-readable mul mul-readable ts h
+push-readable plus ok ts h = operate-readable add (binary-readable add-binary) ts h
+push-readable times ok ts h = operate-readable mul (binary-readable mul-binary) ts h
 
 next-readable : (k : Option Token) → If-some Ok-token k → (o : Option (List Term)) → If-some All-readable o → If-some All-readable (next k o)
 unfolding next
