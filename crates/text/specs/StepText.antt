@@ -59,10 +59,13 @@ unfolding orElse _>>=_ after end
 which text [] bs = none
 which text (x ∷ xs) bs = orElse (_>>=_ (after (text x) bs) (end x)) (which text xs bs)
 
+abbrev pub names : List Law → List Name
+names ws = map (λ w. w .name) ws
+
 -- the law of the list whose name it is
 unfoldable pub read-law : List Law → List ℕ → Option Name
 unfolding which law-name
-read-law ws = which law-name (map (λ w. w .name) ws)
+read-law ws = which law-name (names ws)
 
 unfoldable pub read-direction : List ℕ → Option Direction
 unfolding which direction

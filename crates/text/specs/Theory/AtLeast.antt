@@ -1,0 +1,44 @@
+-- Texts with no byte below a bound: so told is what is not in them.
+use Prim.Native.Nat.{ℕ, _≤_, _<_}
+use native.Mathlib.Omega.{arith}
+use mathlib.Core.Path.{_≡_, refl}
+use mathlib.Core.Logic.{⊎-elim}
+use mathlib.Core.Bool.{Bool, true, _&&_}
+use mathlib.Core.List.{List, [], _∷_, _++_}
+use lib.Dec.{T, leb, leb→le}
+use Rattle.terms.specs.Lists.{_∈_, here, there, not-in-nil, cons-cases, append-cases}
+use Rattle.terms.specs.Theory.Reflects.{both}
+use Rattle.text.specs.Bytes.{parted}
+
+abbrev pub AtLeast : ℕ → List ℕ → Type 0
+AtLeast k p = (b : ℕ) → b ∈ p → k ≤ b
+
+pub higher : {j k : ℕ} {p : List ℕ} → j ≤ k → AtLeast k p → AtLeast j p
+higher le h b i = omega (arith, h b i)
+
+-- a lower byte is not in the text
+pub free : {c k : ℕ} {p : List ℕ} → c < k → AtLeast k p → c ∈ p → ⊥
+free {c} low h i = omega (arith, h c i)
+
+module _ (k : ℕ) where
+  -- the same by a test, for a text that is known
+  abbrev pub at-least : List ℕ → Bool
+  at-least [] = true
+  at-least (b ∷ p) = leb k b && at-least p
+
+  pub tested : (p : List ℕ) → T (at-least p) → AtLeast k p
+  tested [] t c i = absurd (not-in-nil i)
+  tested (b ∷ p) t c i =
+      let (first, rest) = both (leb k b) (at-least p) t in
+      let high = leb→le k b first in
+      ⊎-elim (λ e. omega arith) (tested p rest c) (cons-cases i)
+
+  pub append-least : (p : List ℕ) {q : List ℕ} → AtLeast k p → AtLeast k q → AtLeast k (p ++ q)
+  append-least p h g b i = ⊎-elim (h b) (g b) (append-cases p i)
+
+  pub parted-least : (s : ℕ) → k ≤ s → (ps : List (List ℕ)) → ((p : List ℕ) → p ∈ ps → AtLeast k p) → AtLeast k (parted s ps)
+  unfolding parted
+  parted-least s high [] h b i = absurd (not-in-nil i)
+  parted-least s high (p ∷ []) h b i = h p (here refl) b i
+  parted-least s high (p ∷ q ∷ qs) h b i =
+      ⊎-elim (h p (here refl) b) (λ j. ⊎-elim (λ e. omega arith) (parted-least s high (q ∷ qs) (λ r m. h r (there m)) b) (cons-cases j)) (append-cases p i)
