@@ -1,5 +1,6 @@
 -- Texts with no byte below a bound: so told is what is not in them.
 use Prim.Native.Nat.{ℕ, _≤_, _<_}
+use Prim.Native.Char.{code}
 use native.Mathlib.Omega.{arith}
 use mathlib.Core.Path.{_≡_, refl}
 use mathlib.Core.Logic.{⊎-elim}
@@ -12,6 +13,10 @@ use Rattle.text.specs.Bytes.{parted}
 
 abbrev pub AtLeast : ℕ → List ℕ → Type 0
 AtLeast k p = (b : ℕ) → b ∈ p → k ≤ b
+
+-- no byte 10 is in the text
+abbrev pub Printable : List ℕ → Type 0
+Printable = AtLeast (code " ")
 
 pub higher : {j k : ℕ} {p : List ℕ} → j ≤ k → AtLeast k p → AtLeast j p
 higher le h b i = omega (arith, h b i)
