@@ -26,6 +26,9 @@ pub free : {c k : ℕ} {p : List ℕ} → c < k → AtLeast k p → c ∈ p → 
 free {c} low h i = omega (arith, h c i)
 
 module _ (k : ℕ) where
+  pub cons-least : {b : ℕ} {p : List ℕ} → k ≤ b → AtLeast k p → AtLeast k (b ∷ p)
+  cons-least high h c i = ⊎-elim (λ e. omega arith) (h c) (cons-cases i)
+
   -- the same by a test, for a text that is known
   abbrev pub at-least : List ℕ → Bool
   at-least [] = true
@@ -35,8 +38,7 @@ module _ (k : ℕ) where
   tested [] t c i = absurd (not-in-nil i)
   tested (b ∷ p) t c i =
       let (first, rest) = both (leb k b) (at-least p) t in
-      let high = leb→le k b first in
-      ⊎-elim (λ e. omega arith) (tested p rest c) (cons-cases i)
+      cons-least (leb→le k b first) (tested p rest) c i
 
   pub append-least : (p : List ℕ) {q : List ℕ} → AtLeast k p → AtLeast k q → AtLeast k (p ++ q)
   append-least p h g b i = ⊎-elim (h b) (g b) (append-cases p i)
@@ -46,4 +48,4 @@ module _ (k : ℕ) where
   parted-least s high [] h b i = absurd (not-in-nil i)
   parted-least s high (p ∷ []) h b i = h p (here refl) b i
   parted-least s high (p ∷ q ∷ qs) h b i =
-      ⊎-elim (h p (here refl) b) (λ j. ⊎-elim (λ e. omega arith) (parted-least s high (q ∷ qs) (λ r m. h r (there m)) b) (cons-cases j)) (append-cases p i)
+      append-least p (h p (here refl)) (cons-least high (parted-least s high (q ∷ qs) (λ r m. h r (there m)))) b i

@@ -18,9 +18,9 @@ use Rattle.search.specs.Line.{Line, Direction, forward, back, Side, l, r}
 use Rattle.text.specs.Bytes.{ascii, after, parted, pieces}
 use Rattle.text.specs.TermText.{items, write-term, token}
 use Rattle.text.specs.StepText.{law-name, direction, sides, place, step-value, which, names, read-law, read-direction, read-sides, read-place, read-pieces, read-step}
-use Rattle.text.specs.Theory.AtLeast.{AtLeast, at-least, tested, free, append-least}
+use Rattle.text.specs.Theory.AtLeast.{AtLeast, Printable, at-least, tested, higher, free, cons-least, append-least}
 use Rattle.text.specs.Theory.Pieces.{pieces-behind, pieces-more}
-use Rattle.text.specs.Theory.TermText.{Readable, written, items-first, pieces-items}
+use Rattle.text.specs.Theory.TermText.{Readable, written, items-first, pieces-items, write-term-least}
 
 -- what holds of every item of a list, by evaluation of all of it
 listed : {A B : Type 0} (f g : A → B) (xs : List A) → map f xs ≡ map g xs → (x : A) → x ∈ xs → f x ≡ g x
@@ -79,6 +79,16 @@ module _ (ws : List Law) (told : Told ws) (x : Line) (named : x .law ∈ names w
   at-least-place : AtLeast (code "*") (ascii "at=" ++ place (x .place))
   unfolding ascii
   at-least-place = append-least _ (ascii "at=") (tested _ _ tt) (place-least (x .place))
+
+  pub step-value-printable : Printable (step-value x)
+  unfolding step-value parted
+  step-value-printable =
+      append-least _ (law-name (x .law)) (higher (omega arith) name-least)
+      (cons-least _ (omega arith)
+      (append-least _ (direction (x .direction)) (higher (omega arith) (direction-least (x .direction)))
+      (cons-least _ (omega arith)
+      (append-least _ (ascii "at=" ++ place (x .place)) (higher (omega arith) at-least-place)
+      (cons-least _ (omega arith) (append-least _ (ascii "to=") (tested _ _ tt) (write-term-least (x .result))))))))
 
   value-pieces : (p : List ℕ) (ps : List (List ℕ)) → items (x .result) ≡ p ∷ ps
       → pieces (code " ") (step-value x) ≡ law-name (x .law) ∷ direction (x .direction) ∷ (ascii "at=" ++ place (x .place)) ∷ (ascii "to=" ++ p) ∷ ps
