@@ -1,5 +1,5 @@
 -- Texts with no byte below a bound: so told is what is not in them.
-use Prim.Native.Nat.{ℕ, _≤_, _<_}
+use Prim.Native.Nat.{ℕ, suc, _≤_, _<_}
 use Prim.Native.Char.{code}
 use native.Mathlib.Omega.{arith}
 use mathlib.Core.Path.{_≡_, refl}
@@ -7,7 +7,7 @@ use mathlib.Core.Logic.{⊎-elim}
 use mathlib.Core.Bool.{Bool, true, _&&_}
 use mathlib.Core.List.{List, [], _∷_, _++_}
 use lib.Dec.{T, leb, leb→le}
-use Rattle.terms.specs.Lists.{_∈_, here, there, not-in-nil, cons-cases, append-cases}
+use Rattle.terms.specs.Lists.{_∈_, here, there, not-in-nil, cons-cases, append-cases, Distinct, none, more}
 use Rattle.terms.specs.Theory.Reflects.{both}
 use Rattle.text.specs.Bytes.{parted}
 
@@ -49,3 +49,13 @@ module _ (k : ℕ) where
   parted-least s high (p ∷ []) h b i = h p (here refl) b i
   parted-least s high (p ∷ q ∷ qs) h b i =
       append-least p (h p (here refl)) (cons-least high (parted-least s high (q ∷ qs) (λ r m. h r (there m)))) b i
+
+-- each number is below those behind it
+abbrev pub rises : List ℕ → Bool
+rises [] = true
+rises (n ∷ ns) = at-least (suc n) ns && rises ns
+
+pub rises-distinct : (ns : List ℕ) → T (rises ns) → Distinct ns
+rises-distinct [] t = none
+rises-distinct (n ∷ ns) t =
+    let (first, rest) = both (at-least (suc n) ns) (rises ns) t in more {x = n} (free {c = n} (omega arith) (tested (suc n) ns first)) (rises-distinct ns rest)
