@@ -2,7 +2,7 @@
 use Prim.Native.Nat.{ℕ, suc, _≤_, _<_}
 use Prim.Native.Char.{code}
 use native.Mathlib.Omega.{arith}
-use mathlib.Core.Path.{_≡_, refl}
+use mathlib.Core.Path.{refl}
 use mathlib.Core.Logic.{⊎-elim}
 use mathlib.Core.Bool.{Bool, true, _&&_}
 use mathlib.Core.List.{List, [], _∷_, _++_}

@@ -1,7 +1,7 @@
 -- The proof text of a line has no empty part: its law is called, and each node around its place is a sum or a product.
 use Prim.Native.Nat.{ℕ}
-use mathlib.Core.Path.{_≡_, refl, sym, ap, subst as transport}
-use mathlib.Core.Logic.{_↔_, _⊎_, inl, inr, ⊎-elim}
+use mathlib.Core.Path.{_≡_, refl, sym, ap}
+use mathlib.Core.Logic.{_⊎_, inl, inr, ⊎-elim}
 use mathlib.Core.Bool.{Bool, true, false}
 use mathlib.Core.Option.{Option, none, some, Option·none-ne-some, map-eq-some-iff}
 use mathlib.Core.List.{List, [], _∷_, map}
@@ -13,6 +13,7 @@ use Rattle.terms.specs.Theory.Reflects.{Reflects, eqb-reflects}
 use Rattle.search.specs.Law.{Law, rank, semiring}
 use Rattle.search.specs.Match.{Bindings, unbound, match}
 use Rattle.search.specs.Line.{Line, Direction, forward, back, Side, l, r, from, to}
+use Rattle.search.specs.Directly.{match-sides}
 use Rattle.search.specs.Path.{subterm, replace, IsLine}
 use Rattle.search.specs.Theory.Bindings.{Agrees, Bound, nothing-agrees}
 use Rattle.search.specs.Theory.Match.{Matching, Matched, match-matched}
@@ -43,9 +44,9 @@ module _ (names : List ℕ) where
     abbrev t : Term
     t = subst σ (w .right)
 
-    -- the law's call, as `applied` makes it where the law stands first
+    -- the law's call, as `applied` makes it
     abbrev called : Option Bindings → List ℕ
-    called o = elim o [ none ↦ [] | some v ↦ call (law-name (w .name)) (bound names (0 ∷ 1 ∷ 2 ∷ []) v) ]
+    called o = elim o [ none ↦ [] | some u ↦ call (law-name (w .name)) (bound names (0 ∷ 1 ∷ 2 ∷ []) u) ]
 
     right-called : (u : Bindings) → Matching (w .left) s unbound u → (o : Option Bindings) → Matched (w .right) t u o → Called w σ (called o)
     right-called u h none k = absurd (k σ (h .agrees σ .1 (nothing-agrees σ, refl)) refl)
@@ -57,9 +58,13 @@ module _ (names : List ℕ) where
           text = refl;
         }
 
-    left-called : (o : Option Bindings) → Matched (w .left) s unbound o → Called w σ (elim o [ none ↦ [] | some u ↦ called (match (w .right) t u) ])
-    left-called none h = absurd (h σ (nothing-agrees σ) refl)
-    left-called (some u) h = right-called u h (match (w .right) t u) (match-matched (w .right) t u)
+    sides-called : Called w σ (called (match-sides w s t))
+    unfolding match-sides
+    sides-called = go (match (w .left) s unbound) (match-matched (w .left) s unbound)
+      where
+        go : (o : Option Bindings) → Matched (w .left) s unbound o → Called w σ (called (elim o [ none ↦ none | some u ↦ match (w .right) t u ]))
+        go none h = absurd (h σ (nothing-agrees σ) refl)
+        go (some u) h = right-called u h (match (w .right) t u) (match-matched (w .right) t u)
 
     pub applied-called : (ws : List Law) → Apart ws → w ∈ ws → Called w σ (applied names ws (w .name) s t)
     unfolding applied
@@ -68,10 +73,8 @@ module _ (names : List ℕ) where
         go (eqb (rank (v .name)) (rank (w .name))) (eqb-reflects (rank (v .name)) (rank (w .name))) (cons-cases i) (applied-called ws apart)
       where
         go : (b : Bool) → Reflects (rank (v .name) ≡ rank (w .name)) b → (w ≡ v) ⊎ w ∈ ws → (w ∈ ws → Called w σ (applied names ws (w .name) s t))
-            → Called w σ (elim b [ false ↦ applied names ws (w .name) s t | true ↦ elim (match (v .left) s unbound) [ none ↦ [] | some u ↦ called (match (v .right) t u) ] ])
-        go true h (inl e) rest =
-            transport (λ y. Called w σ (elim (match (y .left) s unbound) [ none ↦ [] | some u ↦ called (match (y .right) t u) ])) e
-            (left-called (match (w .left) s unbound) (match-matched (w .left) s unbound))
+            → Called w σ (elim b [ false ↦ applied names ws (w .name) s t | true ↦ called (match-sides v s t) ])
+        go true h (inl e) rest = rw (← e) sides-called
         go true h (inr m) rest = absurd (new (rw h (in-map (λ w. rank (w .name)) m)))
         go false h (inl e) rest = absurd (h (ap (λ w. rank (w .name)) (sym e)))
         go false h (inr m) rest = rest m
@@ -118,12 +121,12 @@ module _ (names : List ℕ) (ws : List Law) (apart : Apart ws) (s : Term) (x : L
   pub line-inside : Inside (x .place) s
   line-inside = subterm-inside (x .place) s _ (h .replaced) .0
 
-  sides-called : (d : Direction) → Called names (h .law) (h .terms)
+  law-called : (d : Direction) → Called names (h .law) (h .terms)
       (in-order d (subst (h .terms) (from d (h .law))) (subst (h .terms) (to d (h .law))) (applied names ws (h .law .name)))
   unfolding from to
-  sides-called forward = applied-called names (h .law) (h .terms) ws apart (h .listed)
-  sides-called back = applied-called names (h .law) (h .terms) ws apart (h .listed)
+  law-called forward = applied-called names (h .law) (h .terms) ws apart (h .listed)
+  law-called back = applied-called names (h .law) (h .terms) ws apart (h .listed)
 
   pub line-called : Called names (h .law) (h .terms) (in-order (x .direction) (parts (x .place) s) (parts (x .place) (x .result)) (applied names ws (x .law)))
   line-called =
-      rw (subterm-inside (x .place) s _ (h .replaced) .1, replace-part (x .place) s _ (x .result) (h .replacement), ← h .named) (sides-called (x .direction))
+      rw (subterm-inside (x .place) s _ (h .replaced) .1, replace-part (x .place) s _ (x .result) (h .replacement), ← h .named) (law-called (x .direction))

@@ -11,9 +11,10 @@ use Rattle.terms.specs.Lists.{_∈_, here, there}
 use Rattle.terms.specs.Term.{Term, letter, zero, one, add, mul}
 use Rattle.terms.specs.Letters.{letters, rising}
 use Rattle.search.specs.Law.{Law, Name, rank}
-use Rattle.search.specs.Match.{match, unbound, Bindings}
+use Rattle.search.specs.Match.{Bindings}
 use Rattle.search.specs.Line.{Line, Direction, forward, back, Side, l, r}
-use Rattle.text.specs.Bytes.{ascii, number}
+use Rattle.search.specs.Directly.{match-sides}
+use Rattle.text.specs.Bytes.{ascii}
 use Rattle.text.specs.StepText.{law-name}
 use Rattle.text.specs.Proof.{ref, app, lam, call, hole, index-of, variable, part, term, bound, applied, context, at-place, one-line, joined, chain, binders, proof}
 use Rattle.text.specs.Theory.AtLeast.{Printable, at-least, tested, higher, append-least}
@@ -94,20 +95,13 @@ module _ (names : List ℕ) where
     applied-printable : (ws : List Law) (s t : Term) → Printable (applied names ws n s t)
     unfolding applied
     applied-printable [] s t = tested _ _ tt
-    applied-printable (w ∷ ws) s t = go (eqb (rank (w .name)) (rank n)) (applied-printable ws s t)
+    applied-printable (w ∷ ws) s t = go (eqb (rank (w .name)) (rank n)) (match-sides w s t) (applied-printable ws s t)
       where
-        right : (o : Option Bindings) → Printable (elim o [ none ↦ [] | some v ↦ call (law-name n) (bound names (0 ∷ 1 ∷ 2 ∷ []) v) ])
-        right none = tested _ _ tt
-        right (some v) = call-printable (law-name n) h (bound-printable (0 ∷ 1 ∷ 2 ∷ []) v)
-
-        left : (o : Option Bindings)
-            → Printable (elim o [ none ↦ [] | some u ↦ elim (match (w .right) t u) [ none ↦ [] | some v ↦ call (law-name n) (bound names (0 ∷ 1 ∷ 2 ∷ []) v) ] ])
-        left none = tested _ _ tt
-        left (some u) = right (match (w .right) t u)
-
-        go : (b : Bool) → Printable (applied names ws n s t) → Printable (elim b [ false ↦ applied names ws n s t | true ↦ elim (match (w .left) s unbound) [ none ↦ [] | some u ↦ elim (match (w .right) t u) [ none ↦ [] | some v ↦ call (law-name n) (bound names (0 ∷ 1 ∷ 2 ∷ []) v) ] ] ])
-        go false k = k
-        go true k = left (match (w .left) s unbound)
+        go : (b : Bool) (o : Option Bindings) → Printable (applied names ws n s t)
+            → Printable (elim b [ false ↦ applied names ws n s t | true ↦ elim o [ none ↦ [] | some u ↦ call (law-name n) (bound names (0 ∷ 1 ∷ 2 ∷ []) u) ] ])
+        go false o k = k
+        go true none k = tested _ _ tt
+        go true (some u) k = call-printable (law-name n) h (bound-printable (0 ∷ 1 ∷ 2 ∷ []) u)
 
     at-place-printable : (ws : List Law) (d : Direction) (s t : Term) → Printable (at-place names ws d n s t)
     unfolding at-place

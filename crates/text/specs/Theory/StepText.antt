@@ -4,18 +4,15 @@ use Prim.Native.Char.{code}
 use native.Mathlib.Omega.{arith}
 use mathlib.Core.Path.{_≡_, refl, sym, _∙_, ap}
 use mathlib.Core.Logic.{⊎-elim}
-use mathlib.Core.Bool.{Bool, true, false}
-use mathlib.Core.Option.{none, some, bind}
+use mathlib.Core.Bool.{true}
+use mathlib.Core.Option.{some, bind}
 use mathlib.Core.List.{List, [], _∷_, _++_, map}
-use lib.Dec.{T, eqb}
-use Rattle.terms.specs.Lists.{_∈_, here, there, not-in-nil, cons-cases}
-use Rattle.terms.specs.Term.{Term}
+use Rattle.terms.specs.Lists.{_∈_, not-in-nil, cons-cases}
 use Rattle.terms.specs.Build.{read}
-use Rattle.terms.specs.Theory.Reflects.{Reflects, eqb-reflects}
 use Rattle.terms.specs.Theory.Build.{read-written}
 use Rattle.search.specs.Law.{Law, Name, semiring}
 use Rattle.search.specs.Line.{Line, Direction, forward, back, Side, l, r}
-use Rattle.text.specs.Bytes.{ascii, after, parted, pieces}
+use Rattle.text.specs.Bytes.{ascii, parted, pieces}
 use Rattle.text.specs.TermText.{items, write-term, token}
 use Rattle.text.specs.StepText.{law-name, direction, sides, place, step-value, which, names, read-law, read-direction, read-sides, read-place, read-pieces, read-step}
 use Rattle.text.specs.Theory.AtLeast.{AtLeast, Printable, at-least, tested, higher, free, cons-least, append-least}
