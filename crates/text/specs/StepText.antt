@@ -109,7 +109,12 @@ unfoldable pub read-step : List Law → List ℕ → Option Line
 unfolding pieces read-pieces
 read-step ws bs = read-pieces ws (pieces (code " ") bs)
 
+-- what stands behind `step=` in the lines of a text that have that key, in order
+unfoldable pub step-values : List ℕ → List (List ℕ)
+unfolding filterMap ascii after pieces
+step-values t = filterMap (after (ascii "step=")) (pieces 10 t)
+
 -- what the `step=` lines of a text tell, in order
 unfoldable pub read-steps : List Law → List ℕ → List (Option Line)
-unfolding filterMap ascii after pieces read-step
-read-steps ws t = map (read-step ws) (filterMap (after (ascii "step=")) (pieces 10 t))
+unfolding step-values read-step
+read-steps ws t = map (read-step ws) (step-values t)

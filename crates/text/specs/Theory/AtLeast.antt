@@ -1,4 +1,4 @@
--- Texts with no byte below a bound: so told is what is not in them.
+-- Texts with no byte below a bound, and so without the bytes below it.
 use Prim.Native.Nat.{ℕ, suc, _≤_, _<_}
 use Prim.Native.Char.{code}
 use native.Mathlib.Omega.{arith}
@@ -14,7 +14,7 @@ use Rattle.text.specs.Bytes.{parted}
 abbrev pub AtLeast : ℕ → List ℕ → Type 0
 AtLeast k p = (b : ℕ) → b ∈ p → k ≤ b
 
--- no byte 10 is in the text
+-- no byte is below a space, so that there is no byte 10
 abbrev pub Printable : List ℕ → Type 0
 Printable = AtLeast (code " ")
 

@@ -79,7 +79,7 @@ module _ (names : List ℕ) where
         go false h (inl e) rest = absurd (h (ap (λ w. rank (w .name)) (sym e)))
         go false h (inr m) rest = rest m
 
--- the part at a place, where the text of a line calls its law
+-- the part at a place: what `one-line` comes to there
 pub parts : List Side → Term → Term
 parts [] t = t
 parts (d ∷ p) t = parts p (part d t)

@@ -16,11 +16,12 @@ use Rattle.search.specs.Line.{Line, Direction, forward, back, Side, l, r}
 use Rattle.search.specs.Directly.{match-sides}
 use Rattle.text.specs.Bytes.{ascii}
 use Rattle.text.specs.StepText.{law-name}
-use Rattle.text.specs.Proof.{ref, app, lam, call, hole, index-of, variable, part, term, bound, applied, context, at-place, one-line, joined, chain, binders, proof}
+use Rattle.text.specs.Proof.{ref, app, lam, call, hole, index-of, variable, part, term, bound, applied, context}
+use Rattle.text.specs.Proof.{at-place, one-line, joined, chain, binders, proof}
 use Rattle.text.specs.Theory.AtLeast.{Printable, at-least, tested, higher, append-least}
 use Rattle.text.specs.Theory.Numbers.{number-least}
 
--- each of the texts is so
+-- each of the texts is printable
 data Each : List (List ℕ) → Type 0 where
   empty : Each []
   more : {p : List ℕ} {ps : List (List ℕ)} → Printable p → Each ps → Each (p ∷ ps)
@@ -50,7 +51,7 @@ call-printable : (p : List ℕ) {ps : List (List ℕ)} → Printable p → Each 
 unfolding call
 call-printable p h each = apps-printable each (ref p) (ref-printable p h)
 
--- a known name applied
+-- a name that is known, applied
 known-printable : (p : List ℕ) {ps : List (List ℕ)} → T (at-least (code " ") p) → Each ps → Printable (call p ps)
 known-printable p t each = call-printable p (tested _ p t) each
 
@@ -90,7 +91,7 @@ module _ (names : List ℕ) where
   context-printable l (mul s u) = known-printable (ascii "mul") tt (more hole-printable (more (term-printable u) empty))
   context-printable r (mul u s) = known-printable (ascii "mul") tt (more (term-printable u) (more hole-printable empty))
 
-  -- what a law is called by is printed as it is
+  -- the name of the law that is used is printable
   module _ (n : Name) (h : Printable (law-name n)) where
     applied-printable : (ws : List Law) (s t : Term) → Printable (applied names ws n s t)
     unfolding applied
@@ -128,7 +129,9 @@ module _ (names : List ℕ) where
     joined-printable s m p [] h named = h
     joined-printable s m p (x ∷ xs) h named =
         let q = line-printable m x (named x (here refl)) in
-        joined-printable s (x .result) _ xs (known-printable (ascii "eq_trans") tt (more (term-printable s) (more (term-printable m) (more (term-printable (x .result)) (more h (more q empty)))))) (λ y i. named y (there i))
+        joined-printable s (x .result) _ xs
+        (known-printable (ascii "eq_trans") tt (more (term-printable s) (more (term-printable m) (more (term-printable (x .result)) (more h (more q empty))))))
+        (λ y i. named y (there i))
 
     chain-printable : (s : Term) (xs : List Line) → ((x : Line) → x ∈ xs → Printable (law-name (x .law))) → Printable (chain names ws s xs)
     unfolding chain

@@ -12,7 +12,8 @@ use Rattle.search.specs.Law.{Law, Name}
 use Rattle.search.specs.Line.{Line, Direction, forward, back, Side, l, r}
 use Rattle.text.specs.Bytes.{ascii, after, end, parted, pieces}
 use Rattle.text.specs.TermText.{items, write-term, token}
-use Rattle.text.specs.StepText.{law-name, direction, sides, place, step-value, which, names, read-law, read-direction, read-side, read-sides, read-place, read-pieces, read-step}
+use Rattle.text.specs.StepText.{law-name, direction, sides, place, step-value, which, names}
+use Rattle.text.specs.StepText.{read-law, read-direction, read-side, read-sides, read-place, read-pieces, read-step}
 use Rattle.text.specs.Theory.Pieces.{parted-behind, parted-pieces}
 use Rattle.text.specs.Theory.Readable.{read-spells}
 
@@ -22,7 +23,8 @@ after-only [] bs e = cc
 after-only (b ∷ k) [] e = absurd (Option·none-ne-some _ e)
 after-only (b ∷ k) (c ∷ bs) {v} e = go (eqb b c) (eqb-reflects b c) e (λ h. after-only k bs h)
   where
-    go : (t : Bool) → Reflects (b ≡ c) t → elim t [ true ↦ after k bs | false ↦ none ] ≡ some v → (after k bs ≡ some v → bs ≡ k ++ v) → c ∷ bs ≡ b ∷ (k ++ v)
+    go : (t : Bool) → Reflects (b ≡ c) t → elim t [ true ↦ after k bs | false ↦ none ] ≡ some v
+        → (after k bs ≡ some v → bs ≡ k ++ v) → c ∷ bs ≡ b ∷ (k ++ v)
     go true h e rest = let q = rest e in cc
     go false h e rest = absurd (Option·none-ne-some _ e)
 

@@ -14,7 +14,8 @@ use Rattle.search.specs.Law.{Law, Name, semiring}
 use Rattle.search.specs.Line.{Line, Direction, forward, back, Side, l, r}
 use Rattle.text.specs.Bytes.{ascii, parted, pieces}
 use Rattle.text.specs.TermText.{items, write-term, token}
-use Rattle.text.specs.StepText.{law-name, direction, sides, place, step-value, which, names, read-law, read-direction, read-sides, read-place, read-pieces, read-step}
+use Rattle.text.specs.StepText.{law-name, direction, sides, place, step-value, which, names}
+use Rattle.text.specs.StepText.{read-law, read-direction, read-sides, read-place, read-pieces, read-step}
 use Rattle.text.specs.Theory.AtLeast.{AtLeast, Printable, at-least, tested, higher, free, cons-least, append-least}
 use Rattle.text.specs.Theory.Pieces.{pieces-behind, pieces-more}
 use Rattle.text.specs.Theory.TermText.{Readable, written, items-first, pieces-items, write-term-least}
@@ -69,9 +70,12 @@ unfolding place
 place-least [] = tested _ _ tt
 place-least (d ∷ p) = sides-least (d ∷ p)
 
+pub name-least : (ws : List Law) → Told ws → (n : Name) → n ∈ names ws → AtLeast (code "*") (law-name n)
+name-least ws told n i = tested _ _ (rw (told .plain n i) tt)
+
 module _ (ws : List Law) (told : Told ws) (x : Line) (named : x .law ∈ names ws) where
-  name-least : AtLeast (code "*") (law-name (x .law))
-  name-least = tested _ _ (rw (told .plain (x .law) named) tt)
+  law-least : AtLeast (code "*") (law-name (x .law))
+  law-least = name-least ws told (x .law) named
 
   at-least-place : AtLeast (code "*") (ascii "at=" ++ place (x .place))
   unfolding ascii
@@ -80,7 +84,7 @@ module _ (ws : List Law) (told : Told ws) (x : Line) (named : x .law ∈ names w
   pub step-value-printable : Printable (step-value x)
   unfolding step-value parted
   step-value-printable =
-      append-least _ (law-name (x .law)) (higher (omega arith) name-least)
+      append-least _ (law-name (x .law)) (higher (omega arith) law-least)
       (cons-least _ (omega arith)
       (append-least _ (direction (x .direction)) (higher (omega arith) (direction-least (x .direction)))
       (cons-least _ (omega arith)
@@ -91,13 +95,14 @@ module _ (ws : List Law) (told : Told ws) (x : Line) (named : x .law ∈ names w
       → pieces (code " ") (step-value x) ≡ law-name (x .law) ∷ direction (x .direction) ∷ (ascii "at=" ++ place (x .place)) ∷ (ascii "to=" ++ p) ∷ ps
   unfolding step-value parted
   value-pieces p ps e =
-      pieces-more (code " ") (law-name (x .law)) _ (free (omega arith) name-least)
+      pieces-more (code " ") (law-name (x .law)) _ (free (omega arith) law-least)
       ∙ ap (λ qs. law-name (x .law) ∷ qs)
       (pieces-more (code " ") (direction (x .direction)) _ (free (omega arith) (direction-least (x .direction)))
       ∙ ap (λ qs. direction (x .direction) ∷ qs)
       (pieces-more (code " ") (ascii "at=" ++ place (x .place)) _ (free (omega arith) at-least-place)
       ∙ ap (λ qs. (ascii "at=" ++ place (x .place)) ∷ qs)
-      (pieces-behind (code " ") (ascii "to=") (write-term (x .result)) p ps (free (omega arith) (tested (code "*") _ tt)) (pieces-items (x .result) ∙ e))))
+      (pieces-behind (code " ") (ascii "to=") (write-term (x .result)) p ps (free (omega arith) (tested (code "*") _ tt))
+      (pieces-items (x .result) ∙ e))))
 
   pub read-step-value : Readable (x .result) → read-step ws (step-value x) ≡ some x
   unfolding read-step read-pieces bind
