@@ -24,44 +24,46 @@ use Rattle.search.proofs.Slots.{noted-before, noted-last}
 use Rattle.search.proofs.Sorting.{line-at, ordered-length, ordered-at}
 use Rattle.search.proofs.Running.{note-known, note-right, note-new, note-new-grows, after, after-grows, run-limit, run-end, run-far, run-opens}
 
--- o is the outcome of the search to t from where it is: `count` terms are noted, and the i-th is next to open
-pub record Stands (o : search.Outcome) (m : Limits) (t : Term) (ws : List ℕ) (count i : ℕ) : Type 0 where
+-- o is the outcome of the search from s to t from where it is: `count` terms are noted, and the i-th is next to open
+pub record Stands (o : search.Outcome) (m : Limits) (s t : Term) (ws : List ℕ) (count i : ℕ) : Type 0 where
   pub ns : List Noted
   pub slots : Slots ws ns
   pub counted : length ns ≡ count
+  pub start : noted-at ns 0 .term ≡ s
   pub is : o ≡ run (results semiring (limits-of m)) (m .steps) t (m .nodes - i) i ns
 
 abbrev following : Limits → Term → ℕ → search.Turn → search.Outcome
 following m t i = after (results semiring (limits-of m)) (m .steps) t (m .nodes - (i + 1)) (i + 1)
 
 -- o is that outcome where the i-th term, at distance d, is open, with n results in res, of which the j-th is next to take
-pub record Midway (o : search.Outcome) (m : Limits) (t : Term) (ws : List ℕ) (count i d : ℕ) (res order : List ℕ) (n j : ℕ) : Type 0 where
+pub record Midway (o : search.Outcome) (m : Limits) (s t : Term) (ws : List ℕ) (count i d : ℕ) (res order : List ℕ) (n j : ℕ) : Type 0 where
   pub ns : List Noted
   pub slots : Slots ws ns
   pub counted : length ns ≡ count
+  pub start : noted-at ns 0 .term ≡ s
   pub distance : d ≡ length (noted-at ns i .trail)
   pub lines : List Line
   pub ordered : Ordered (noted-at ns i .term) i res n (take n order) lines
   pub is : o ≡ following m t i (note t (noted-at ns i .trail) (drop j lines) ns)
 
 -- what holds of every search that starts with what a workspace has, ws₀
-abbrev pub Always : List ℕ → Limits → List ℕ → (search.Outcome → Term → Type 0) → Type 0
-Always right m ws₀ P = (s t : Term) → Slots ws₀ (record { term = s; trail = [] } ∷ []) → IsRun right t → m .size ≤ 31 → P (begun (limits-of m) s t) t
+abbrev pub Always : List ℕ → Limits → List ℕ → (search.Outcome → Term → Term → Type 0) → Type 0
+Always right m ws₀ P = (s t : Term) → Slots ws₀ (record { term = s; trail = [] } ∷ []) → IsRun right t → m .size ≤ 31 → P (begun (limits-of m) s t) s t
 
 -- the loops' invariants, of which the second tells how the results were taken since the term was opened
 
 abbrev pub Standing : List ℕ → Limits → List ℕ → List ℕ → ℕ → ℕ → Type 0
-Standing right m ws₀ ws count i = Always right m ws₀ (λ o t. Stands o m t ws count i)
+Standing right m ws₀ ws count i = Always right m ws₀ (λ o s t. Stands o m s t ws count i)
 
 abbrev pub Opened : List ℕ → Limits → List ℕ → List ℕ → ℕ → ℕ → ℕ → List ℕ → List ℕ → ℕ → Type 0
-Opened right m ws₀ ws count i d res order n = Always right m ws₀ (λ o t. Midway o m t ws count i d res order n 0)
+Opened right m ws₀ ws count i d res order n = Always right m ws₀ (λ o s t. Midway o m s t ws count i d res order n 0)
 
 abbrev pub Progress : List ℕ → Limits → ℕ → ℕ → List ℕ → List ℕ → ℕ → List ℕ → ℕ → List ℕ → ℕ → ℕ → Type 0
 Progress right m i d res order n ws₁ count₁ ws count j =
-    (o : search.Outcome) (t : Term) → IsRun right t → Midway o m t ws₁ count₁ i d res order n 0 → Midway o m t ws count i d res order n j
+    (o : search.Outcome) (s t : Term) → IsRun right t → Midway o m s t ws₁ count₁ i d res order n 0 → Midway o m s t ws count i d res order n j
 
 pub starts : (right : List ℕ) (m : Limits) (ws : List ℕ) → Standing right m ws ws 1 0
-starts right m ws s t S ht k = record { ns = record { term = s; trail = [] } ∷ []; slots = S; counted = refl; is = rw (sub-zero (m .nodes)) }
+starts right m ws s t S ht k = record { ns = record { term = s; trail = [] } ∷ []; slots = S; counted = refl; start = refl; is = rw (sub-zero (m .nodes)) }
 
 module _ {right : List ℕ} {m : Limits} {slots : ℕ} {ws₀ ws : List ℕ} {count i : ℕ} (St : Standing right m ws₀ ws count i) (room : count ≤ slots) where
   abbrev next : Term → List Line
@@ -98,6 +100,7 @@ module _ {right : List ℕ} {m : Limits} {slots : ℕ} {ws₀ ws : List ℕ} {co
           ns = g .ns;
           slots = g .slots;
           counted = c;
+          start = g .start;
           distance = e;
           lines = next (x .term);
           ordered = O .exact (x .term) (g .slots .slot i (omega arith) .run) k;
@@ -107,7 +110,7 @@ module _ {right : List ℕ} {m : Limits} {slots : ℕ} {ws₀ ws : List ℕ} {co
 -- the j-th result is taken
 module _ {right : List ℕ} {m : Limits} {slots : ℕ} {ws : List ℕ} {count i d : ℕ} {res order : List ℕ} {n j : ℕ} {r : Taken} {ws′ : List ℕ} (inside : i < count) (h : j < n)
     (room : n ≤ length order) (T : Takes ws count slots res (getD order j 0) d right r ws′) where
-  module _ (o : search.Outcome) (t : Term) (ht : IsRun right t) (g : Midway o m t ws count i d res order n j) where
+  module _ (o : search.Outcome) (s t : Term) (ht : IsRun right t) (g : Midway o m s t ws count i d res order n j) where
     abbrev parent : Noted
     parent = noted-at (g .ns) i
 
@@ -135,13 +138,14 @@ module _ {right : List ℕ} {m : Limits} {slots : ℕ} {ws : List ℕ} {count i 
         let R = ordered-at (g .ordered) j (omega (arith, long)) .1 in
         T .exact (g .ns) i x t (g .slots) (g .counted) inside (rw e at R) (g .distance) ht
 
-    known : r ≡ taken.Known → Midway o m t ws′ count i d res order n (j + 1)
+    known : r ≡ taken.Known → Midway o m s t ws′ count i d res order n (j + 1)
     known e =
         let (b, S) = rw e at became in
         record {
           ns = g .ns;
           slots = S;
           counted = g .counted;
+          start = g .start;
           distance = g .distance;
           lines = g .lines;
           ordered = g .ordered;
@@ -155,20 +159,24 @@ module _ {right : List ℕ} {m : Limits} {slots : ℕ} {ws : List ℕ} {count i 
     counted-more : length more ≡ count + 1
     counted-more = length-append (g .ns) (entry (parent .trail) x ∷ []) ∙ ap (λ k. k + 1) (g .counted)
 
-    noted : r ≡ taken.Noted → Midway o m t ws′ (count + 1) i d res order n (j + 1)
+    start-still : noted-at more 0 .term ≡ s
+    start-still = ap (λ n. n .term) (noted-before (g .ns) (entry (parent .trail) x) 0 (omega (arith, g .counted))) ∙ g .start
+
+    noted : r ≡ taken.Noted → Midway o m s t ws′ (count + 1) i d res order n (j + 1)
     noted e =
         let (b, c, S) = rw e at became in
         record {
           ns = more;
           slots = S;
           counted = counted-more;
+          start = start-still;
           distance = rw parent-still (g .distance);
           lines = g .lines;
           ordered = rw parent-still (g .ordered);
           is = rw parent-still (goes ∙ ap (following m t i) (note-new t (parent .trail) x rest (g .ns) b c));
         }
 
-    met : r ≡ taken.Right → Arrives slots ws′ (i + 1) (count + 1) o
+    met : r ≡ taken.Right → Arrives slots ws′ s (i + 1) (count + 1) o
     met e =
         let (b, c, S) = rw e at became in
         let k : count + 1 - 1 ≡ length (g .ns) = omega (arith, g .counted) in
@@ -178,6 +186,7 @@ module _ {right : List ℕ} {m : Limits} {slots : ℕ} {ws : List ℕ} {count i 
           ns = more;
           held = S;
           count = counted-more;
+          start = start-still;
           is = goes ∙ ap (following m t i) (note-right t (parent .trail) x rest (g .ns) b c)
               ∙ rw (k, noted-last (g .ns) (entry (parent .trail) x), counted-more);
         }
@@ -196,17 +205,17 @@ module _ {right : List ℕ} {m : Limits} {slots : ℕ} {ws : List ℕ} {count i 
 
   module _ {ws₁ : List ℕ} {count₁ : ℕ} (Tu : Progress right m i d res order n ws₁ count₁ ws count j) where
     pub progress-known : r ≡ taken.Known → Progress right m i d res order n ws₁ count₁ ws′ count (j + 1)
-    progress-known e o t ht g = known o t ht (Tu o t ht g) e
+    progress-known e o s t ht g = known o s t ht (Tu o s t ht g) e
 
     pub progress-noted : r ≡ taken.Noted → Progress right m i d res order n ws₁ count₁ ws′ (count + 1) (j + 1)
-    progress-noted e o t ht g = noted o t ht (Tu o t ht g) e
+    progress-noted e o s t ht g = noted o s t ht (Tu o s t ht g) e
 
     module _ {ws₀ : List ℕ} (O : Opened right m ws₀ ws₁ count₁ i d res order n) where
       pub ends-proved : r ≡ taken.Right → Explores right m slots ws₀ ws′ (Proved (i + 1) (count + 1))
-      ends-proved e = record { exact = λ s t S ht k. let o = begun (limits-of m) s t in met o t ht (Tu o t ht (O s t S ht k)) e }
+      ends-proved e = record { exact = λ s t S ht k. let o = begun (limits-of m) s t in met o s t ht (Tu o s t ht (O s t S ht k)) e }
 
       pub ends-full : r ≡ taken.Full → Explores right m slots ws₀ ws′ Full
-      ends-full e = record { exact = λ s t S ht k. let o = begun (limits-of m) s t in full o t ht (Tu o t ht (O s t S ht k)) e }
+      ends-full e = record { exact = λ s t S ht k. let o = begun (limits-of m) s t in full o s t ht (Tu o s t ht (O s t S ht k)) e }
 
 -- all results are taken
 pub all-taken : {right : List ℕ} {m : Limits} {i d : ℕ} {res order : List ℕ} {n : ℕ} {ws₁ : List ℕ} {count₁ : ℕ} {ws : List ℕ} {count j : ℕ}
@@ -214,6 +223,6 @@ pub all-taken : {right : List ℕ} {m : Limits} {i d : ℕ} {res order : List �
     → Standing right m ws₀ ws count (i + 1)
 unfolding note
 all-taken {m = m} {order = order} {n = n} {j = j} Tu O h room s t S ht k =
-    let g = Tu (begun (limits-of m) s t) t ht (O s t S ht k) in
+    let g = Tu (begun (limits-of m) s t) s t ht (O s t S ht k) in
     let e : length (g .lines) ≤ j = omega (arith, ordered-length (g .ordered), length-take-le n order room) in
-    record { ns = g .ns; slots = g .slots; counted = g .counted; is = g .is ∙ rw (drop-of-length-le (g .lines) e) }
+    record { ns = g .ns; slots = g .slots; counted = g .counted; start = g .start; is = g .is ∙ rw (drop-of-length-le (g .lines) e) }

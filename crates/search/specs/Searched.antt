@@ -58,28 +58,29 @@ pub record Takes (ws : List ℕ) (count slots : ℕ) (res : List ℕ) (k d : ℕ
   pub exact : (ns : List Noted) (i : ℕ) (x : Line) (t : Term) → Slots ws ns → length ns ≡ count → i < count → Result (noted-at ns i .term) i res k x
       → d ≡ length (noted-at ns i .trail) → IsRun right t → Became r slots ws′ ns (noted-at ns i) x t
 
--- right is the last of the n noted terms
-pub record Arrives (slots : ℕ) (ws : List ℕ) (e n : ℕ) (o : search.Outcome) : Type 0 where
+-- s is the first of the n noted terms, and right the last
+pub record Arrives (slots : ℕ) (ws : List ℕ) (s : Term) (e n : ℕ) (o : search.Outcome) : Type 0 where
   pub some : 0 < n
   pub room : n ≤ slots
   pub ns : List Noted
   pub held : Slots ws ns
   pub count : length ns ≡ n
+  pub start : noted-at ns 0 .term ≡ s
   pub is : o ≡ proved (noted-at ns (n - 1) .trail) e n
 
--- an answer in a search to t, with so many slots, against the outcome
-abbrev pub Answers : Outcome → ℕ → List ℕ → Term → search.Outcome → Type 0
-Answers (Direct w) slots ws t o = o ≡ proved (record { law = name-of w; direction = forward; place = []; result = t } ∷ []) 0 0
-Answers (Proved e n) slots ws t o = Arrives slots ws e n o
-Answers (Unproved e) slots ws t o = (n : ℕ) × (n ≤ slots) × (o ≡ unproved e n)
-Answers Full slots ws t o = slots < search.noted o
+-- an answer in a search from s to t, with so many slots, against the outcome
+abbrev pub Answers : Outcome → ℕ → List ℕ → Term → Term → search.Outcome → Type 0
+Answers (Direct w) slots ws s t o = o ≡ proved (record { law = name-of w; direction = forward; place = []; result = t } ∷ []) 0 0
+Answers (Proved e n) slots ws s t o = Arrives slots ws s e n o
+Answers (Unproved e) slots ws s t o = (n : ℕ) × (n ≤ slots) × (o ≡ unproved e n)
+Answers Full slots ws s t o = slots < search.noted o
 
 -- of `explore`
 pub record Explores (right : List ℕ) (m : Limits) (slots : ℕ) (ws ws′ : List ℕ) (r : Outcome) : Type 0 where
   pub exact : (s t : Term) → Slots ws (record { term = s; trail = [] } ∷ []) → IsRun right t → m .size ≤ 31
-      → Answers r slots ws′ t (begun (limits-of m) s t)
+      → Answers r slots ws′ s t (begun (limits-of m) s t)
 
 -- of `search_bounded_rewrite`
 pub record Searches (left right : List ℕ) (m : Limits) (ws : List ℕ) (r : Outcome) : Type 0 where
   pub exact : (s t : Term) → IsRun left s → IsRun right t → size s ≤ 31 → size t ≤ 31 → m .size ≤ 31
-      → Answers r (slots-of (length ws)) ws t (search.search semiring (limits-of m) s t)
+      → Answers r (slots-of (length ws)) ws s t (search.search semiring (limits-of m) s t)
