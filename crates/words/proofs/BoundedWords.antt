@@ -15,11 +15,12 @@ use Rattle.words.specs.Words.{Word, order-words, normal, words, expand}
 use Rattle.words.specs.Spelled.{SLOT, spelled}
 use Rattle.words.specs.Multiply.{MOST, MultipliesOut}
 use Rattle.words.specs.Sort.{Spells}
-use Rattle.words.specs.Theory.Bound.{atoms, size-atoms, expand-bound, most-bound}
-use Rattle.words.specs.Theory.Longest.{longest, longest-sorted, longest-expand}
+use Rattle.words.specs.Theory.Bound.{size-atoms, expand-bound, most-bound}
+use Rattle.words.specs.Theory.Longest.{longest-sorted, longest-expand}
 use Rattle.words.specs.Theory.Expand.{words-expand}
 use Rattle.words.specs.Theory.Spelled.{spelled-length}
 use Rattle.words.specs.WordLists.{slot-words, Bounded, WordsOf}
+use Rattle.words.specs.Counts.{atoms, longest}
 use Rattle.words.specs.Theory.WordLetters.{each-expanded}
 use Rattle.words.proofs.SlotWords.{puts-listed}
 

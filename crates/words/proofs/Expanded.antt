@@ -13,7 +13,8 @@ use Rattle.terms.proofs.Positions.{drop-head}
 use Rattle.terms.proofs.Held.{size-pos, holds-whole, holds-within, holds-add, holds-mul}
 use Rattle.words.specs.Words.{products, expand}
 use Rattle.words.specs.Multiply.{Puts, Fits, PutsWords, Multiplies, atom-words, Room, Expands, MultipliesOut}
-use Rattle.words.specs.Theory.Bound.{atoms, size-atoms, most, most-most, most-bound, expand-bound}
+use Rattle.words.specs.Counts.{atoms, most}
+use Rattle.words.specs.Theory.Bound.{size-atoms, most-most, most-bound, expand-bound}
 use Rattle.words.specs.Theory.Longest.{longest-expand}
 use Rattle.words.specs.declared.normal_form.Expanded.{Expanded}
 use Rattle.words.proofs.Stand.{between-end, between-front}

@@ -10,8 +10,7 @@ use Rattle.terms.specs.Run.{ZERO, ONE}
 use Rattle.terms.specs.Held.{IsRun, Holds}
 use Rattle.words.specs.Words.{Word, products, expand}
 use Rattle.words.specs.Spelled.{SLOT}
-use Rattle.words.specs.Theory.Bound.{atoms, most}
-use Rattle.words.specs.Theory.Longest.{longest}
+use Rattle.words.specs.Counts.{atoms, most, longest}
 use Rattle.words.specs.declared.normal_form.Expanded.{Expanded}
 
 -- the most words of a term of 31 nodes, and the most letters of one

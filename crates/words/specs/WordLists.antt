@@ -13,7 +13,7 @@ use Rattle.words.specs.Rename.{rename-words, canonical-words}
 use Rattle.words.specs.Multiply.{MOST, LONGEST}
 use Rattle.words.specs.Sort.{Lettered}
 use Rattle.words.specs.Candidate.{Within}
-use Rattle.words.specs.Theory.Longest.{longest}
+use Rattle.words.specs.Counts.{longest}
 use Rattle.words.specs.declared.candidate.Lengths.{Lengths}
 
 -- the words in all the slots that a list has

@@ -9,8 +9,8 @@ use Rattle.terms.specs.Compare.{then, lexicographic}
 use Rattle.terms.specs.Theory.Lexicographic.{then-assoc}
 use Rattle.words.specs.Words.{Word, order-words, order-lists}
 use Rattle.words.specs.Spelled.{spelled-word, spelled, SLOT}
+use Rattle.words.specs.Counts.{longest}
 use Rattle.words.specs.Theory.Order.{list-order}
-use Rattle.words.specs.Theory.Longest.{longest}
 
 -- the numbers after two words decide only if the words are equal
 word-then : (u v : Word) (xs ys : List ℕ)
