@@ -1,6 +1,7 @@
 //! The proved functions beside the Rust, in one process, on the same inputs. Each pair's results are compared first.
 
 mod ours;
+mod search;
 mod table;
 mod term;
 mod words;
@@ -8,4 +9,5 @@ mod words;
 fn main() {
     table::head();
     words::rows();
+    search::rows();
 }

@@ -22,6 +22,52 @@ unsafe extern "C" {
         right: *mut u32,
         right_len: usize,
     ) -> usize;
+    fn bench_search(
+        left: *const u32,
+        left_len: usize,
+        right: *const u32,
+        right_len: usize,
+        steps: u32,
+        size: u32,
+        depth: u32,
+        nodes: u32,
+        ws: *mut u32,
+        ws_len: usize,
+    ) -> usize;
+}
+
+/// What a search came to, and how many terms it opened.
+#[derive(Debug, Eq, PartialEq)]
+pub enum Outcome {
+    Full,
+    Direct,
+    Proved(usize),
+    Unproved(usize),
+}
+
+/// The bounded search, with limits steps, size, depth and nodes.
+pub fn search(left: &[u32], right: &[u32], limits: [u32; 4], ws: &mut [u32]) -> Outcome {
+    let [steps, size, depth, nodes] = limits;
+    let told = unsafe {
+        bench_search(
+            left.as_ptr(),
+            left.len(),
+            right.as_ptr(),
+            right.len(),
+            steps,
+            size,
+            depth,
+            nodes,
+            ws.as_mut_ptr(),
+            ws.len(),
+        )
+    };
+    match told % 4 {
+        0 => Outcome::Full,
+        1 => Outcome::Direct,
+        2 => Outcome::Proved(told / 4),
+        _ => Outcome::Unproved(told / 4),
+    }
 }
 
 /// The words of a run, as one run; answers its length.

@@ -14,7 +14,7 @@ use Rattle.search.specs.Place.{subterm-at, placed, lines-at, gather}
 use Rattle.search.specs.Coded.{law-at, law-of, direction-of, numbered-law, numbered-direction}
 use Rattle.search.specs.Bound.{BindsLaw}
 use Rattle.search.specs.Ordered.{none}
-use Rattle.search.specs.Resulted.{line-of, Adds, Resulted}
+use Rattle.search.specs.Resulted.{tried-by, Adds, Resulted}
 use Rattle.search.specs.Theory.Positions.{gather-snoc, gather-map, lines-in-order}
 use Rattle.search.specs.declared.search.Law.{Law}
 use Rattle.search.specs.declared.search.Direction.{Direction}
@@ -44,7 +44,7 @@ abbrev pub step-of : ℕ → ℕ → ℕ → Step
 step-of place parent n = record { law = numbered-law (n / 2); direction = numbered-direction (n % 2); place = place; parent = parent }
 
 abbrev pub step-lines : ℕ → ℕ → ℕ → Term → List Line
-step-lines place parent n = line-of (step-of place parent n)
+step-lines place parent n = tried-by (step-of place parent n)
 
 twenty-steps : (place parent : ℕ) (t : Term) → in-turn (step-lines place parent) 20 t ≡ lines-at semiring t place
 unfolding lines-at root-lines gather semiring law-at
@@ -58,7 +58,7 @@ module _ {xs : List ℕ} {room deep parent : ℕ} (place n : ℕ) {res order : L
     abbrev step : Step
     step = record { law = w; direction = d; place = place; parent = parent }
 
-    pub step-kept : {room₁ : ℕ} → room₁ ≡ room → {res₂ order₂ : List ℕ} {r₂ : ℕ} → Adds xs room₁ deep parent (line-of step) 1 res₁ order₁ r₁ res₂ order₂ r₂
+    pub step-kept : {room₁ : ℕ} → room₁ ≡ room → {res₂ order₂ : List ℕ} {r₂ : ℕ} → Adds xs room₁ deep parent (tried-by step) 1 res₁ order₁ r₁ res₂ order₂ r₂
         → Adds xs room deep parent (in-turn (step-lines place parent) (n + 1)) (n + 1) res order count res₂ order₂ r₂
     step-kept e B = turns-more (step-lines place parent) n (n + 1) A e (rw (p, q) at B) (omega arith)
 

@@ -14,8 +14,8 @@ use Rattle.search.specs.Slots.{SLOT, Writes}
 use Rattle.search.specs.Ordered.{Result, Ordered, none, more, Spotted, Keeps}
 use Rattle.search.specs.declared.bounded_search.Step.{Step}
 use Rattle.search.specs.declared.bounded_search.Origin.the-variants.{From}
-use Rattle.search.specs.declared.bounded_search.Spot.{Spot}
-use Rattle.search.specs.declared.bounded_search.Spot.the-variants.{At, Already}
+use Rattle.search.specs.declared.results.Spot.{Spot}
+use Rattle.search.specs.declared.results.Spot.the-variants.{At, Already}
 use Rattle.search.proofs.Slots.{run-kept, origin-kept}
 
 ordered-insert : {t : Term} {from : ℕ} {res : List ℕ} {n : ℕ} {ks : List ℕ} {ys : List Line} (p k : ℕ) (x : Line) → k < n → Result t from res k x → Ordered t from res n ks ys

@@ -24,7 +24,7 @@ use Rattle.search.specs.Coded.{law-of, direction-of}
 use Rattle.search.specs.Spliced.{kept, tried, Gives, Tries}
 use Rattle.search.specs.Slots.{Marks}
 use Rattle.search.specs.Ordered.{Ordered, Keeps}
-use Rattle.search.specs.Resulted.{line-of, Adds}
+use Rattle.search.specs.Resulted.{tried-by, Adds}
 use Rattle.search.specs.declared.search.Law.{Law}
 use Rattle.search.specs.declared.search.Direction.{Direction}
 use Rattle.search.specs.declared.bounded_search.Step.{Step}
@@ -104,7 +104,7 @@ changed-member t w d (some u) z k = go (same u t) k
     go true k = absurd (not-in-nil k)
     go false k = let e = only-one k in (ap (λ x. x .law) e, ap (λ x. x .direction) e)
 
-line-marks : (s : Step) (t : Term) → s .place < size t → (z : Line) → z ∈ line-of s t → Marks s t z
+line-marks : (s : Step) (t : Term) → s .place < size t → (z : Line) → z ∈ tried-by s t → Marks s t z
 unfolding placed at-root
 line-marks s t h z k =
     let u = subterm-at t (s .place) in
@@ -156,7 +156,7 @@ module _ (s : Step) (xs : List ℕ) (room deep : ℕ) (out res order : List ℕ)
   by-tried : (res′ order′ : List ℕ) (r : ℕ) → count ≤ r → r ≤ count + 1
       → ((t : Term) (m : Limits) (ys : List Line) → m .size ≡ room → m .depth ≡ deep → Ordered t (s .parent) res count (take count order) ys
       → (zs : List Line) → Gives out f zs → ((z : Line) → z ∈ zs → Marks s t z) → Ordered t (s .parent) res′ r (take r order′) (insert-all lost by-result ys (allowed m zs)))
-      → Adds xs room deep (s .parent) (line-of s) 1 res order count res′ order′ r
+      → Adds xs room deep (s .parent) (tried-by s) 1 res order count res′ order′ r
   unfolding tried
   by-tried res′ order′ r low high g =
       record {
@@ -164,11 +164,11 @@ module _ (s : Step) (xs : List ℕ) (room deep : ℕ) (out res order : List ℕ)
         high = high;
         exact = λ t m ys h e d O.
             let i : s .place < size t = omega (arith, size-of h) in
-            rw (← (ap (λ z. allowed m (kept z (line-of s t))) (sym e) ∙ allowed-kept m (line-of s t)))
-            (g t m ys e d O (kept room (line-of s t)) (T .exact t h i) (λ z k. line-marks s t i z (kept-member room (line-of s t) z k)));
+            rw (← (ap (λ z. allowed m (kept z (tried-by s t))) (sym e) ∙ allowed-kept m (tried-by s t)))
+            (g t m ys e d O (kept room (tried-by s t)) (T .exact t h i) (λ z k. line-marks s t i z (kept-member room (tried-by s t) z k)));
       }
 
-  pub adds-nothing : f ≡ Nothing → Adds xs room deep (s .parent) (line-of s) 1 res order count res order count
+  pub adds-nothing : f ≡ Nothing → Adds xs room deep (s .parent) (tried-by s) 1 res order count res order count
   unfolding allowed
   adds-nothing e = by-tried res order count (omega arith) (omega arith) (λ t m ys q d O zs G M. go t m ys O zs (rw e at G))
     where
@@ -182,7 +182,7 @@ module _ (s : Step) (xs : List ℕ) (room deep : ℕ) (out res order : List ℕ)
     by-line : (res′ order′ : List ℕ) (r : ℕ) → count ≤ r → r ≤ count + 1
         → ((t : Term) (m : Limits) (ys : List Line) (x : Line) → m .depth ≡ deep → Ordered t (s .parent) res count (take count order) ys → size (x .result) ≤ m .size
         → IsRun (take k out) (x .result) → Marks s t x → Ordered t (s .parent) res′ r (take r order′) (insert-all lost by-result ys (allowed m (x ∷ []))))
-        → Adds xs room deep (s .parent) (line-of s) 1 res order count res′ order′ r
+        → Adds xs room deep (s .parent) (tried-by s) 1 res order count res′ order′ r
     by-line res′ order′ r low high g = by-tried res′ order′ r low high (λ t m ys q d O zs G M. go t m ys q d O zs (rw e at G) M)
       where
         go : (t : Term) (m : Limits) (ys : List Line) → m .size ≡ room → m .depth ≡ deep → Ordered t (s .parent) res count (take count order) ys
@@ -192,14 +192,14 @@ module _ (s : Step) (xs : List ℕ) (room deep : ℕ) (out res order : List ℕ)
         go t m ys q d O (x ∷ y ∷ zs) G M = absurd G
 
     module _ (v : ℕ) (D : Deep (take k out) v) where
-      pub adds-too-deep : deep < v → Adds xs room deep (s .parent) (line-of s) 1 res order count res order count
+      pub adds-too-deep : deep < v → Adds xs room deep (s .parent) (tried-by s) 1 res order count res order count
       unfolding allowed
       adds-too-deep h =
           by-line res order count (omega arith) (omega arith)
           (λ t m ys x d O z H M. rw (allowed-out m x [] (within-deep m (x .result) (omega (arith, D .terms (x .result) H)))) O)
 
       pub adds-kept : v ≤ deep → (res′ order′ : List ℕ) (r : ℕ) → Keeps (take k out) s res order res′ order′ count r
-          → Adds xs room deep (s .parent) (line-of s) 1 res order count res′ order′ r
+          → Adds xs room deep (s .parent) (tried-by s) 1 res order count res′ order′ r
       unfolding allowed
       adds-kept h res′ order′ r K =
           by-line res′ order′ r (K .low) (K .high)

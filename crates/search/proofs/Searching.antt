@@ -1,9 +1,9 @@
 -- The search as its loops go: the noted terms in turn, and for each its results in turn.
-use Prim.Native.Nat.{ℕ, suc, _+_, _-_, _*_, _≤_, _<_}
+use Prim.Native.Nat.{ℕ, _+_, _-_, _≤_, _<_}
 use native.Mathlib.Omega.{arith}
 use native.Mathlib.Nat.{sub-zero}
 use native.Mathlib.Numerals.{add-one}
-use mathlib.Core.Path.{_≡_, refl, sym, ap, _∙_}
+use mathlib.Core.Path.{_≡_, refl, ap, _∙_}
 use mathlib.Core.List.{List, [], _∷_, _++_}
 use lib.ListN.{length, take, drop, getD, length-append, drop-of-length-le}
 use lib.Seq.{drop-cons, getD-take, length-take-le}
@@ -12,10 +12,10 @@ use Rattle.terms.specs.Held.{IsRun}
 use Rattle.search.specs.Law.{semiring}
 use Rattle.search.specs.Line.{Line, results}
 use Rattle.search.specs.Search as search
-use Rattle.search.specs.Search.{Noted, entry, note, goes-on, unproved, run}
-use Rattle.search.specs.Slots.{SLOT, distance-of, noted-at, Slots}
-use Rattle.search.specs.Ordered.{Result, Ordered}
-use Rattle.search.specs.Searched.{limits-of, begun, Opens, Became, Takes, Reaches, Explores}
+use Rattle.search.specs.Search.{Noted, entry, note, unproved, run}
+use Rattle.search.specs.Slots.{distance-of, noted-at, Slots}
+use Rattle.search.specs.Ordered.{Ordered}
+use Rattle.search.specs.Searched.{limits-of, begun, Opens, Became, Takes, Arrives, Explores}
 use Rattle.search.specs.declared.bounded_search.Limits.{Limits}
 use Rattle.search.specs.declared.bounded_search.Taken.{Taken}
 use Rattle.search.specs.declared.bounded_search.Taken.the-variants as taken
@@ -35,7 +35,7 @@ abbrev following : Limits → Term → ℕ → search.Turn → search.Outcome
 following m t i = after (results semiring (limits-of m)) (m .steps) t (m .nodes - (i + 1)) (i + 1)
 
 -- o is that outcome where the i-th term, at distance d, is open, with n results in res, of which the j-th is next to take
-pub record Turns (o : search.Outcome) (m : Limits) (t : Term) (ws : List ℕ) (count i d : ℕ) (res order : List ℕ) (n j : ℕ) : Type 0 where
+pub record Midway (o : search.Outcome) (m : Limits) (t : Term) (ws : List ℕ) (count i d : ℕ) (res order : List ℕ) (n j : ℕ) : Type 0 where
   pub ns : List Noted
   pub slots : Slots ws ns
   pub counted : length ns ≡ count
@@ -54,11 +54,11 @@ abbrev pub Standing : List ℕ → Limits → List ℕ → List ℕ → ℕ → 
 Standing right m ws₀ ws count i = Always right m ws₀ (λ o t. Stands o m t ws count i)
 
 abbrev pub Opened : List ℕ → Limits → List ℕ → List ℕ → ℕ → ℕ → ℕ → List ℕ → List ℕ → ℕ → Type 0
-Opened right m ws₀ ws count i d res order n = Always right m ws₀ (λ o t. Turns o m t ws count i d res order n 0)
+Opened right m ws₀ ws count i d res order n = Always right m ws₀ (λ o t. Midway o m t ws count i d res order n 0)
 
-abbrev pub Turning : List ℕ → Limits → ℕ → ℕ → List ℕ → List ℕ → ℕ → List ℕ → ℕ → List ℕ → ℕ → ℕ → Type 0
-Turning right m i d res order n ws₁ count₁ ws count j =
-    (o : search.Outcome) (t : Term) → IsRun right t → Turns o m t ws₁ count₁ i d res order n 0 → Turns o m t ws count i d res order n j
+abbrev pub Progress : List ℕ → Limits → ℕ → ℕ → List ℕ → List ℕ → ℕ → List ℕ → ℕ → List ℕ → ℕ → ℕ → Type 0
+Progress right m i d res order n ws₁ count₁ ws count j =
+    (o : search.Outcome) (t : Term) → IsRun right t → Midway o m t ws₁ count₁ i d res order n 0 → Midway o m t ws count i d res order n j
 
 pub starts : (right : List ℕ) (m : Limits) (ws : List ℕ) → Standing right m ws ws 1 0
 starts right m ws s t S ht k = record { ns = record { term = s; trail = [] } ∷ []; slots = S; counted = refl; is = rw (sub-zero (m .nodes)) }
@@ -87,9 +87,9 @@ module _ {right : List ℕ} {m : Limits} {slots : ℕ} {ws₀ ws : List ℕ} {co
     pub ends-far : m .steps ≤ distance-of ws i → Explores right m slots ws₀ ws (Unproved i)
     ends-far far = stops (λ t ns S c. run-far next (m .steps) t i ns (omega arith) (m .nodes - i) (omega (arith, distance-here ns S c)))
 
-    pub turns-start : i < m .nodes → distance-of ws i < m .steps → {res order : List ℕ} {n : ℕ} → Opens ws i m res order n
+    pub opened : i < m .nodes → distance-of ws i < m .steps → {res order : List ℕ} {n : ℕ} → Opens ws i m res order n
         → Opened right m ws₀ ws count i (distance-of ws i) res order n
-    turns-start q near O s t S ht k =
+    opened q near O s t S ht k =
         let g = St s t S ht k in
         let x = noted-at (g .ns) i in
         let e = distance-here (g .ns) (g .slots) (g .counted) in
@@ -106,8 +106,8 @@ module _ {right : List ℕ} {m : Limits} {slots : ℕ} {ws₀ ws : List ℕ} {co
 
 -- the j-th result is taken
 module _ {right : List ℕ} {m : Limits} {slots : ℕ} {ws : List ℕ} {count i d : ℕ} {res order : List ℕ} {n j : ℕ} {r : Taken} {ws′ : List ℕ} (inside : i < count) (h : j < n)
-    (room : n ≤ length order) (whole : SLOT * n ≤ length res) (T : Takes ws count slots res (getD order j 0) d right r ws′) where
-  module _ (o : search.Outcome) (t : Term) (ht : IsRun right t) (g : Turns o m t ws count i d res order n j) where
+    (room : n ≤ length order) (T : Takes ws count slots res (getD order j 0) d right r ws′) where
+  module _ (o : search.Outcome) (t : Term) (ht : IsRun right t) (g : Midway o m t ws count i d res order n j) where
     abbrev parent : Noted
     parent = noted-at (g .ns) i
 
@@ -132,10 +132,10 @@ module _ {right : List ℕ} {m : Limits} {slots : ℕ} {ws : List ℕ} {count i 
     became : Became r slots ws′ (g .ns) parent x t
     became =
         let e : getD (take n order) j 0 ≡ getD order j 0 = getD-take n order j 0 h in
-        let (b, R) = ordered-at (g .ordered) j (omega (arith, long)) in
-        T .exact (g .ns) i x t (g .slots) (g .counted) inside (omega arith) (rw e at R) (g .distance) ht
+        let R = ordered-at (g .ordered) j (omega (arith, long)) .1 in
+        T .exact (g .ns) i x t (g .slots) (g .counted) inside (rw e at R) (g .distance) ht
 
-    known : r ≡ taken.Known → Turns o m t ws′ count i d res order n (j + 1)
+    known : r ≡ taken.Known → Midway o m t ws′ count i d res order n (j + 1)
     known e =
         let (b, S) = rw e at became in
         record {
@@ -155,7 +155,7 @@ module _ {right : List ℕ} {m : Limits} {slots : ℕ} {ws : List ℕ} {count i 
     counted-more : length more ≡ count + 1
     counted-more = length-append (g .ns) (entry (parent .trail) x ∷ []) ∙ ap (λ k. k + 1) (g .counted)
 
-    noted : r ≡ taken.Noted → Turns o m t ws′ (count + 1) i d res order n (j + 1)
+    noted : r ≡ taken.Noted → Midway o m t ws′ (count + 1) i d res order n (j + 1)
     noted e =
         let (b, c, S) = rw e at became in
         record {
@@ -168,7 +168,7 @@ module _ {right : List ℕ} {m : Limits} {slots : ℕ} {ws : List ℕ} {count i 
           is = rw parent-still (goes ∙ ap (following m t i) (note-new t (parent .trail) x rest (g .ns) b c));
         }
 
-    met : r ≡ taken.Right → Reaches slots ws′ (i + 1) (count + 1) o
+    met : r ≡ taken.Right → Arrives slots ws′ (i + 1) (count + 1) o
     met e =
         let (b, c, S) = rw e at became in
         let k : count + 1 - 1 ≡ length (g .ns) = omega (arith, g .counted) in
@@ -194,12 +194,12 @@ module _ {right : List ℕ} {m : Limits} {slots : ℕ} {ws : List ℕ} {count i 
           after-grows (results semiring (limits-of m)) (m .steps) t (m .nodes - (i + 1)) (i + 1) turn,
         ))
 
-  module _ {ws₁ : List ℕ} {count₁ : ℕ} (Tu : Turning right m i d res order n ws₁ count₁ ws count j) where
-    pub turns-known : r ≡ taken.Known → Turning right m i d res order n ws₁ count₁ ws′ count (j + 1)
-    turns-known e o t ht g = known o t ht (Tu o t ht g) e
+  module _ {ws₁ : List ℕ} {count₁ : ℕ} (Tu : Progress right m i d res order n ws₁ count₁ ws count j) where
+    pub progress-known : r ≡ taken.Known → Progress right m i d res order n ws₁ count₁ ws′ count (j + 1)
+    progress-known e o t ht g = known o t ht (Tu o t ht g) e
 
-    pub turns-noted : r ≡ taken.Noted → Turning right m i d res order n ws₁ count₁ ws′ (count + 1) (j + 1)
-    turns-noted e o t ht g = noted o t ht (Tu o t ht g) e
+    pub progress-noted : r ≡ taken.Noted → Progress right m i d res order n ws₁ count₁ ws′ (count + 1) (j + 1)
+    progress-noted e o t ht g = noted o t ht (Tu o t ht g) e
 
     module _ {ws₀ : List ℕ} (O : Opened right m ws₀ ws₁ count₁ i d res order n) where
       pub ends-proved : r ≡ taken.Right → Explores right m slots ws₀ ws′ (Proved (i + 1) (count + 1))
@@ -209,11 +209,11 @@ module _ {right : List ℕ} {m : Limits} {slots : ℕ} {ws : List ℕ} {count i 
       ends-full e = record { exact = λ s t S ht k. let o = begun (limits-of m) s t in full o t ht (Tu o t ht (O s t S ht k)) e }
 
 -- all results are taken
-pub turns-end : {right : List ℕ} {m : Limits} {i d : ℕ} {res order : List ℕ} {n : ℕ} {ws₁ : List ℕ} {count₁ : ℕ} {ws : List ℕ} {count j : ℕ}
-    → Turning right m i d res order n ws₁ count₁ ws count j → {ws₀ : List ℕ} → Opened right m ws₀ ws₁ count₁ i d res order n → n ≤ j → n ≤ length order
+pub all-taken : {right : List ℕ} {m : Limits} {i d : ℕ} {res order : List ℕ} {n : ℕ} {ws₁ : List ℕ} {count₁ : ℕ} {ws : List ℕ} {count j : ℕ}
+    → Progress right m i d res order n ws₁ count₁ ws count j → {ws₀ : List ℕ} → Opened right m ws₀ ws₁ count₁ i d res order n → n ≤ j → n ≤ length order
     → Standing right m ws₀ ws count (i + 1)
 unfolding note
-turns-end {m = m} {order = order} {n = n} {j = j} Tu O h room s t S ht k =
+all-taken {m = m} {order = order} {n = n} {j = j} Tu O h room s t S ht k =
     let g = Tu (begun (limits-of m) s t) t ht (O s t S ht k) in
     let e : length (g .lines) ≤ j = omega (arith, ordered-length (g .ordered), length-take-le n order room) in
     record { ns = g .ns; slots = g .slots; counted = g .counted; is = g .is ∙ rw (drop-of-length-le (g .lines) e) }

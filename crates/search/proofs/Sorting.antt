@@ -19,7 +19,7 @@ use Rattle.search.specs.Law.{add-assoc}
 use Rattle.search.specs.Line.{Line, forward, by-result}
 use Rattle.search.specs.Slots.{SLOT}
 use Rattle.search.specs.Ordered.{Result, Ordered, none, more, inserted, Goes, Spotted}
-use Rattle.search.specs.declared.bounded_search.Spot.the-variants.{At, Already}
+use Rattle.search.specs.declared.results.Spot.the-variants.{At, Already}
 use Rattle.search.proofs.Slots.{run-in, run-spelled}
 
 -- the line at a place

@@ -28,7 +28,7 @@ pub shows-run : (ws : List ℕ) (k : ℕ) → Shows ws k (run-in ws k)
 shows-run ws k = record { exact = λ t s. run-spelled s }
 
 pub origin-missed : (ws : List ℕ) (k : ℕ) (o : Origin) → length ws < SLOT * k + 1 + 4 → Originates ws k o
-origin-missed ws k o h = record { exact = λ ns S q. absurd (omega (arith, holds-within (S .slot k q .run .held))) }
+origin-missed ws k o h = record { exact = λ t s. absurd (omega (arith, holds-within (s .held))) }
 
 -- what a slot comes from
 
@@ -116,14 +116,14 @@ module _ (ws : List ℕ) (last k at : ℕ) (o : Origin) (O : Originates ws k o) 
         within = omega arith;
         exact = λ ns S q p.
             let t = T ns S q in
-            absurd (omega (arith, t .far, ap length (from-start S k (t .within) (sym e ∙ O .exact ns S (t .within)) .1)));
+            absurd (omega (arith, t .far, ap length (from-start S k (t .within) (sym e ∙ O .exact (noted-at ns k .term) (S .slot k (t .within) .run)) .1)));
       }
 
   pub tracing-back : (count : ℕ) (path : List ℕ) (s : Step) → Tracing ws last k at (slice at count path) → o ≡ From s → at ≤ count → count ≤ length path
       → Tracing ws last (s .parent) (at - 1) (slice (at - 1) count (set path (at - 1) k))
   tracing-back count path s T e i j ns S q =
       let t = T ns S q in
-      let f : From s ≡ origin-of ws k = sym e ∙ O .exact ns S (t .within) in
+      let f : From s ≡ origin-of ws k = sym e ∙ O .exact (noted-at ns k .term) (S .slot k (t .within) .run) in
       let x = leads S k (t .within) s f .line in
       let m : suc (at - 1) ≡ at = omega arith in
       record {

@@ -10,8 +10,8 @@ use Rattle.search.specs.Line.{Line, by-result}
 use Rattle.search.specs.Slots.{Spells, origin-of, Marks}
 use Rattle.search.specs.declared.bounded_search.Step.{Step}
 use Rattle.search.specs.declared.bounded_search.Origin.the-variants.{From}
-use Rattle.search.specs.declared.bounded_search.Spot.{Spot}
-use Rattle.search.specs.declared.bounded_search.Spot.the-variants.{At, Already}
+use Rattle.search.specs.declared.results.Spot.{Spot}
+use Rattle.search.specs.declared.results.Spot.the-variants.{At, Already}
 
 -- slot k has the line x on the term t, which is noted in slot `from`
 pub record Result (t : Term) (from : ℕ) (res : List ℕ) (k : ℕ) (x : Line) : Type 0 where

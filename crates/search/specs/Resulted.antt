@@ -14,8 +14,8 @@ use Rattle.search.specs.Ordered.{Ordered}
 use Rattle.search.specs.declared.bounded_search.Step.{Step}
 
 -- the line of a step on t: one or none
-abbrev pub line-of : Step → Term → List Line
-line-of s t = map (placed t (s .place)) (at-root (subterm-at t (s .place)) (law-of (s .law)) (direction-of (s .direction)))
+abbrev pub tried-by : Step → Term → List Line
+tried-by s t = map (placed t (s .place)) (at-root (subterm-at t (s .place)) (law-of (s .law)) (direction-of (s .direction)))
 
 -- what the functions promise
 

@@ -1,5 +1,5 @@
 -- What the search answers, with the noted terms in a workspace.
-use Prim.Native.Nat.{ℕ, _+_, _-_, _*_, _/_, _≤_, _<_, min}
+use Prim.Native.Nat.{ℕ, _+_, _-_, _/_, _≤_, _<_, min}
 use mathlib.Core.Path.{_≡_}
 use mathlib.Core.Bool.{true, false}
 use mathlib.Core.List.{List, [], _∷_, _++_}
@@ -55,11 +55,11 @@ Became taken.Full slots ws ns n x t = (is-noted (x .result) ns ≡ false) × (sl
 -- of `take_result`: slot k of res has a result of a noted term, whose distance is d
 pub record Takes (ws : List ℕ) (count slots : ℕ) (res : List ℕ) (k d : ℕ) (right : List ℕ) (r : Taken) (ws′ : List ℕ) : Type 0 where
   pub room : HasRoom r count slots
-  pub exact : (ns : List Noted) (i : ℕ) (x : Line) (t : Term) → Slots ws ns → length ns ≡ count → i < count → SLOT * k + SLOT ≤ length res
-      → Result (noted-at ns i .term) i res k x → d ≡ length (noted-at ns i .trail) → IsRun right t → Became r slots ws′ ns (noted-at ns i) x t
+  pub exact : (ns : List Noted) (i : ℕ) (x : Line) (t : Term) → Slots ws ns → length ns ≡ count → i < count → Result (noted-at ns i .term) i res k x
+      → d ≡ length (noted-at ns i .trail) → IsRun right t → Became r slots ws′ ns (noted-at ns i) x t
 
 -- right is the last of the n noted terms
-pub record Reaches (slots : ℕ) (ws : List ℕ) (e n : ℕ) (o : search.Outcome) : Type 0 where
+pub record Arrives (slots : ℕ) (ws : List ℕ) (e n : ℕ) (o : search.Outcome) : Type 0 where
   pub some : 0 < n
   pub room : n ≤ slots
   pub ns : List Noted
@@ -70,7 +70,7 @@ pub record Reaches (slots : ℕ) (ws : List ℕ) (e n : ℕ) (o : search.Outcome
 -- an answer in a search to t, with so many slots, against the outcome
 abbrev pub Answers : Outcome → ℕ → List ℕ → Term → search.Outcome → Type 0
 Answers (Direct w) slots ws t o = o ≡ proved (record { law = name-of w; direction = forward; place = []; result = t } ∷ []) 0 0
-Answers (Proved e n) slots ws t o = Reaches slots ws e n o
+Answers (Proved e n) slots ws t o = Arrives slots ws e n o
 Answers (Unproved e) slots ws t o = (n : ℕ) × (n ≤ slots) × (o ≡ unproved e n)
 Answers Full slots ws t o = slots < search.noted o
 

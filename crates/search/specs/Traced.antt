@@ -47,7 +47,7 @@ line-of ws ns k = line-by (step-at ws (SLOT * k + 1)) ns (noted-at ns k .term)
 
 -- of `origin_of`
 pub record Originates (ws : List ℕ) (k : ℕ) (o : Origin) : Type 0 where
-  pub exact : (ns : List Noted) → Slots ws ns → k < length ns → o ≡ origin-of ws k
+  pub exact : (t : Term) → Spells ws k t → o ≡ origin-of ws k
 
 -- of `run_of`
 pub record Shows (ws : List ℕ) (k : ℕ) (xs : List ℕ) : Type 0 where

@@ -1,4 +1,4 @@
-// Noted terms and the results of an opened term, in slots of 40 numbers.
+// The bounded search, with the noted terms in slots of 40 numbers.
 // Of a slot, number 0 is the length of a run, 1 to 4 are its origin, 5 is its distance, and the run stands from number 8 on.
 ghost use mathlib.Core.Path.{_≡_};
 ghost use Prim.Native.Nat.{_+_, _*_, _≤_, _<_};
@@ -6,15 +6,14 @@ ghost use lib.ListN.{length};
 ghost use lib.Seq.{sets};
 ghost use Rattle.search.specs.Origins.{numbers, origin-at};
 ghost use Rattle.search.specs.Slots.{SLOT, Finds, Writes, Starts, Notes};
-ghost use Rattle.search.specs.Ordered.{Spotted, Keeps};
 ghost use Rattle.search.specs.Searched.{slots-of, Opens, Takes, Explores, Searches};
+use crate::path;
 use crate::results;
 use crate::search;
 use crate::search::Direct;
 use crate::search::Direction;
 use crate::search::Law;
 use terms::term;
-use terms::term::Comparison;
 
 pub const SLOT: usize = 40;
 
@@ -95,7 +94,7 @@ pub fn listed(ws: &[u32], count: usize, s: &[u32]) -> bool
 }
 
 // Writes a slot, up to the end of its run.
-fn write_slot(ws: &mut [u32], k: usize, s: &[u32], o: Origin, distance: u32)
+pub fn write_slot(ws: &mut [u32], k: usize, s: &[u32], o: Origin, distance: u32)
     requires { ⌜ (SLOT * k + SLOT ≤ length (now ws)) × (length (now s) ≤ 31) ⌝ }
     ensures { λ _. ⌜ Writes (now (ws .entry)) (now (ws .exit)) k (now (s .entry)) o distance ⌝ }
 {
@@ -122,51 +121,6 @@ pub fn note(ws: &mut [u32], count: usize, s: &[u32], step: Step, distance: u32)
     write_slot(ws, count, s, Origin::From(step), distance);
 }
 
-// Where a result goes among those that are in term order.
-pub enum Spot {
-    At(usize),
-    Already,
-}
-
-// The place of a run among the results in the slots that `order` names.
-fn spot_of(res: &[u32], order: &[u32], s: &[u32]) -> Spot
-    ensures { λ r. ⌜ Spotted (now (res .entry)) (now (order .entry)) (now (s .entry)) r ⌝ }
-{
-    let mut p = 0;
-    while p < order.len() {
-        let a = SLOT * (order[p] as usize);
-        if res.len() <= a {
-            return Spot::Already;
-        }
-        let n = res[a] as usize;
-        if res.len() - a < 8 + n {
-            return Spot::Already;
-        }
-        let b = a + 8;
-        match term::compare(s, &res[b..b + n]) {
-            Comparison::Less => return Spot::At(p),
-            Comparison::Equal => return Spot::Already,
-            Comparison::Greater => p += 1,
-        }
-    }
-    Spot::At(p)
-}
-
-// Puts a result among the first `count`, which are in term order, unless it is there already. An opened term has at most 620 results:
-// one for each of its 31 nodes, each law and each direction.
-pub fn keep(s: &[u32], step: Step, res: &mut [u32], order: &mut [u32], count: usize) -> usize
-    requires { ⌜ (length (now s) ≤ 31) × (SLOT * count + SLOT ≤ length (now res)) × (count < length (now order)) × (count < 620) ⌝ }
-    ensures { λ r. ⌜ Keeps (now (s .entry)) step (now (res .entry)) (now (order .entry)) (now (res .exit)) (now (order .exit)) count r ⌝ }
-{
-    let Spot::At(p) = spot_of(&res[..], &order[..count], s) else {
-        return count;
-    };
-    write_slot(res, count, s, Origin::From(step), 0);
-    let end = count + 1;
-    term::shift(&mut order[..end], p, count as u32);
-    end
-}
-
 // How far a search goes: lines in a path, size and depth of a result, terms that are opened.
 pub struct Limits {
     pub steps: usize,
@@ -177,26 +131,15 @@ pub struct Limits {
 
 // The results of the term noted in slot `i`.
 fn open_slot(ws: &[u32], i: usize, limits: Limits, res: &mut [u32], order: &mut [u32]) -> usize
-    requires { ⌜ (SLOT * i + SLOT ≤ length (now ws)) × (i < 65535) × (SLOT * 620 ≤ length (now res)) × (620 ≤ length (now order)) ⌝ }
+    requires { ⌜ (i < 65535) × (SLOT * 620 ≤ length (now res)) × (620 ≤ length (now order)) ⌝ }
     ensures { λ r. ⌜ Opens (now (ws .entry)) i limits (now (res .exit)) (now (order .exit)) r ⌝ }
 {
-    let a = SLOT * i;
-    let n = ws[a] as usize;
-    if 31 < n {
-        return 0;
-    }
-    let b = a + 8;
-    results::results_of(
-        &ws[b..b + n],
-        i as u32,
-        limits.size,
-        limits.depth,
-        res,
-        order,
-    )
+    let k = i as u32;
+    let s = path::run_of(ws, k);
+    results::results_of(s, k, limits.size, limits.depth, res, order)
 }
 
-// What became of a result.
+// What became of a result: it was noted before, or it is noted now and may be right, or no slot is left for it.
 pub enum Taken {
     Known,
     Noted,
@@ -204,7 +147,7 @@ pub enum Taken {
     Full,
 }
 
-// Takes the result in slot `k` of `res`, whose source has a distance: it is noted unless it is noted already or no slot is left.
+// Takes the result in slot `k` of `res`, whose source is at a distance: it is noted unless it is noted already or no slot is left.
 fn take_result(
     ws: &mut [u32],
     noted: usize,
@@ -217,23 +160,17 @@ fn take_result(
     requires { ⌜ (noted ≤ slots) × (SLOT * slots ≤ length (now ws)) × (distance < 4294967295) ⌝ }
     ensures { λ r. ⌜ Takes (now (ws .entry)) noted slots (now (res .entry)) k distance (now (right .entry)) r (now (ws .exit)) ⌝ }
 {
-    let a = SLOT * (k as usize);
-    if res.len() < a + SLOT {
-        return Taken::Known;
-    }
-    let n = res[a] as usize;
-    if 31 < n {
-        return Taken::Known;
-    }
-    let b = a + 8;
-    let s = &res[b..b + n];
+    let s = path::run_of(res, k);
     if listed(ws, noted, s) {
         return Taken::Known;
     }
     if slots <= noted {
         return Taken::Full;
     }
-    let Origin::From(step) = read_origin(res, a + 1) else {
+    if 31 < s.len() {
+        return Taken::Known;
+    }
+    let Origin::From(step) = path::origin_of(res, k) else {
         return Taken::Known;
     };
     note(ws, noted, s, step, distance + 1);
@@ -243,9 +180,10 @@ fn take_result(
     Taken::Noted
 }
 
+// What a search answers: the law that matches the whole equation; how many terms are opened and noted, of which right is the last; how
+// many are opened where no path is found; or that a term has no slot left.
 pub enum Outcome {
     Direct(Law),
-    // How many terms are opened and noted: right is the last that is noted.
     Proved(usize, usize),
     Unproved(usize),
     Full,

@@ -1,13 +1,17 @@
-// The results of an opened term. They stand apart from the search, which asks for them once for each term that it opens.
+// The results of an opened term, in slots like those of noted terms, and in term order. They stand apart from the search, which asks for
+// them once for each term that it opens.
 ghost use Prim.Native.Nat.{_+_, _*_, _≤_, _<_};
 ghost use lib.ListN.{length};
 ghost use Rattle.search.specs.Law.{semiring};
 ghost use Rattle.search.specs.Place.{lines-at};
 ghost use Rattle.search.specs.Bound.{BindsLaw};
 ghost use Rattle.search.specs.Slots.{SLOT};
-ghost use Rattle.search.specs.Resulted.{line-of, Adds, Resulted};
+ghost use Rattle.search.specs.Ordered.{Spotted, Keeps};
+ghost use Rattle.search.specs.Resulted.{tried-by, Adds, Resulted};
 ghost use Rattle.search.specs.declared.search.Binding.the-variants.{Bound};
 use crate::bounded_search;
+use crate::bounded_search::Origin;
+use crate::bounded_search::SLOT;
 use crate::bounded_search::Step;
 use crate::line;
 use crate::line::Filled;
@@ -15,6 +19,51 @@ use crate::search;
 use crate::search::Binding;
 use crate::search::Spans;
 use terms::term;
+use terms::term::Comparison;
+
+// Where a result goes among those that are in term order.
+pub enum Spot {
+    At(usize),
+    Already,
+}
+
+// The place of a run among the results in the slots that `order` names.
+fn spot_of(res: &[u32], order: &[u32], s: &[u32]) -> Spot
+    ensures { λ r. ⌜ Spotted (now (res .entry)) (now (order .entry)) (now (s .entry)) r ⌝ }
+{
+    let mut p = 0;
+    while p < order.len() {
+        let a = SLOT * (order[p] as usize);
+        if res.len() <= a {
+            return Spot::Already;
+        }
+        let n = res[a] as usize;
+        if res.len() - a < 8 + n {
+            return Spot::Already;
+        }
+        let b = a + 8;
+        match term::compare(s, &res[b..b + n]) {
+            Comparison::Less => return Spot::At(p),
+            Comparison::Equal => return Spot::Already,
+            Comparison::Greater => p += 1,
+        }
+    }
+    Spot::At(p)
+}
+
+// Puts a result among the first `count`, which are in term order, unless it is there already.
+fn keep(s: &[u32], step: Step, res: &mut [u32], order: &mut [u32], count: usize) -> usize
+    requires { ⌜ (length (now s) ≤ 31) × (SLOT * count + SLOT ≤ length (now res)) × (count < length (now order)) × (count < 620) ⌝ }
+    ensures { λ r. ⌜ Keeps (now (s .entry)) step (now (res .entry)) (now (order .entry)) (now (res .exit)) (now (order .exit)) count r ⌝ }
+{
+    let Spot::At(p) = spot_of(&res[..], &order[..count], s) else {
+        return count;
+    };
+    bounded_search::write_slot(res, count, s, Origin::From(step), 0);
+    let end = count + 1;
+    term::shift(&mut order[..end], p, count as u32);
+    end
+}
 
 // Keeps the line of a step whose law is bound: its result goes among the first `count`, which are in term order, if the buffer has
 // room for it and it keeps the depth.
@@ -29,7 +78,7 @@ fn keep_line(
     count: usize,
 ) -> usize
     requires { ⌜ (step .place < length (now s)) × BindsLaw (step .law) (step .direction) (now s) (step .place) (Bound z) × (length (now out) ≤ 31) × (SLOT * count + SLOT ≤ length (now res)) × (count < length (now order)) × (count < 620) ⌝ }
-    ensures { λ r. ⌜ Adds (now (s .entry)) (length (now (out .entry))) depth (step .parent) (line-of step) 1 (now (res .entry)) (now (order .entry)) count (now (res .exit)) (now (order .exit)) r ⌝ }
+    ensures { λ r. ⌜ Adds (now (s .entry)) (length (now (out .entry))) depth (step .parent) (tried-by step) 1 (now (res .entry)) (now (order .entry)) count (now (res .exit)) (now (order .exit)) r ⌝ }
 {
     let law = step.law;
     let direction = step.direction;
@@ -40,10 +89,10 @@ fn keep_line(
     if depth < term::depth(&out[..m]) {
         return count;
     }
-    bounded_search::keep(&out[..m], step, res, order, count)
+    keep(&out[..m], step, res, order, count)
 }
 
-// Tries each law at a place, forward before back.
+// Tries each law at a place, forward before back. One with a letter left unbound is passed over.
 fn lines_at(
     s: &[u32],
     place: u32,

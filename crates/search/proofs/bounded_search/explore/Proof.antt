@@ -1,22 +1,18 @@
 -- `explore` meets its contract. The outer loop's invariant: the search goes on from the `i`-th of `noted` terms. The inner loop's: since the
--- term was opened, its first `j` results are taken.
+-- term was opened-here, its first `j` results are taken.
 use Prim.Native.Nat.{_≤_, _<_, _+_, _-_, _*_}
 use native.Mathlib.Omega.{arith}
-use mathlib.Core.Path.{_≡_, refl, sym, _∙_}
+use mathlib.Core.Path.{_≡_, refl, _∙_}
 use lib.ListN.{length}
-use Rattle.search.specs.Slots.{SLOT, distance-of}
+use Rattle.search.specs.Slots.{distance-of}
 use Rattle.search.specs.declared.bounded_search.Outcome.the-variants.{Unproved}
-use Rattle.search.proofs.Searching.{Standing, Opened, Turning, starts, ends, ends-limit, ends-far, turns-start, turns-known, turns-noted, ends-proved, ends-full, turns-end}
+use Rattle.search.proofs.Searching.{Standing, Opened, Progress, starts, ends, ends-limit, ends-far, opened, progress-known, progress-noted, ends-proved, ends-full, all-taken}
 use borrow.Author.Needs.{needs}
 use Rattle.search.proofs.bounded_search.explore.Statement.{statement}
 use Rattle.search.proofs.bounded_search.explore.Tie as tie
-use Rattle.search.proofs.bounded_search.explore.Reads as reads
-use Rattle.search.proofs.bounded_search.explore.Lts as lts
-use Rattle.search.proofs.bounded_search.open_slot.Reads as open-slot-reads
-use Rattle.search.proofs.bounded_search.take_result.Reads as take-result-reads
 
 abbrev Inv-loop : tie.InvT-loop
-Inv-loop right limits ws₀ slots res order noted₀ i distance count j₀ ws noted j = (j ≤ count) × (i < noted) × (noted ≤ slots) × (length ws ≡ length ws₀) × Turning right limits i distance res order count ws₀ noted₀ ws noted j
+Inv-loop right limits ws₀ slots res order noted₀ i distance count j₀ ws noted j = (j ≤ count) × (i < noted) × (noted ≤ slots) × (length ws ≡ length ws₀) × Progress right limits i distance res order count ws₀ noted₀ ws noted j
 
 abbrev μ-loop : tie.MeasureT-loop
 μ-loop right limits ws₀ slots res order noted₀ i distance count j₀ ws noted j = count - j
@@ -29,21 +25,21 @@ abbrev μ-outer : tie.MeasureT-outer
 
 -- at the inner loop: the term that is open, and the room that its results have
 module _ (c : tie.At-loop Inv-loop μ-loop Inv-outer μ-outer) where
-  opened :
+  opened-here :
       let o = c .before .before .before .before .before .before .before .before .before .before .before .before .before .before .before .outer in
       let a = c .before .before .before .before .before .before .before .before .before .before .before .before .before .before .before .before .before .before .before .before .args in
       let e = c .before .before .before .before .before .open-slot in
       Opened (a .right .now) (a .limits) (a .ws .now) (o .ws) (o .noted) (o .i) (distance-of (o .ws) (o .i)) (e .last .1 .1 .1 .0) (e .last .1 .1 .1 .1 .0) (e .result)
-  opened =
+  opened-here =
       let o = c .before .before .before .before .before .before .before .before .before .before .before .before .before .before .before .outer in
-      turns-start (o .inv .6) (o .inv .1) (c .before .before .before .before .before .before .before .before .before .before .before .before .before .before .outer-test .taken) (omega (arith, c .before .before .before .before .before .before .before .before .before .before .before .before .if1 .left)) (omega (arith, c .before .before .before .before .before .before .before .before .before .if2 .left)) (c .before .before .before .before .before .open-slot .ensures)
+      opened (o .inv .6) (o .inv .1) (c .before .before .before .before .before .before .before .before .before .before .before .before .before .before .outer-test .taken) (omega (arith, c .before .before .before .before .before .before .before .before .before .before .before .before .if1 .left)) (omega (arith, c .before .before .before .before .before .before .before .before .before .if2 .left)) (c .before .before .before .before .before .open-slot .ensures)
 
-  room : let e = c .before .before .before .before .before .open-slot in (e .result ≤ length (e .last .1 .1 .1 .1 .0)) × (SLOT * e .result ≤ length (e .last .1 .1 .1 .0))
+  room : let e = c .before .before .before .before .before .open-slot in e .result ≤ length (e .last .1 .1 .1 .1 .0)
   room =
       let o = c .before .before .before .before .before .before .before .before .before .before .before .before .before .before .before .outer in
       let p = c .before .before .before .before .before .before .before .before .before .before .before .before .before .before .before .before .before .before .before .before .pre in
       let e = c .before .before .before .before .before .open-slot in
-      (omega (arith, e .ensures .few, e .kept .1 .1 .1 .1 .0, o .inv .4, p .4), omega (arith, e .ensures .few, e .kept .1 .1 .1 .0, o .inv .3, p .3))
+      omega (arith, e .ensures .few, e .kept .1 .1 .1 .1 .0, o .inv .4, p .4)
 
 outer-holds : tie.Need-outer-holds Inv-loop μ-loop Inv-outer μ-outer
 outer-holds c = search (starts, needs)
@@ -96,7 +92,7 @@ loop-again c =
       v .inv .1,
       v .inv .2,
       f .kept .0 ∙ v .inv .3,
-      turns-known (v .inv .1) (c .before .before .before .before .before .before .before .before .loop-test .taken) (room l .0) (room l .1) (f .ensures) (v .inv .4) (c .enum-told .given .1),
+      progress-known (v .inv .1) (c .before .before .before .before .before .before .before .before .loop-test .taken) (room l) (f .ensures) (v .inv .4) (c .enum-told .given .1),
     )
 
 enum-told-2 : tie.Need-enum-told-2 Inv-loop μ-loop Inv-outer μ-outer
@@ -117,7 +113,7 @@ loop-again-2 c =
       omega (arith, v .inv .1),
       omega (arith, (rw (c .enum-told2 .given .1) at (f .ensures)) .room),
       f .kept .0 ∙ v .inv .3,
-      turns-noted (v .inv .1) (c .before .before .before .before .before .before .before .before .loop-test .taken) (room l .0) (room l .1) (f .ensures) (v .inv .4) (c .enum-told2 .given .1),
+      progress-noted (v .inv .1) (c .before .before .before .before .before .before .before .before .loop-test .taken) (room l) (f .ensures) (v .inv .4) (c .enum-told2 .given .1),
     )
 
 enum-told-3 : tie.Need-enum-told-3 Inv-loop μ-loop Inv-outer μ-outer
@@ -150,7 +146,7 @@ outer-again c =
       e .kept .1 .1 .1 .0 ∙ o .inv .3,
       e .kept .1 .1 .1 .1 .0 ∙ o .inv .4,
       refl,
-      turns-end (v .inv .4) (opened l) (omega (arith, c .loop-test .left)) (room l .0),
+      all-taken (v .inv .4) (opened-here l) (omega (arith, c .loop-test .left)) (room l),
     )
 
 same-length : tie.Need-same-length Inv-loop μ-loop Inv-outer μ-outer
@@ -203,7 +199,7 @@ returns-4 c =
     let f = c .before .before .before .before .take-result in
     let l = c .before .before .before .before .before .before .before .before .before in
     let v = l .loop in
-    ends-proved (v .inv .1) (c .before .before .before .before .before .before .before .before .loop-test .taken) (room l .0) (room l .1) (f .ensures) (v .inv .4) (opened l) (c .enum-told3 .given .1)
+    ends-proved (v .inv .1) (c .before .before .before .before .before .before .before .before .loop-test .taken) (room l) (f .ensures) (v .inv .4) (opened-here l) (c .enum-told3 .given .1)
 
 same-length-13 : tie.Need-same-length-13 Inv-loop μ-loop Inv-outer μ-outer
 same-length-13 c = search needs
@@ -219,7 +215,7 @@ returns-5 c =
     let f = c .before .before .before .before .take-result in
     let l = c .before .before .before .before .before .before .before .before .before in
     let v = l .loop in
-    ends-full (v .inv .1) (c .before .before .before .before .before .before .before .before .loop-test .taken) (room l .0) (room l .1) (f .ensures) (v .inv .4) (opened l) (c .enum-told4 .given .1)
+    ends-full (v .inv .1) (c .before .before .before .before .before .before .before .before .loop-test .taken) (room l) (f .ensures) (v .inv .4) (opened-here l) (c .enum-told4 .given .1)
 
 pub explore-spec : {M : Type 1} → statement M
 explore-spec =

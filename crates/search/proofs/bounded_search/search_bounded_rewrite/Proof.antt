@@ -5,12 +5,6 @@ use Rattle.search.proofs.Answering.{searches-direct, searches-none, sea
 use borrow.Author.Needs.{needs}
 use Rattle.search.proofs.bounded_search.search_bounded_rewrite.Statement.{statement}
 use Rattle.search.proofs.bounded_search.search_bounded_rewrite.Tie as tie
-use Rattle.search.proofs.bounded_search.search_bounded_rewrite.Reads as reads
-use Rattle.search.proofs.bounded_search.search_bounded_rewrite.Lts as lts
-use Rattle.search.proofs.bounded_search.explore.Reads as explore-reads
-use Rattle.search.proofs.bounded_search.note_start.Reads as note-start-reads
-use Rattle.search.proofs.bounded_search.slots_of.Reads as slots-of-reads
-use Rattle.search.proofs.search.search_direct_axiom.Reads as search-direct-axiom-reads
 
 search-direct-axiom-requires : tie.Need-search-direct-axiom-requires
 search-direct-axiom-requires c κs = search needs

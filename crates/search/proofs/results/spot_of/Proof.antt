@@ -5,8 +5,8 @@ use lib.ListN.{length, getD}
 use Rattle.search.specs.Slots.{SLOT}
 use Rattle.search.proofs.Sorting.{Seeking, seeking-starts, spot-outside, spot-cut, Tells, tells, spot-end}
 use borrow.Author.Needs.{needs}
-use Rattle.search.proofs.bounded_search.spot_of.Statement.{statement}
-use Rattle.search.proofs.bounded_search.spot_of.Tie as tie
+use Rattle.search.proofs.results.spot_of.Statement.{statement}
+use Rattle.search.proofs.results.spot_of.Tie as tie
 
 abbrev Inv-loop : tie.InvT-loop
 Inv-loop res order s p₀ p = (p ≤ length order) × Seeking res order s p

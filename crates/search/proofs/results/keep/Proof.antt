@@ -3,8 +3,8 @@ use native.Mathlib.Omega.{arith}
 use lib.ListN.{length-take}
 use Rattle.search.proofs.Keeping.{keeps-already, keeps-more}
 use borrow.Author.Needs.{needs}
-use Rattle.search.proofs.bounded_search.keep.Statement.{statement}
-use Rattle.search.proofs.bounded_search.keep.Tie as tie
+use Rattle.search.proofs.results.keep.Statement.{statement}
+use Rattle.search.proofs.results.keep.Tie as tie
 
 slice-reshare-prefix-spot-of : tie.Need-slice-reshare-prefix-spot-of
 slice-reshare-prefix-spot-of c = search needs

@@ -1,0 +1,2 @@
+-- What the bench is told of an outcome.
+pub mod Told
