@@ -3,7 +3,7 @@ use Prim.Native.Nat.{ℕ, _≤_}
 use Prim.Native.String.{String}
 use mathlib.Core.Path.{_≡_}
 use mathlib.Core.Option.{some}
-use mathlib.Core.List.{List}
+use mathlib.Core.List.{List, map}
 use lib.ListN.{length}
 use Rattle.terms.specs.Lists.{_∈_}
 use Rattle.terms.specs.Compare.{lt}
@@ -17,6 +17,7 @@ use Rattle.text.specs.Bytes.{number, read-number}
 use Rattle.text.specs.TermText.{read-term, write-term}
 use Rattle.text.specs.Answer.{accepted, field}
 use Rattle.text.specs.Job.{Job, read-job}
+use Rattle.text.specs.StepText.{read-steps}
 use Rattle.text.specs.Find.{outcome-lines, outcome-text}
 
 -- one of the lines has this key and number, and the number reads back
@@ -43,8 +44,9 @@ pub record Answered (job : List ℕ) (slots room : ℕ) (t : List ℕ) : Type 0 
   pub steps : (xs : List Line) (e n : ℕ) → outcome ≡ proved xs e n → Reports (outcome-lines semiring read outcome) "steps=" (length xs)
   -- every answer, proved or none, reports the number opened
   pub opened : Reports (outcome-lines semiring read outcome) "expanded=" (expanded outcome)
-  -- the sides, and the results of a path's lines, read back
+  -- the sides read back
   pub sides : Legible (read .left) × Legible (read .right)
-  pub results : (xs : List Line) (e n : ℕ) → outcome ≡ proved xs e n → (x : Line) → x ∈ xs → Legible (x .result)
+  -- the path of a proved answer is the one that the `step=` lines of the text tell, in order
+  pub path : (xs : List Line) (e n : ℕ) → outcome ≡ proved xs e n → read-steps semiring t ≡ map some xs
   -- path, ends, fewest lines, number opened, and when a path is returned
   pub claims : Claims semiring (List Word) words (read .limits) (read .left) (read .right)

@@ -1,8 +1,9 @@
 -- What a call of an entry returns and leaves in each buffer that it is lent, and what the program prints.
-use Prim.Native.Nat.{ℕ, _+_, _/_, _≤_, min}
+use Prim.Native.Nat.{ℕ, _+_, _≤_}
 use mathlib.Core.Path.{_≡_}
 use mathlib.Core.List.{List, _++_}
 use lib.ListN.{length, drop}
+use Rattle.search.specs.Searched.{slots-of}
 use Rattle.text.specs.Bytes.{ascii, number}
 use Rattle.text.specs.Answer.{Answer, refused, accepted, field}
 use Rattle.text.specs.Find.{find}
@@ -13,22 +14,18 @@ returned (refused n) = n
 returned (accepted t) = 100 + length t
 
 -- a refusal leaves the output untouched; an answer fills the front, and the rest keeps its bytes
-abbrev pub left-in : List ℕ → Answer (List ℕ) → List ℕ
-left-in out (refused n) = out
-left-in out (accepted t) = t ++ drop (length t) out
+abbrev pub output-after : List ℕ → Answer (List ℕ) → List ℕ
+output-after out (refused n) = out
+output-after out (accepted t) = t ++ drop (length t) out
 
 -- a call that gives an answer: its number r, and the output before and after it
-pub record Gives (answer : Answer (List ℕ)) (out : List ℕ) (r : ℕ) (out′ : List ℕ) : Type 0 where
+pub record Call (answer : Answer (List ℕ)) (out : List ℕ) (r : ℕ) (out′ : List ℕ) : Type 0 where
   pub number : r ≡ returned answer
-  pub output : out′ ≡ left-in out answer
+  pub output : out′ ≡ output-after out answer
 
--- 40 numbers to a slot, at most 65,535 whole slots used
-abbrev pub slots : List ℕ → ℕ
-slots work = min 65535 (length work / 40)
-
--- a call of FIND; refusals 1 to 6 leave the workspace too
-pub record Finds (job out work : List ℕ) (r : ℕ) (out′ work′ : List ℕ) : Type 0 where
-  pub gives : Gives (find job (slots work) (length out)) out r out′
+-- a call of FIND; 40 numbers to a slot, at most 65,535 whole slots used (`slots-of`); refusals 1 to 6 leave the workspace too
+pub record FindCall (job out work : List ℕ) (r : ℕ) (out′ work′ : List ℕ) : Type 0 where
+  pub call : Call (find job (slots-of (length work)) (length out)) out r out′
   pub workspace : r ≤ 6 → work′ ≡ work
 
 -- a program prints the answer, or `answer=refused` and `number=N`
