@@ -92,7 +92,7 @@ fn keep_line(
     keep(&out[..m], step, res, order, count)
 }
 
-// Tries each law at a place, forward before back.
+// Tries each law at a place, forward before back. One with a letter left unbound is passed over.
 fn lines_at(
     s: &[u32],
     place: u32,
