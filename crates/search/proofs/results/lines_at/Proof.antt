@@ -10,7 +10,9 @@ use Rattle.search.proofs.results.lines_at.Statement.{statement}
 use Rattle.search.proofs.results.lines_at.Tie as tie
 
 abbrev Inv-loop : tie.InvT-loop
-Inv-loop s place parent depth out₀ res₀ order₀ count kept₀ n₀ out res order kept n = (n ≤ 10) × (length out ≡ length out₀) × (length res ≡ length res₀) × (length order ≡ length order₀) × Adds s (length out₀) depth parent (first-laws place n) (2 * n) res₀ order₀ count res order kept
+Inv-loop s place parent depth out₀ res₀ order₀ count kept₀ n₀ out res order kept n =
+    (n ≤ 10) × (length out ≡ length out₀) × (length res ≡ length res₀) × (length order ≡ length order₀)
+    × Adds s (length out₀) depth parent (first-laws place n) (2 * n) res₀ order₀ count res order kept
 
 abbrev μ-loop : tie.MeasureT-loop
 μ-loop s place parent depth out₀ res₀ order₀ count kept₀ n₀ out res order kept n = 10 - n
@@ -35,17 +37,20 @@ loop-less c = search needs
 
 loop-again : tie.Need-loop-again Inv-loop μ-loop
 loop-again c =
-    let f = c .before .before .before .before .before .before .before .before .before .before .before .before .before .before .before .before .try-line in
-    let l = c .before .before .before .before .before .before .before .before .before .before .before .before .before .before .before .before .before .before .before .before .before .before in
-    let g = c .before .before .before .before .before .before .try-line2 in
-    let a = c .before .before .before .before .before .before .before .before .before .before .before .before .before .before .before .before .before .before .before .before .before .before .before .before .before .before .before .args in
-    let h = c .before .before .before .before .before .before .before .before .before .before .before .before .before .before .before .before .before .before .before .before .before .loop-test .taken in
-    let w = c .before .before .before .before .before .before .before .before .before .before .before .before .before .before .before .before .before .before .before .before .law-of in (
+    let b = c .before .before .before .before .before .before in
+    let f = b .before .before .before .before .before .before .before .before .before .before in
+    let w = f .before .before .before .before in
+    let q = w .before in
+    let l = q .before in
+    let v = l .loop in
+    let h = q .loop-test .taken in
+    let e = f .try-line .kept .1 .1 .1 in
+    let d = b .try-line2 .kept .1 .1 .1 in (
       omega (arith, h),
-      g .kept .1 .1 .1 .0 ∙ f .kept .1 .1 .1 .0 ∙ l .loop .inv .1,
-      g .kept .1 .1 .1 .1 .0 ∙ f .kept .1 .1 .1 .1 .0 ∙ l .loop .inv .2,
-      g .kept .1 .1 .1 .1 .1 .0 ∙ f .kept .1 .1 .1 .1 .1 .0 ∙ l .loop .inv .3,
-      laws-more (a .place) (l .loop .n) (l .loop .inv .4) h (w .result) (w .ensures) (l .loop .inv .1) (f .kept .1 .1 .1 .0 ∙ l .loop .inv .1) (f .ensures) (g .ensures),
+      d .0 ∙ e .0 ∙ v .inv .1,
+      d .1 .0 ∙ e .1 .0 ∙ v .inv .2,
+      d .1 .1 .0 ∙ e .1 .1 .0 ∙ v .inv .3,
+      laws-more (l .before .before .before .before .before .args .place) (v .n) (v .inv .4) h (w .law-of .result) (w .law-of .ensures) (v .inv .1) (e .0 ∙ v .inv .1) (f .try-line .ensures) (b .try-line2 .ensures),
     )
 
 same-length : tie.Need-same-length Inv-loop μ-loop

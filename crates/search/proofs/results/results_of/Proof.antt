@@ -12,7 +12,9 @@ use Rattle.search.proofs.results.results_of.Statement.{statement}
 use Rattle.search.proofs.results.results_of.Tie as tie
 
 abbrev Inv-loop : tie.InvT-loop
-Inv-loop s parent size depth res₀ order₀ out₀ count₀ i₀ res order out count i = (i ≤ length s) × (length res ≡ length res₀) × (length order ≡ length order₀) × (length out ≡ 31) × Adds s size depth parent (first-places i) (20 * i) res₀ order₀ 0 res order count
+Inv-loop s parent size depth res₀ order₀ out₀ count₀ i₀ res order out count i =
+    (i ≤ length s) × (length res ≡ length res₀) × (length order ≡ length order₀) × (length out ≡ 31)
+    × Adds s size depth parent (first-places i) (20 * i) res₀ order₀ 0 res order count
 
 abbrev μ-loop : tie.MeasureT-loop
 μ-loop s parent size depth res₀ order₀ out₀ count₀ i₀ res order out count i = length s - i
@@ -46,14 +48,17 @@ loop-less c = search needs
 
 loop-again : tie.Need-loop-again Inv-loop μ-loop
 loop-again c =
-    let l = c .before .before .before .before .before .before .before .before .before .before .loop in
-    let f = c .before .before .before .before .before .lines-at in
-    let a = c .before .before .before .before .before .before .before .before .before .before .before .before .before .before .before .before .args in
+    let b = c .before .before .before .before .before in
+    let q = b .before .before .before .before .before in
+    let l = q .loop in
+    let a = q .before .before .before .before .before .before .args in
+    let f = b .lines-at in
+    let d = f .kept .1 .1 .1 .1 in
     let e : length (take (a .size) (l .out)) ≡ a .size = length-take-le (a .size) (l .out) (omega arith) in (
       omega arith,
-      f .kept .1 .1 .1 .1 .1 .0 ∙ l .inv .1,
-      f .kept .1 .1 .1 .1 .1 .1 .0 ∙ l .inv .2,
-      length-front (l .out) (f .last .1 .1 .1 .1 .0) (a .size) (f .kept .1 .1 .1 .1 .0) ∙ l .inv .3,
+      d .1 .0 ∙ l .inv .1,
+      d .1 .1 .0 ∙ l .inv .2,
+      length-front (l .out) (f .last .1 .1 .1 .1 .0) (a .size) (d .0) ∙ l .inv .3,
       places-more (l .i) (l .inv .4) e (f .ensures),
     )
 
