@@ -64,7 +64,7 @@ pub extern "C" fn bench_search(
     nodes: u32,
     ws: &mut [u32],
 ) -> usize
-    ensures { λ r. ⌜ ((o : Outcome) × (r ≡ told o) × Searches (now (left .entry)) (now (right .entry)) (record { steps = steps; size = size; depth = depth; nodes = nodes }) (now (ws .exit)) o) ⌝ }
+    ensures { λ r. ⌜ ((o : Outcome) × (r ≡ told o) × Searches (now (left .entry)) (now (right .entry)) (record { steps = steps; size = size; depth = depth; nodes = nodes }) (now (ws .entry)) (now (ws .exit)) o) ⌝ }
 {
     let limits = Limits {
         steps: steps as usize,

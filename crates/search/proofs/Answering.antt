@@ -20,24 +20,24 @@ use Rattle.search.specs.declared.bounded_search.Outcome.the-variants.{Di
 use Rattle.search.proofs.Running.{run-grows, search-direct, search-begun}
 
 module _ {left right : List ℕ} {m : Limits} {f : found.Direct} (D : Directs left right f) where
-  pub searches-direct : {ws : List ℕ} {w : Law} → f ≡ By w → Searches left right m ws (Direct w)
+  pub searches-direct : {ws ws′ : List ℕ} {w : Law} → f ≡ By w → Searches left right m ws ws′ (Direct w)
   searches-direct {w = w} e =
       record { exact = λ s t hs ht p q k. search-direct (limits-of m) s t (name-of w) (sym (D .exact s t hs ht p q) ∙ ap direct-name e) }
 
   module _ (e : f ≡ Nothing) where
     -- left is noted in any case
-    pub searches-none : {ws : List ℕ} → slots-of (length ws) ≡ 0 → Searches left right m ws Full
-    searches-none h =
+    pub searches-none : {slots : ℕ} {ws ws′ : List ℕ} → slots ≡ slots-of (length ws) → slots ≡ 0 → Searches left right m ws ws′ Full
+    searches-none c h =
         record {
           exact = λ s t hs ht p q k.
               rw (search-begun (limits-of m) s t (sym (D .exact s t hs ht p q) ∙ ap direct-name e))
               (omega (arith, run-grows (results semiring (limits-of m)) (m .steps) t (m .nodes) 0 (record { term = s; trail = [] } ∷ [])));
         }
 
-    pub searches-long : {ws : List ℕ} → 31 < length left → Searches left right m ws Full
+    pub searches-long : {ws ws′ : List ℕ} → 31 < length left → Searches left right m ws ws′ Full
     searches-long h = record { exact = λ s t hs ht p q k. absurd (omega (arith, size-of hs)) }
 
-    pub searches : {slots : ℕ} {ws₁ ws′ : List ℕ} {r : Outcome} → slots ≡ slots-of (length ws′) → Starts ws₁ left → Explores right m slots ws₁ ws′ r → Searches left right m ws′ r
+    pub searches : {slots : ℕ} {ws ws₁ ws′ : List ℕ} {r : Outcome} → slots ≡ slots-of (length ws) → Starts ws₁ left → Explores right m slots ws₁ ws′ r → Searches left right m ws ws′ r
     searches c S E =
         record {
           exact = λ s t hs ht p q k.

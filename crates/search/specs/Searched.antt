@@ -81,6 +81,6 @@ pub record Explores (right : List ℕ) (m : Limits) (slots : ℕ) (ws ws′ : Li
       → Answers r slots ws′ s t (begun (limits-of m) s t)
 
 -- of `search_bounded_rewrite`
-pub record Searches (left right : List ℕ) (m : Limits) (ws : List ℕ) (r : Outcome) : Type 0 where
+pub record Searches (left right : List ℕ) (m : Limits) (ws ws′ : List ℕ) (r : Outcome) : Type 0 where
   pub exact : (s t : Term) → IsRun left s → IsRun right t → size s ≤ 31 → size t ≤ 31 → m .size ≤ 31
-      → Answers r (slots-of (length ws)) ws s t (search.search semiring (limits-of m) s t)
+      → Answers r (slots-of (length ws)) ws′ s t (search.search semiring (limits-of m) s t)

@@ -257,7 +257,7 @@ pub fn search_bounded_rewrite(
     ws: &mut [u32],
 ) -> Outcome
     requires { ⌜ limits .steps ≤ 4294967295 ⌝ }
-    ensures { λ r. ⌜ Searches (now (left .entry)) (now (right .entry)) limits (now (ws .exit)) r ⌝ }
+    ensures { λ r. ⌜ Searches (now (left .entry)) (now (right .entry)) limits (now (ws .entry)) (now (ws .exit)) r ⌝ }
 {
     let direct = search::search_direct_axiom(left, right);
     if let Direct::By(law) = direct {

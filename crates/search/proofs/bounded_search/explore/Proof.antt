@@ -1,5 +1,5 @@
--- `explore` meets its contract. The outer loop's invariant: the search goes on from the `i`-th of `noted` terms. The inner loop's: since the
--- term was opened-here, its first `j` results are taken.
+-- `explore` meets its contract. The outer loop's invariant: the search goes on from the `i`-th of `noted` terms. The inner loop's: of the
+-- term that is open, the first `j` results are taken.
 use Prim.Native.Nat.{_≤_, _<_, _+_, _-_, _*_}
 use native.Mathlib.Omega.{arith}
 use mathlib.Core.Path.{_≡_, refl, _∙_}
@@ -12,13 +12,17 @@ use Rattle.search.proofs.bounded_search.explore.Statement.{statement}
 use Rattle.search.proofs.bounded_search.explore.Tie as tie
 
 abbrev Inv-loop : tie.InvT-loop
-Inv-loop right limits ws₀ slots res order noted₀ i distance count j₀ ws noted j = (j ≤ count) × (i < noted) × (noted ≤ slots) × (length ws ≡ length ws₀) × Progress right limits i distance res order count ws₀ noted₀ ws noted j
+Inv-loop right limits ws₀ slots res order noted₀ i distance count j₀ ws noted j =
+    (j ≤ count) × (i < noted) × (noted ≤ slots) × (length ws ≡ length ws₀)
+    × Progress right limits i distance res order count ws₀ noted₀ ws noted j
 
 abbrev μ-loop : tie.MeasureT-loop
 μ-loop right limits ws₀ slots res order noted₀ i distance count j₀ ws noted j = count - j
 
 abbrev Inv-outer : tie.InvT-outer
-Inv-outer right limits ws₀ slots res₀ order₀ outcome₀ noted₀ i₀ ws res order outcome noted i = (i ≤ noted) × (noted ≤ slots) × (length ws ≡ length ws₀) × (length res ≡ length res₀) × (length order ≡ length order₀) × (outcome ≡ Unproved i) × Standing right limits ws₀ ws noted i
+Inv-outer right limits ws₀ slots res₀ order₀ outcome₀ noted₀ i₀ ws res order outcome noted i =
+    (i ≤ noted) × (noted ≤ slots) × (length ws ≡ length ws₀) × (length res ≡ length res₀) × (length order ≡ length order₀) × (outcome ≡ Unproved i)
+    × Standing right limits ws₀ ws noted i
 
 abbrev μ-outer : tie.MeasureT-outer
 μ-outer right limits ws₀ slots res₀ order₀ outcome₀ noted₀ i₀ ws res order outcome noted i = slots - i
@@ -26,20 +30,26 @@ abbrev μ-outer : tie.MeasureT-outer
 -- at the inner loop: the term that is open, and the room that its results have
 module _ (c : tie.At-loop Inv-loop μ-loop Inv-outer μ-outer) where
   opened-here :
-      let o = c .before .before .before .before .before .before .before .before .before .before .before .before .before .before .before .outer in
-      let a = c .before .before .before .before .before .before .before .before .before .before .before .before .before .before .before .before .before .before .before .before .args in
-      let e = c .before .before .before .before .before .open-slot in
+      let s = c .before .before .before .before .before in
+      let b = s .before .before .before .before .before .before .before .before .before .before in
+      let a = b .before .before .before .before .before .args in
+      let e = s .open-slot in
+      let o = b .outer in
       Opened (a .right .now) (a .limits) (a .ws .now) (o .ws) (o .noted) (o .i) (distance-of (o .ws) (o .i)) (e .last .1 .1 .1 .0) (e .last .1 .1 .1 .1 .0) (e .result)
   opened-here =
-      let o = c .before .before .before .before .before .before .before .before .before .before .before .before .before .before .before .outer in
-      opened (o .inv .6) (o .inv .1) (c .before .before .before .before .before .before .before .before .before .before .before .before .before .before .outer-test .taken) (omega (arith, c .before .before .before .before .before .before .before .before .before .before .before .before .if1 .left)) (omega (arith, c .before .before .before .before .before .before .before .before .before .if2 .left)) (c .before .before .before .before .before .open-slot .ensures)
+      let s = c .before .before .before .before .before in
+      let far = s .before .before .before .before in
+      let limit = far .before .before .before in
+      let b = limit .before .before in
+      let o = b .before .outer in
+      opened (o .inv .6) (o .inv .1) (b .outer-test .taken) (omega (arith, limit .if1 .left)) (omega (arith, far .if2 .left)) (s .open-slot .ensures)
 
   room : let e = c .before .before .before .before .before .open-slot in e .result ≤ length (e .last .1 .1 .1 .1 .0)
   room =
-      let o = c .before .before .before .before .before .before .before .before .before .before .before .before .before .before .before .outer in
-      let p = c .before .before .before .before .before .before .before .before .before .before .before .before .before .before .before .before .before .before .before .before .pre in
-      let e = c .before .before .before .before .before .open-slot in
-      omega (arith, e .ensures .few, e .kept .1 .1 .1 .1 .0, o .inv .4, p .4)
+      let s = c .before .before .before .before .before in
+      let b = s .before .before .before .before .before .before .before .before .before .before in
+      let e = s .open-slot in
+      omega (arith, e .ensures .few, e .kept .1 .1 .1 .1 .0, b .outer .inv .4, b .before .before .before .before .before .pre .4)
 
 outer-holds : tie.Need-outer-holds Inv-loop μ-loop Inv-outer μ-outer
 outer-holds c = search (starts, needs)
@@ -85,14 +95,15 @@ loop-less c = search needs
 
 loop-again : tie.Need-loop-again Inv-loop μ-loop Inv-outer μ-outer
 loop-again c =
-    let f = c .before .before .before .before .take-result in
-    let l = c .before .before .before .before .before .before .before .before .before in
+    let f = c .before .before .before .before in
+    let h = f .before .before .before .before in
+    let l = h .before in
     let v = l .loop in (
-      omega (arith, c .before .before .before .before .before .before .before .before .loop-test .taken),
+      omega (arith, h .loop-test .taken),
       v .inv .1,
       v .inv .2,
-      f .kept .0 ∙ v .inv .3,
-      progress-known (v .inv .1) (c .before .before .before .before .before .before .before .before .loop-test .taken) (room l) (f .ensures) (v .inv .4) (c .enum-told .given .1),
+      f .take-result .kept .0 ∙ v .inv .3,
+      progress-known (v .inv .1) (h .loop-test .taken) (room l) (f .take-result .ensures) (v .inv .4) (c .enum-told .given .1),
     )
 
 enum-told-2 : tie.Need-enum-told-2 Inv-loop μ-loop Inv-outer μ-outer
@@ -106,14 +117,15 @@ loop-less-2 c = search needs
 
 loop-again-2 : tie.Need-loop-again-2 Inv-loop μ-loop Inv-outer μ-outer
 loop-again-2 c =
-    let f = c .before .before .before .before .take-result in
-    let l = c .before .before .before .before .before .before .before .before .before in
+    let f = c .before .before .before .before in
+    let h = f .before .before .before .before in
+    let l = h .before in
     let v = l .loop in (
-      omega (arith, c .before .before .before .before .before .before .before .before .loop-test .taken),
+      omega (arith, h .loop-test .taken),
       omega (arith, v .inv .1),
-      omega (arith, (rw (c .enum-told2 .given .1) at (f .ensures)) .room),
-      f .kept .0 ∙ v .inv .3,
-      progress-noted (v .inv .1) (c .before .before .before .before .before .before .before .before .loop-test .taken) (room l) (f .ensures) (v .inv .4) (c .enum-told2 .given .1),
+      omega (arith, (rw (c .enum-told2 .given .1) at (f .take-result .ensures)) .room),
+      f .take-result .kept .0 ∙ v .inv .3,
+      progress-noted (v .inv .1) (h .loop-test .taken) (room l) (f .take-result .ensures) (v .inv .4) (c .enum-told2 .given .1),
     )
 
 enum-told-3 : tie.Need-enum-told-3 Inv-loop μ-loop Inv-outer μ-outer
@@ -138,8 +150,9 @@ outer-again : tie.Need-outer-again Inv-loop μ-loop Inv-outer μ-outer
 outer-again c =
     let l = c .before in
     let v = l .loop in
-    let o = l .before .before .before .before .before .before .before .before .before .before .before .before .before .before .before .outer in
-    let e = l .before .before .before .before .before .open-slot in (
+    let s = l .before .before .before .before .before in
+    let e = s .open-slot in
+    let o = s .before .before .before .before .before .before .before .before .before .before .outer in (
       omega (arith, v .inv .1),
       v .inv .2,
       v .inv .3 ∙ o .inv .2,
@@ -196,10 +209,11 @@ same-length-12 c = search needs
 
 returns-4 : tie.Need-returns-4 Inv-loop μ-loop Inv-outer μ-outer
 returns-4 c =
-    let f = c .before .before .before .before .take-result in
-    let l = c .before .before .before .before .before .before .before .before .before in
+    let f = c .before .before .before .before in
+    let h = f .before .before .before .before in
+    let l = h .before in
     let v = l .loop in
-    ends-proved (v .inv .1) (c .before .before .before .before .before .before .before .before .loop-test .taken) (room l) (f .ensures) (v .inv .4) (opened-here l) (c .enum-told3 .given .1)
+    ends-proved (v .inv .1) (h .loop-test .taken) (room l) (f .take-result .ensures) (v .inv .4) (opened-here l) (c .enum-told3 .given .1)
 
 same-length-13 : tie.Need-same-length-13 Inv-loop μ-loop Inv-outer μ-outer
 same-length-13 c = search needs
@@ -212,10 +226,11 @@ same-length-15 c = search needs
 
 returns-5 : tie.Need-returns-5 Inv-loop μ-loop Inv-outer μ-outer
 returns-5 c =
-    let f = c .before .before .before .before .take-result in
-    let l = c .before .before .before .before .before .before .before .before .before in
+    let f = c .before .before .before .before in
+    let h = f .before .before .before .before in
+    let l = h .before in
     let v = l .loop in
-    ends-full (v .inv .1) (c .before .before .before .before .before .before .before .before .loop-test .taken) (room l) (f .ensures) (v .inv .4) (opened-here l) (c .enum-told4 .given .1)
+    ends-full (v .inv .1) (h .loop-test .taken) (room l) (f .take-result .ensures) (v .inv .4) (opened-here l) (c .enum-told4 .given .1)
 
 pub explore-spec : {M : Type 1} → statement M
 explore-spec =

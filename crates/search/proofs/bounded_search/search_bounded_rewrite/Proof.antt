@@ -1,6 +1,4 @@
 -- `search_bounded_rewrite` meets its contract: a law for each way out.
-use mathlib.Core.Path.{sym, ap, _∙_}
-use Rattle.search.specs.Searched.{slots-of}
 use Rattle.search.proofs.Answering.{searches-direct, searches-none, searches-long, searches}
 use borrow.Author.Needs.{needs}
 use Rattle.search.proofs.bounded_search.search_bounded_rewrite.Statement.{statement}
@@ -13,7 +11,7 @@ enum-known-direct : tie.Need-enum-known-direct
 enum-known-direct c = search needs
 
 returns : tie.Need-returns
-returns c = searches-direct (c .before .before .before .search-direct-axiom .ensures) (c .before .direct .given .1)
+returns c = search (searches-direct, needs)
 
 enum-told : tie.Need-enum-told
 enum-told c = search needs
@@ -22,10 +20,10 @@ slots-of-requires : tie.Need-slots-of-requires
 slots-of-requires c κs = search needs
 
 returns-2 : tie.Need-returns-2
-returns-2 c = searches-none (c .before .before .before .before .search-direct-axiom .ensures) (c .before .before .enum-told .given .1) (sym (c .before .slots-of .ensures) ∙ c .if1 .taken)
+returns-2 c = search (searches-none, needs)
 
 returns-3 : tie.Need-returns-3
-returns-3 c = searches-long (c .before .before .before .before .before .search-direct-axiom .ensures) (c .before .before .before .enum-told .given .1) (c .if2 .taken)
+returns-3 c = search (searches-long, needs)
 
 note-start-requires : tie.Need-note-start-requires
 note-start-requires c κs = search needs
@@ -43,10 +41,7 @@ same-length : tie.Need-same-length
 same-length c = search needs
 
 returns-4 : tie.Need-returns-4
-returns-4 c =
-    let e = c .before .before .before .before .explore in
-    let n = c .before .before .before .before .before .before .before .before .before .before .note-start in
-    searches (c .before .before .before .before .before .before .before .before .before .before .before .before .before .before .before .before .before .search-direct-axiom .ensures) (c .before .before .before .before .before .before .before .before .before .before .before .before .before .before .before .enum-told .given .1) (c .before .before .before .before .before .before .before .before .before .before .before .before .before .before .slots-of .ensures ∙ ap slots-of (sym (e .kept .1 .1 .0 ∙ n .kept .0))) (n .ensures) (e .ensures)
+returns-4 c = search (searches, needs)
 
 pub search-bounded-rewrite-spec : {M : Type 1} → statement M
 search-bounded-rewrite-spec =
