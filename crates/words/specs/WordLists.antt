@@ -7,7 +7,8 @@ use Rattle.terms.specs.Term.{Term, size}
 use Rattle.terms.specs.Letters.{letters, rising}
 use Rattle.terms.specs.Run.{ZERO}
 use Rattle.terms.specs.Held.{IsRun}
-use Rattle.words.specs.Words.{Word, words}
+use Rattle.terms.specs.Promises.{ordering-of}
+use Rattle.words.specs.Words.{Word, words, order-lists}
 use Rattle.words.specs.Spelled.{SLOT, spelled, words-in}
 use Rattle.words.specs.Rename.{rename-words, canonical-words}
 use Rattle.words.specs.Multiply.{MOST, LONGEST}
@@ -15,6 +16,7 @@ use Rattle.words.specs.Sort.{Lettered}
 use Rattle.words.specs.Candidate.{Within}
 use Rattle.words.specs.Counts.{longest}
 use Rattle.words.specs.declared.candidate.Lengths.{Lengths}
+use Rattle.terms.specs.declared.term.Comparison.{Comparison}
 
 -- the words in all the slots that a list has
 abbrev pub slot-words : List ℕ → List Word
@@ -51,3 +53,7 @@ pub record CanonicalWords (xs ys left right : List ℕ) (r : Lengths) (left′ r
       → length (rising (letters s ++ letters t)) ≤ 6 → SLOT * MOST ≤ length left → SLOT * MOST ≤ length right
       → (take (r .left) left′ ≡ spelled (canonical-words (words s) (words t) .left))
       × (take (r .right) right′ ≡ spelled (canonical-words (words s) (words t) .right))
+
+-- of `compare_lists`: `Equal` exactly where the lists are the same, as `order-lists` is an order
+pub record ComparesLists (xs ys : List ℕ) (r : Comparison) : Type 0 where
+  pub exact : (us vs : List Word) → xs ≡ spelled us → ys ≡ spelled vs → ordering-of r ≡ order-lists us vs

@@ -5,8 +5,10 @@ ghost use lib.ListN.{take};
 ghost use lib.Seq.{sets};
 ghost use Rattle.words.specs.Spelled.{word-at};
 ghost use Rattle.words.specs.Multiply.{atom-words, PutsWords, JoinsRow, Joins, Multiplies, Expands, MultipliesOut};
-ghost use Rattle.words.specs.WordLists.{WordsOf};
+ghost use Rattle.words.specs.WordLists.{WordsOf, ComparesLists};
 use super::sort::spell_sorted;
+use terms::term;
+use terms::term::Comparison;
 
 // The most words of a term of 31 nodes.
 pub const MOST: usize = 324;
@@ -197,4 +199,11 @@ pub fn words_of(run: &[u32], out: &mut [u32]) -> usize
     let mut scratch = [0u32; ROOM];
     let n = multiply_out(run, &mut words, &mut scratch);
     spell_sorted(front(&words, 17 * n), out)
+}
+
+// Which of two lists of words comes first, word by word: the lists are runs as `words_of` writes them.
+pub fn compare_lists(a: &[u32], b: &[u32]) -> Comparison
+    ensures { λ r. ⌜ ComparesLists (now (a .entry)) (now (b .entry)) r ⌝ }
+{
+    term::compare(a, b)
 }
