@@ -249,7 +249,8 @@ fn slots_of(n: usize) -> usize
     all
 }
 
-// Searches for a path from left to right. A direct match needs no slot; otherwise left is noted first.
+// Searches for a path from left to right. A direct match needs no slot; otherwise left is noted first. Results of more than 31 nodes
+// have no room in a slot: the promise is for limits whose size is at most that.
 pub fn search_bounded_rewrite(
     left: &[u32],
     right: &[u32],
@@ -271,7 +272,7 @@ pub fn search_bounded_rewrite(
         return Outcome::Full;
     }
     note_start(ws, left);
-    // 620 results: one for each of 31 places, each law and each direction.
+    // 620 results, 40 numbers each: one for each of 31 places, each law and each direction.
     let mut res = [0u32; 24800];
     let mut order = [0u32; 620];
     explore(right, limits, ws, slots, &mut res, &mut order)

@@ -228,6 +228,7 @@ fn least_renaming(
 }
 
 // The least equation over all renamings of the letters of two terms; nothing if there are more than six letters.
+// A side of 31 nodes wants 31 numbers of room.
 pub fn canonical_terms(a: &[u32], b: &[u32], left: &mut [u32], right: &mut [u32]) -> Lengths
     ensures { λ r. ⌜ CanonicalTerms (now (a .entry)) (now (b .entry)) (now (left .entry)) (now (right .entry)) r (now (left .exit)) (now (right .exit)) ⌝ }
 {

@@ -191,7 +191,7 @@ pub fn multiply_out(run: &[u32], words: &mut [u32], scratch: &mut [u32]) -> usiz
 }
 
 // The words of the term of a run, written at the front of `out`, if there is room: where they end.
-// A term of 31 nodes has at most 324 words, for which there are 324 slots of 17 numbers.
+// A term of 31 nodes has at most 324 words of at most 16 letters: 17 numbers each, in a slot and in `out`.
 pub fn words_of(run: &[u32], out: &mut [u32]) -> usize
     ensures { λ r. ⌜ WordsOf (now (run .entry)) (now (out .entry)) r (now (out .exit)) ⌝ }
 {

@@ -1,6 +1,5 @@
 // The least equation of two lists of words over all renamings of their letters.
-ghost use mathlib.Core.Path.{_≡_};
-ghost use Prim.Native.Nat.{_*_, _≤_, compare};
+ghost use Prim.Native.Nat.{_≤_, compare};
 ghost use mathlib.Core.List.{[], _∷_, map, flatten};
 ghost use lib.ListN.{length, take};
 ghost use Rattle.terms.specs.Sort.{lost, insert-all};
@@ -143,6 +142,7 @@ fn least_renaming(
 }
 
 // The least equation of the words of two terms over all renamings of the words' letters; nothing if they are more than six.
+// Each list wants 5,508 numbers of room, as `words_of` does.
 pub fn canonical_words(a: &[u32], b: &[u32], left: &mut [u32], right: &mut [u32]) -> Lengths
     ensures { λ r. ⌜ CanonicalWords (now (a .entry)) (now (b .entry)) (now (left .entry)) (now (right .entry)) r (now (left .exit)) (now (right .exit)) ⌝ }
 {
