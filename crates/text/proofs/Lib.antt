@@ -1,3 +1,4 @@
 -- Laws that the proofs share.
 pub mod Overlay
 pub mod Decimal
+pub mod Items

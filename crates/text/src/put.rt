@@ -2,8 +2,19 @@
 // A position stops at the largest number: no output is as long, so nothing is required of a text's length.
 ghost use mathlib.Core.Path.{_≡_};
 ghost use mathlib.Core.List.{_∷_, []};
+ghost use Rattle.terms.specs.Term.{Term};
+ghost use Rattle.terms.specs.Held.{IsRun};
 ghost use Rattle.text.specs.Bytes.{number};
+ghost use Rattle.text.specs.TermText.{write-letter, write-term};
+ghost use Rattle.text.specs.Items.{sign-of, item, gap};
 ghost use Rattle.text.specs.Put.{Put};
+
+// In a run, the numbers below it are letters.
+const ZERO: u32 = 4096;
+
+const ONE: u32 = 4097;
+
+const ADD: u32 = 4098;
 
 pub fn put_byte(out: &mut [u8], at: usize, b: u8) -> usize
     ensures { λ r. ⌜ Put (b ∷ []) (now (out .entry)) at r (now (out .exit)) ⌝ }
@@ -40,4 +51,68 @@ pub fn put_number(out: &mut [u8], at: usize, n: u32) -> usize
     }
     let p = put_number(out, at, n / 10);
     put_byte(out, p, digit)
+}
+
+// A letter by its number.
+pub fn put_letter(out: &mut [u8], at: usize, n: u32) -> usize
+    ensures { λ r. ⌜ Put (write-letter n) (now (out .entry)) at r (now (out .exit)) ⌝ }
+{
+    let p = put_byte(out, at, b'v');
+    put_number(out, p, n)
+}
+
+// The byte of a run's number that is no letter.
+fn sign_of(n: u32) -> u8
+    ensures { λ r. ⌜ r ≡ sign-of n ⌝ }
+{
+    if n == ZERO {
+        return b'0';
+    }
+    if n == ONE {
+        return b'1';
+    }
+    if n == ADD {
+        return b'+';
+    }
+    b'*'
+}
+
+pub fn put_sign(out: &mut [u8], at: usize, n: u32) -> usize
+    ensures { λ r. ⌜ Put (sign-of n ∷ []) (now (out .entry)) at r (now (out .exit)) ⌝ }
+{
+    put_byte(out, at, sign_of(n))
+}
+
+// The item of a run's number.
+fn put_item(out: &mut [u8], at: usize, n: u32) -> usize
+    ensures { λ r. ⌜ Put (item n) (now (out .entry)) at r (now (out .exit)) ⌝ }
+{
+    if n < ZERO {
+        return put_letter(out, at, n);
+    }
+    put_sign(out, at, n)
+}
+
+// The byte that parts piece i from the one before it: none before the first.
+fn put_gap(out: &mut [u8], at: usize, i: usize, s: u8) -> usize
+    ensures { λ r. ⌜ Put (gap s i) (now (out .entry)) at r (now (out .exit)) ⌝ }
+{
+    if i == 0 {
+        return at;
+    }
+    put_byte(out, at, s)
+}
+
+// A term's text: its items, parted by one space.
+pub fn put_term(out: &mut [u8], at: usize, run: &[u32]) -> usize
+    ensures { λ r. ⌜ ((t : Term) → IsRun (now (run .entry)) t → Put (write-term t) (now (out .entry)) at r (now (out .exit))) ⌝ }
+{
+    let mut p = at;
+    let mut i = 0;
+    while i < run.len() {
+        let q = put_gap(out, p, i, b' ');
+        p = put_item(out, q, run[i]);
+        i += 1;
+    }
+    p
 }
