@@ -2,3 +2,4 @@
 pub mod Overlay
 pub mod Decimal
 pub mod Items
+pub mod WordTexts

@@ -1,12 +1,17 @@
 // Text is put at a position as far as the output goes; what is returned is the position after the text in any case, so an empty output only measures.
 // A position stops at the largest number: no output is as long, so nothing is required of a text's length.
 ghost use mathlib.Core.Path.{_≡_};
-ghost use mathlib.Core.List.{_∷_, []};
+ghost use mathlib.Core.List.{_∷_, [], map};
+ghost use Prim.Native.Nat.{suc, _+_, _-_};
+ghost use lib.ListN.{drop};
 ghost use Rattle.terms.specs.Term.{Term};
 ghost use Rattle.terms.specs.Held.{IsRun};
+ghost use Rattle.words.specs.Words.{Word};
 ghost use Rattle.text.specs.Bytes.{number};
 ghost use Rattle.text.specs.TermText.{write-letter, write-term};
 ghost use Rattle.text.specs.Items.{sign-of, item, gap};
+ghost use Rattle.text.specs.Words.{word};
+ghost use Rattle.text.specs.Spelled.{word-size};
 ghost use Rattle.text.specs.Put.{Put};
 
 // In a run, the numbers below it are letters.
@@ -112,6 +117,48 @@ pub fn put_term(out: &mut [u8], at: usize, run: &[u32]) -> usize
     while i < run.len() {
         let q = put_gap(out, p, i, b' ');
         p = put_item(out, q, run[i]);
+        i += 1;
+    }
+    p
+}
+
+// Where the word at `at` of a spelled list ends: at the next 0, or at the end of the list.
+fn word_end(list: &[u32], at: usize) -> usize
+    ensures { λ r. ⌜ r ≡ at + word-size (drop at (now (list .entry))) ⌝ }
+{
+    let mut i = at;
+    while i < list.len() {
+        if list[i] == 0 {
+            return i;
+        }
+        i += 1;
+    }
+    i
+}
+
+// The letter of a spelled word's number.
+fn letter_of(n: u32) -> u32
+    ensures { λ r. ⌜ r ≡ n - 1 ⌝ }
+{
+    if n == 0 {
+        return 0;
+    }
+    n - 1
+}
+
+// A word by its letters, each plus 1: parted by one space, and the empty word `1`.
+pub fn put_word(out: &mut [u8], at: usize, letters: &[u32]) -> usize
+    ensures { λ r. ⌜ ((w : Word) → now (letters .entry) ≡ map suc w → Put (word w) (now (out .entry)) at r (now (out .exit))) ⌝ }
+{
+    if letters.len() == 0 {
+        return put_byte(out, at, b'1');
+    }
+    let mut p = at;
+    let mut i = 0;
+    while i < letters.len() {
+        let n = letter_of(letters[i]);
+        let q = put_gap(out, p, i, b' ');
+        p = put_letter(out, q, n);
         i += 1;
     }
     p
