@@ -1,16 +1,17 @@
 // Text is put at a position as far as the output goes; what is returned is the position after the text in any case, so an empty output only measures.
 // A position stops at the largest number: no output is as long, so nothing is required of a text's length.
 ghost use mathlib.Core.Path.{_≡_};
-ghost use mathlib.Core.List.{_∷_, [], map};
+ghost use mathlib.Core.List.{List, _∷_, [], map};
 ghost use Prim.Native.Nat.{suc, _+_, _-_};
 ghost use lib.ListN.{drop};
 ghost use Rattle.terms.specs.Term.{Term};
 ghost use Rattle.terms.specs.Held.{IsRun};
 ghost use Rattle.words.specs.Words.{Word};
+ghost use Rattle.words.specs.Spelled.{spelled};
 ghost use Rattle.text.specs.Bytes.{number};
 ghost use Rattle.text.specs.TermText.{write-letter, write-term};
 ghost use Rattle.text.specs.Items.{sign-of, item, gap};
-ghost use Rattle.text.specs.Words.{word};
+ghost use Rattle.text.specs.Words.{word, word-list};
 ghost use Rattle.text.specs.Spelled.{word-size};
 ghost use Rattle.text.specs.Put.{Put};
 
@@ -160,6 +161,24 @@ pub fn put_word(out: &mut [u8], at: usize, letters: &[u32]) -> usize
         let q = put_gap(out, p, i, b' ');
         p = put_letter(out, q, n);
         i += 1;
+    }
+    p
+}
+
+// The words of a spelled list, parted by `;`: no words are `0`.
+pub fn put_words(out: &mut [u8], at: usize, list: &[u32]) -> usize
+    ensures { λ r. ⌜ ((ws : List Word) → now (list .entry) ≡ spelled ws → Put (word-list ws) (now (out .entry)) at r (now (out .exit))) ⌝ }
+{
+    if list.len() == 0 {
+        return put_byte(out, at, b'0');
+    }
+    let mut p = at;
+    let mut i = 0;
+    while i < list.len() {
+        let end = word_end(list, i);
+        let q = put_gap(out, p, i, b';');
+        p = put_word(out, q, &list[i..end]);
+        i = end + 1;
     }
     p
 }
