@@ -1,5 +1,6 @@
 -- The items of a term's text, one after the other, with a byte between them.
 use Prim.Native.Nat.{ℕ, zero, suc, _+_, _≤_, _<_}
+use Prim.Native.Char.{code}
 use mathlib.Core.Path.{_≡_, refl, sym, ap, ap₂, _∙_}
 use mathlib.Core.List.{List, [], _∷_, _++_, map, append-assoc, map-append}
 use native.Mathlib.Numerals.{add-one}
@@ -7,7 +8,7 @@ use native.Mathlib.Omega.{arith}
 use borrow.Author.Tests.{lt-ltb, le-ltb, ne-eqb}
 use lib.ListN.{length, getD, take, length-map}
 use lib.Seq.{take-suc, take-all, length-take-le}
-use Rattle.terms.specs.Run.{ZERO, ONE, ADD, MUL, run}
+use Rattle.terms.specs.Run.{ZERO, ONE, ADD, run}
 use Rattle.terms.specs.Held.{Fine, IsRun}
 use Rattle.terms.specs.Term.{Term, letter, zero, one, add, mul}
 use Rattle.text.specs.Bytes.{number, parted}
@@ -18,23 +19,23 @@ use Rattle.text.proofs.Overlay.{then, put-as, put-none}
 
 -- ---- one item
 
-pub sign-zero : (n : ℕ) → n ≡ ZERO → 48 ≡ sign-of n
+pub sign-zero : (n : ℕ) → n ≡ ZERO → code "0" ≡ sign-of n
 unfolding sign-of
 sign-zero n e = sym (ap sign-of e)
 
-pub sign-one : (n : ℕ) → n ≡ ONE → 49 ≡ sign-of n
+pub sign-one : (n : ℕ) → n ≡ ONE → code "1" ≡ sign-of n
 unfolding sign-of
 sign-one n e = sym (ap sign-of e)
 
-pub sign-add : (n : ℕ) → n ≡ ADD → 43 ≡ sign-of n
+pub sign-add : (n : ℕ) → n ≡ ADD → code "+" ≡ sign-of n
 unfolding sign-of
 sign-add n e = sym (ap sign-of e)
 
-pub sign-mul : (n : ℕ) → (n ≡ ZERO → ⊥) → (n ≡ ONE → ⊥) → (n ≡ ADD → ⊥) → 42 ≡ sign-of n
+pub sign-mul : (n : ℕ) → (n ≡ ZERO → ⊥) → (n ≡ ONE → ⊥) → (n ≡ ADD → ⊥) → code "*" ≡ sign-of n
 unfolding sign-of
 sign-mul n f g h = rw (ne-eqb n ZERO f, sign-of) (rw (ne-eqb n ONE g) (rw (ne-eqb n ADD h)))
 
-pub put-written : {o o₁ o₂ : List ℕ} {a b r : ℕ} (n : ℕ) → Put (118 ∷ []) o a b o₁ → Put (number n) o₁ b r o₂ → Put (write-letter n) o a r o₂
+pub put-written : {o o₁ o₂ : List ℕ} {a b r : ℕ} (n : ℕ) → Put (code "v" ∷ []) o a b o₁ → Put (number n) o₁ b r o₂ → Put (write-letter n) o a r o₂
 unfolding write-letter
 put-written n p q = then p q
 
@@ -105,12 +106,12 @@ items-run (letter n) h = ap (λ (l : List ℕ). l ∷ []) (letter-item n h)
 items-run zero h = refl
 items-run one h = refl
 items-run (add s t) h =
-    ap (λ l. (43 ∷ []) ∷ l) (ap₂ _++_ (items-run s (h .0)) (items-run t (h .1)) ∙ sym (map-append item (run s) (run t)))
+    ap (λ l. (code "+" ∷ []) ∷ l) (ap₂ _++_ (items-run s (h .0)) (items-run t (h .1)) ∙ sym (map-append item (run s) (run t)))
 items-run (mul s t) h =
-    ap (λ l. (42 ∷ []) ∷ l) (ap₂ _++_ (items-run s (h .0)) (items-run t (h .1)) ∙ sym (map-append item (run s) (run t)))
+    ap (λ l. (code "*" ∷ []) ∷ l) (ap₂ _++_ (items-run s (h .0)) (items-run t (h .1)) ∙ sym (map-append item (run s) (run t)))
 
 -- when every number of a term's run is put, its text is
-pub put-whole : {o o₁ : List ℕ} {a r : ℕ} (xs : List ℕ) (i : ℕ) (t : Term) → length xs ≤ i → Put (parted 32 (map item (take i xs))) o a r o₁ → IsRun xs t
+pub put-whole : {o o₁ : List ℕ} {a r : ℕ} (xs : List ℕ) (i : ℕ) (t : Term) → length xs ≤ i → Put (parted (code " ") (map item (take i xs))) o a r o₁ → IsRun xs t
     → Put (write-term t) o a r o₁
 unfolding write-term
-put-whole xs i t h p e = put-as (ap (parted 32) (ap (map item) (take-all i xs h ∙ e .whole) ∙ sym (items-run t (e .fine)))) p
+put-whole xs i t h p e = put-as (ap (parted (code " ")) (ap (map item) (take-all i xs h ∙ e .whole) ∙ sym (items-run t (e .fine)))) p

@@ -1,5 +1,6 @@
 -- The words of a spelled list, one after the other, with a byte between them.
 use Prim.Native.Nat.{ℕ, zero, suc, _+_, _-_, _≤_, _<_}
+use Prim.Native.Char.{code}
 use mathlib.Core.Path.{_≡_, refl, sym, ap, ap₂, _∙_}
 use mathlib.Core.List.{List, [], _∷_, _++_, map, append-assoc, append-nil, map-append}
 use native.Mathlib.Numerals.{add-one}
@@ -60,17 +61,17 @@ letters-text : (w : Word) → map letter-text (map suc w) ≡ map write-letter w
 letters-text [] = refl
 letters-text (n ∷ w) = let e : suc n - 1 ≡ n = omega arith in ap₂ _∷_ (ap write-letter e) (letters-text w)
 
-pub put-empty-word : {o o₁ : List ℕ} {a r : ℕ} (xs : List ℕ) (w : Word) → length xs ≡ 0 → xs ≡ map suc w → Put (49 ∷ []) o a r o₁ → Put (word w) o a r o₁
+pub put-empty-word : {o o₁ : List ℕ} {a r : ℕ} (xs : List ℕ) (w : Word) → length xs ≡ 0 → xs ≡ map suc w → Put (code "1" ∷ []) o a r o₁ → Put (word w) o a r o₁
 unfolding word
 put-empty-word xs [] h e p = p
 put-empty-word xs (n ∷ w) h e p = let z : ⊥ = omega (arith, ap length e) in absurd z
 
 -- when every number of a word is put, its text is
 pub put-whole-word : {o o₁ : List ℕ} {a r : ℕ} (xs : List ℕ) (i : ℕ) (w : Word) → (length xs ≡ 0 → ⊥) → length xs ≤ i → xs ≡ map suc w
-    → Put (parted 32 (map letter-text (take i xs))) o a r o₁ → Put (word w) o a r o₁
+    → Put (parted (code " ") (map letter-text (take i xs))) o a r o₁ → Put (word w) o a r o₁
 unfolding word
 put-whole-word xs i [] f h e p = absurd (f (ap length e))
-put-whole-word xs i (n ∷ w) f h e p = put-as (ap (parted 32) (ap (map letter-text) (take-all i xs h ∙ e) ∙ letters-text (n ∷ w))) p
+put-whole-word xs i (n ∷ w) f h e p = put-as (ap (parted (code " ")) (ap (map letter-text) (take-all i xs h ∙ e) ∙ letters-text (n ∷ w))) p
 
 -- ---- several words
 
@@ -80,8 +81,8 @@ pub record Before (ws : List Word) (xs : List ℕ) (i : ℕ) (o : List ℕ) (a r
   pub left : List Word
   pub all : put ++ left ≡ ws
   pub rest : drop i xs ≡ spelled left
-  pub between : gap 59 i ≡ gap 59 (length put)
-  pub text : Put (parted 59 (map word put)) o a r o₁
+  pub between : gap (code ";") i ≡ gap (code ";") (length put)
+  pub text : Put (parted (code ";") (map word put)) o a r o₁
 
 pub none-before : (ws : List Word) (xs o : List ℕ) (a : ℕ) → length o < top → a ≤ top → xs ≡ spelled ws → Before ws xs 0 o a a o
 unfolding parted
@@ -117,18 +118,18 @@ gap-some s (suc n) h = refl
 
 -- the word from i to e is put behind those before it
 pub one-more : {xs o o₁ o₂ o₃ : List ℕ} {i a b c d : ℕ} {ws : List Word} (e : ℕ) → i < length xs → e ≡ i + word-size (drop i xs) → Before ws xs i o a b o₁
-    → Put (gap 59 i) o₁ b c o₂ → ((w : Word) → take (e - i) (drop i xs) ≡ map suc w → Put (word w) o₂ c d o₃) → Before ws xs (e + 1) o a d o₃
+    → Put (gap (code ";") i) o₁ b c o₂ → ((w : Word) → take (e - i) (drop i xs) ≡ map suc w → Put (word w) o₂ c d o₃) → Before ws xs (e + 1) o a d o₃
 unfolding spelled
 one-more {xs} {o} {o₁} {o₂} {o₃} {i} {a} {b} {c} {d} {ws} e h ends p q f = go (p .left) (p .all) (p .rest)
   where
     us : List Word
     us = p .put
 
-    law : (v : Word) → (parted 59 (map word us) ++ gap 59 i) ++ word v ≡ parted 59 (map word (us ++ (v ∷ [])))
+    law : (v : Word) → (parted (code ";") (map word us) ++ gap (code ";") i) ++ word v ≡ parted (code ";") (map word (us ++ (v ∷ [])))
     law v =
-        ap (λ g. (parted 59 (map word us) ++ g) ++ word v) (p .between ∙ ap (gap 59) (sym (length-map us word)))
-        ∙ parted-more 59 (map word us) (word v)
-        ∙ ap (parted 59) (sym (map-append word us (v ∷ [])))
+        ap (λ g. (parted (code ";") (map word us) ++ g) ++ word v) (p .between ∙ ap (gap (code ";")) (sym (length-map us word)))
+        ∙ parted-more (code ";") (map word us) (word v)
+        ∙ ap (parted (code ";")) (sym (map-append word us (v ∷ [])))
 
     go : (vs : List Word) → us ++ vs ≡ ws → drop i xs ≡ spelled vs → Before ws xs (e + 1) o a d o₃
     go [] all rest = let z : ⊥ = omega (arith, length-drop i xs, ap length rest) in absurd z
@@ -139,11 +140,11 @@ one-more {xs} {o} {o₁} {o₂} {o₃} {i} {a} {b} {c} {d} {ws} e h ends p q f =
           left = vs;
           all = append-assoc us (v ∷ []) vs ∙ all;
           rest = word-after xs i v (spelled vs) e stands ends;
-          between = gap-some 59 (e + 1) (omega arith) ∙ sym (gap-some 59 (length (us ++ (v ∷ []))) (omega (arith, length-append us (v ∷ []))));
+          between = gap-some (code ";") (e + 1) (omega arith) ∙ sym (gap-some (code ";") (length (us ++ (v ∷ []))) (omega (arith, length-append us (v ∷ []))));
           text = put-as (law v) (then (then (p .text) q) (f v (word-here xs i v (spelled vs) e stands ends)));
         }
 
-pub put-no-words : {o o₁ : List ℕ} {a r : ℕ} (xs : List ℕ) (ws : List Word) → length xs ≡ 0 → xs ≡ spelled ws → Put (48 ∷ []) o a r o₁
+pub put-no-words : {o o₁ : List ℕ} {a r : ℕ} (xs : List ℕ) (ws : List Word) → length xs ≡ 0 → xs ≡ spelled ws → Put (code "0" ∷ []) o a r o₁
     → Put (word-list ws) o a r o₁
 unfolding word-list
 put-no-words xs [] h e p = p
@@ -153,12 +154,12 @@ put-no-words xs (w ∷ ws) h e p = let z : ⊥ = omega (arith, ap length e, some
 pub put-all-words : {o o₁ : List ℕ} {a r : ℕ} (xs : List ℕ) (i : ℕ) (ws : List Word) → (length xs ≡ 0 → ⊥) → length xs ≤ i → xs ≡ spelled ws
     → Before ws xs i o a r o₁ → Put (word-list ws) o a r o₁
 unfolding word-list spelled
-put-all-words xs i ws f h e p = put-as (ap (λ us. parted 59 (map word us)) (all (p .left) (p .all) (p .rest)) ∙ whole ws e) (p .text)
+put-all-words xs i ws f h e p = put-as (ap (λ us. parted (code ";") (map word us)) (all (p .left) (p .all) (p .rest)) ∙ whole ws e) (p .text)
   where
     all : (vs : List Word) → p .put ++ vs ≡ ws → drop i xs ≡ spelled vs → p .put ≡ ws
     all [] d rest = sym (append-nil (p .put)) ∙ d
     all (v ∷ vs) d rest = let z : ⊥ = omega (arith, length-drop i xs, ap length rest, some-spelled v vs) in absurd z
 
-    whole : (vs : List Word) → xs ≡ spelled vs → parted 59 (map word vs) ≡ word-list vs
+    whole : (vs : List Word) → xs ≡ spelled vs → parted (code ";") (map word vs) ≡ word-list vs
     whole [] d = absurd (f (ap length d))
     whole (v ∷ vs) d = refl

@@ -22,6 +22,7 @@ const ONE: u32 = 4097;
 
 const ADD: u32 = 4098;
 
+// One byte.
 pub fn put_byte(out: &mut [u8], at: usize, b: u8) -> usize
     ensures { λ r. ⌜ Put (b ∷ []) (now (out .entry)) at r (now (out .exit)) ⌝ }
 {
@@ -35,6 +36,7 @@ pub fn put_byte(out: &mut [u8], at: usize, b: u8) -> usize
     at
 }
 
+// A text of bytes.
 pub fn put_bytes(out: &mut [u8], at: usize, text: &[u8]) -> usize
     ensures { λ r. ⌜ Put (now (text .entry)) (now (out .entry)) at r (now (out .exit)) ⌝ }
 {
@@ -83,6 +85,7 @@ fn sign_of(n: u32) -> u8
     b'*'
 }
 
+// 0, 1, + or *.
 pub fn put_sign(out: &mut [u8], at: usize, n: u32) -> usize
     ensures { λ r. ⌜ Put (sign-of n ∷ []) (now (out .entry)) at r (now (out .exit)) ⌝ }
 {

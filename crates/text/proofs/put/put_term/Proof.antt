@@ -1,5 +1,6 @@
 -- `put_term` meets its contract. The invariant: the items before i are put.
 use Prim.Native.Nat.{_≤_, _-_}
+use Prim.Native.Char.{code}
 use mathlib.Core.Path.{_≡_, refl, _∙_}
 use mathlib.Core.List.{map}
 use native.Mathlib.Omega.{arith}
@@ -13,13 +14,13 @@ use Rattle.text.proofs.put.put_term.Statement.{statement}
 use Rattle.text.proofs.put.put_term.Tie as tie
 
 abbrev Inv-loop : tie.InvT-loop
-Inv-loop out₀ at run p₀ i₀ out p i = (i ≤ length run) × (length out ≡ length out₀) × Put (parted 32 (map item (take i run))) out₀ at p out
+Inv-loop out₀ at run p₀ i₀ out p i = (i ≤ length run) × (length out ≡ length out₀) × Put (parted (code " ") (map item (take i run))) out₀ at p out
 
 abbrev μ-loop : tie.MeasureT-loop
 μ-loop out₀ at run p₀ i₀ out p i = length run - i
 
 loop-holds : tie.Need-loop-holds Inv-loop μ-loop
-loop-holds c = (search needs, refl, put-no-piece 32 item (c .before .before .args .run .now) (c .before .before .args .out .now) (c .before .before .args .at) (omega arith) (omega arith))
+loop-holds c = (search needs, refl, put-no-piece (code " ") item (c .before .before .args .run .now) (c .before .before .args .out .now) (c .before .before .args .at) (omega arith) (omega arith))
 
 put-gap-requires : tie.Need-put-gap-requires Inv-loop μ-loop
 put-gap-requires c κs = search needs
@@ -45,7 +46,7 @@ loop-again c =
     let l = g .before .before .before in (
       omega arith,
       c .before .before .put-item .kept .0 ∙ g .put-gap .kept .0 ∙ l .loop .inv .1,
-      put-piece 32 item (l .before .before .before .args .run .now) (l .loop .i) (omega arith) (l .loop .inv .2) (g .put-gap .ensures) (c .before .before .put-item .ensures),
+      put-piece (code " ") item (l .before .before .before .args .run .now) (l .loop .i) (omega arith) (l .loop .inv .2) (g .put-gap .ensures) (c .before .before .put-item .ensures),
     )
 
 same-length : tie.Need-same-length Inv-loop μ-loop

@@ -1,5 +1,6 @@
 -- `put_word` meets its contract. The invariant: the letters before i are put.
 use Prim.Native.Nat.{_≤_, _-_}
+use Prim.Native.Char.{code}
 use mathlib.Core.Path.{_≡_, refl, ap, _∙_}
 use mathlib.Core.List.{map}
 use native.Mathlib.Omega.{arith}
@@ -15,7 +16,7 @@ use Rattle.text.proofs.put.put_word.Statement.{statement}
 use Rattle.text.proofs.put.put_word.Tie as tie
 
 abbrev Inv-loop : tie.InvT-loop
-Inv-loop out₀ at letters p₀ i₀ out p i = (i ≤ length letters) × (length out ≡ length out₀) × Put (parted 32 (map letter-text (take i letters))) out₀ at p out
+Inv-loop out₀ at letters p₀ i₀ out p i = (i ≤ length letters) × (length out ≡ length out₀) × Put (parted (code " ") (map letter-text (take i letters))) out₀ at p out
 
 abbrev μ-loop : tie.MeasureT-loop
 μ-loop out₀ at letters p₀ i₀ out p i = length letters - i
@@ -34,7 +35,7 @@ returns c =
 loop-holds : tie.Need-loop-holds Inv-loop μ-loop
 loop-holds c =
     let a = c .before .before .before .args in
-    (search needs, refl, put-no-piece 32 letter-text (a .letters .now) (a .out .now) (a .at) (omega arith) (omega arith))
+    (search needs, refl, put-no-piece (code " ") letter-text (a .letters .now) (a .out .now) (a .at) (omega arith) (omega arith))
 
 mul-letter-of : tie.Need-mul-letter-of Inv-loop μ-loop
 mul-letter-of c = search needs
@@ -64,7 +65,7 @@ loop-again c =
     let l = n .before .before .before in (
       omega arith,
       c .before .before .put-letter .kept .0 ∙ g .put-gap .kept .0 ∙ l .loop .inv .1,
-      put-piece 32 letter-text (l .before .before .before .before .args .letters .now) (l .loop .i) (omega arith) (l .loop .inv .2) (g .put-gap .ensures)
+      put-piece (code " ") letter-text (l .before .before .before .before .args .letters .now) (l .loop .i) (omega arith) (l .loop .inv .2) (g .put-gap .ensures)
           (put-as (ap write-letter (n .letter-of .ensures)) (c .before .before .put-letter .ensures)),
     )
 

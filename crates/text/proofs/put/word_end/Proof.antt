@@ -1,7 +1,6 @@
 -- `word_end` meets its contract. The invariant: the word from i on ends where the word at `at` does.
 use Prim.Native.Nat.{_+_, _-_}
-use mathlib.Core.Path.{_≡_, refl, sym, _∙_}
-use native.Mathlib.Omega.{arith}
+use mathlib.Core.Path.{_≡_, sym, _∙_}
 use lib.ListN.{length, drop}
 use Rattle.text.specs.Spelled.{word-size}
 use Rattle.text.proofs.WordTexts.{size-past, size-end, size-more}
