@@ -19,18 +19,6 @@ use Rattle.text.proofs.Overlay.{then, put-as, put-none}
 
 -- ---- one item
 
-pub sign-zero : (n : ℕ) → n ≡ ZERO → code "0" ≡ sign-of n
-unfolding sign-of
-sign-zero n e = sym (ap sign-of e)
-
-pub sign-one : (n : ℕ) → n ≡ ONE → code "1" ≡ sign-of n
-unfolding sign-of
-sign-one n e = sym (ap sign-of e)
-
-pub sign-add : (n : ℕ) → n ≡ ADD → code "+" ≡ sign-of n
-unfolding sign-of
-sign-add n e = sym (ap sign-of e)
-
 pub sign-mul : (n : ℕ) → (n ≡ ZERO → ⊥) → (n ≡ ONE → ⊥) → (n ≡ ADD → ⊥) → code "*" ≡ sign-of n
 unfolding sign-of
 sign-mul n f g h = rw (ne-eqb n ZERO f, sign-of) (rw (ne-eqb n ONE g) (rw (ne-eqb n ADD h)))

@@ -1,17 +1,22 @@
 -- `sign_of` meets its contract.
-use Rattle.text.proofs.Items.{sign-zero, sign-one, sign-add, sign-mul}
+use mathlib.Core.Path.{sym, ap}
+use Rattle.text.specs.Items.{sign-of}
+use Rattle.text.proofs.Items.{sign-mul}
 use borrow.Author.Needs.{needs}
 use Rattle.text.proofs.put.sign_of.Statement.{statement}
 use Rattle.text.proofs.put.sign_of.Tie as tie
 
 returns : tie.Need-returns
-returns c = search (sign-zero, needs)
+unfolding sign-of
+returns c = sym (ap sign-of (c .if1 .taken))
 
 returns-2 : tie.Need-returns-2
-returns-2 c = search (sign-one, needs)
+unfolding sign-of
+returns-2 c = sym (ap sign-of (c .if2 .taken))
 
 returns-3 : tie.Need-returns-3
-returns-3 c = search (sign-add, needs)
+unfolding sign-of
+returns-3 c = sym (ap sign-of (c .if3 .taken))
 
 returns-4 : tie.Need-returns-4
 returns-4 c = search (sign-mul, needs)
