@@ -1,2 +1,3 @@
 -- Laws that the proofs share.
 pub mod Marking
+pub mod Numbers

@@ -1,6 +1,11 @@
 // The job's text: the bytes, numbers, lines and items that stand at a position of it.
 ghost use mathlib.Core.Path.{_≡_};
+ghost use Prim.Native.Nat.{_≤_};
+ghost use lib.ListN.{length};
+ghost use lib.Seq.{slice};
+ghost use Rattle.text.specs.Bytes.{digits, read-number};
 ghost use Rattle.text.specs.Marks.{mark};
+ghost use Rattle.text.specs.Reading.{limited};
 
 pub enum Sign {
     Plus,
@@ -15,6 +20,12 @@ pub enum Mark {
     Foul,
 }
 
+pub enum Number {
+    Is(u32),
+    TooLarge,
+    Malformed,
+}
+
 // What a byte of a term is.
 pub fn mark_of(b: u8) -> Mark
     ensures { λ r. ⌜ r ≡ mark b ⌝ }
@@ -27,4 +38,48 @@ pub fn mark_of(b: u8) -> Mark
         b' ' => Mark::Space,
         _ => Mark::Foul,
     }
+}
+
+// The digits from one position to another as a number. Once it is above the largest allowed it stays as it is.
+fn digits_in(s: &[u8], from: usize, to: usize, most: u32) -> Number
+    requires { ⌜ (from ≤ to) × (to ≤ length (now s)) × (most ≤ 4096) ⌝ }
+    ensures { λ r. ⌜ r ≡ limited most (digits 0 (slice from to (now (s .entry)))) ⌝ }
+{
+    let mut n: u32 = 0;
+    let mut i = from;
+    while i < to {
+        let b = s[i];
+        if b < b'0' {
+            return Number::Malformed;
+        }
+        if b'9' < b {
+            return Number::Malformed;
+        }
+        i += 1;
+        if n <= most {
+            n = n * 10 + (b - b'0') as u32;
+        }
+    }
+    if n <= most {
+        return Number::Is(n);
+    }
+    Number::TooLarge
+}
+
+// The number that stands from one position to another, without a needless leading zero.
+pub fn number_in(s: &[u8], from: usize, to: usize, most: u32) -> Number
+    requires { ⌜ (from ≤ to) × (to ≤ length (now s)) × (most ≤ 4096) ⌝ }
+    ensures { λ r. ⌜ r ≡ limited most (read-number (slice from to (now (s .entry)))) ⌝ }
+{
+    if to <= from {
+        return Number::Malformed;
+    }
+    let next = from + 1;
+    if to <= next {
+        return digits_in(s, from, to, most);
+    }
+    if s[from] == b'0' {
+        return Number::Malformed;
+    }
+    digits_in(s, from, to, most)
 }
