@@ -1,3 +1,4 @@
 -- Laws that the proofs share.
 pub mod Marking
 pub mod Numbers
+pub mod Lines

@@ -1,12 +1,42 @@
 -- What the reader finds at a position of a text.
-use Prim.Native.Nat.{ℕ}
-use mathlib.Core.Bool.{true, false}
+use Prim.Native.Nat.{ℕ, _+_, _≤_, _<_}
+use mathlib.Core.Bool.{Bool, true, false}
 use mathlib.Core.Option.{Option, none, some}
+use mathlib.Core.List.{List}
+use mathlib.Core.Path.{_≡_}
 use lib.Dec.{leb}
+use lib.ListN.{length, drop}
+use lib.Seq.{slice}
+use Rattle.text.specs.declared.job.Found.{Found}
+use Rattle.text.specs.declared.job.Found.the-variants.{At, Nothing}
 use Rattle.text.specs.declared.job.Number.{Number}
 use Rattle.text.specs.declared.job.Number.the-variants.{Is, TooLarge, Malformed}
+use Rattle.text.specs.Bytes.{Split, after, line}
 
 -- a number that was read, against the largest that is allowed
 unfoldable pub limited : ℕ → Option ℕ → Number
 limited most none = Malformed
 limited most (some n) = elim (leb n most) [ true ↦ Is n | false ↦ TooLarge ]
+
+-- the parts of a text before and after a byte that ends a line
+abbrev pub split : List ℕ → ℕ → ℕ → Split
+split s from e = record { front = slice from e s; rest = drop (e + 1) s }
+
+-- the line that starts at one position ends at another
+pub record Line (s : List ℕ) (from e : ℕ) : Type 0 where
+  pub starts : from ≤ e
+  pub ends : e < length s
+  pub parts : line (drop from s) ≡ some (split s from e)
+
+abbrev pub Lines : List ℕ → ℕ → Found → Type 0
+Lines s from (At e) = Line s from e
+Lines s from Nothing = line (drop from s) ≡ none
+
+-- a key stands at a position
+pub record Key (s : List ℕ) (from : ℕ) (key : List ℕ) : Type 0 where
+  pub ends : from + length key ≤ length s
+  pub rest : after key (drop from s) ≡ some (drop (from + length key) s)
+
+abbrev pub Keys : List ℕ → ℕ → List ℕ → Bool → Type 0
+Keys s from key true = Key s from key
+Keys s from key false = after key (drop from s) ≡ none

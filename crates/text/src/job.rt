@@ -5,7 +5,7 @@ ghost use lib.ListN.{length};
 ghost use lib.Seq.{slice};
 ghost use Rattle.text.specs.Bytes.{digits, read-number};
 ghost use Rattle.text.specs.Marks.{mark};
-ghost use Rattle.text.specs.Reading.{limited};
+ghost use Rattle.text.specs.Reading.{Keys, Lines, limited};
 
 pub enum Sign {
     Plus,
@@ -24,6 +24,11 @@ pub enum Number {
     Is(u32),
     TooLarge,
     Malformed,
+}
+
+pub enum Found {
+    At(usize),
+    Nothing,
 }
 
 // What a byte of a term is.
@@ -82,4 +87,39 @@ pub fn number_in(s: &[u8], from: usize, to: usize, most: u32) -> Number
         return Number::Malformed;
     }
     digits_in(s, from, to, most)
+}
+
+// Where the line that starts at a position ends: the next byte 10.
+pub fn line_end(s: &[u8], from: usize) -> Found
+    requires { ⌜ from ≤ length (now s) ⌝ }
+    ensures { λ r. ⌜ Lines (now (s .entry)) from r ⌝ }
+{
+    let mut i = from;
+    while i < s.len() {
+        if s[i] == b'\n' {
+            return Found::At(i);
+        }
+        i += 1;
+    }
+    Found::Nothing
+}
+
+// Whether a key stands at a position.
+pub fn has_key(s: &[u8], from: usize, key: &[u8]) -> bool
+    requires { ⌜ from ≤ length (now s) ⌝ }
+    ensures { λ r. ⌜ Keys (now (s .entry)) from (now (key .entry)) r ⌝ }
+{
+    let mut i = from;
+    let mut j = 0;
+    while j < key.len() {
+        if s.len() <= i {
+            return false;
+        }
+        if s[i] != key[j] {
+            return false;
+        }
+        i += 1;
+        j += 1;
+    }
+    true
 }
