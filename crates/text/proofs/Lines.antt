@@ -1,9 +1,10 @@
 -- Lines and keys of a text, a byte at a time.
 use Prim.Native.Nat.{ℕ, suc, _+_, _≤_, _<_}
+use Prim.Native.String.{String}
 use native.Mathlib.Numerals.{add-one}
 use native.Mathlib.Omega.{arith}
 use mathlib.Core.Bool.{true, false}
-use mathlib.Core.Option.{Option, none, some}
+use mathlib.Core.Option.{Option, none, some, bind}
 use mathlib.Core.List.{List, [], _∷_}
 use mathlib.Core.Path.{_≡_, refl, ap, sym, _∙_}
 use lib.ListN.{length, drop, getD, drop-of-length-le}
@@ -11,8 +12,10 @@ use lib.Seq.{slice, slice-cons, slice-empty, drop-cons}
 use borrow.Author.Tests.{eq-eqb, ne-eqb}
 use Rattle.text.specs.declared.job.Found.{Found}
 use Rattle.text.specs.declared.job.Found.the-variants.{At, Nothing}
-use Rattle.text.specs.Bytes.{Split, after, line}
-use Rattle.text.specs.Reading.{Line, Lines, split}
+use Rattle.text.specs.declared.job.Value.the-variants.{Between, Missing}
+use Rattle.text.specs.Bytes.{Split, ascii, after, line}
+use Rattle.text.specs.Layout.{keyed}
+use Rattle.text.specs.Reading.{Lines, Keys, Values}
 
 -- a line with a byte more in front
 abbrev longer : ℕ → Option Split → Option Split
@@ -63,3 +66,22 @@ module _ (s key : List ℕ) (i j : ℕ) where
       unfolding after
       bytes-agree e =
           rw (add-one j, add-one i, drop-cons key j 0 h, drop-cons s i 0 k, eq-eqb (getD key j 0) (getD s i 0) (sym e), after)
+
+module _ (s : List ℕ) (from : ℕ) (key : List ℕ) where
+  read-key : (o : Option (List ℕ)) → after key (drop from s) ≡ o → (k : String) → ascii k ≡ key → keyed k (drop from s) ≡ bind o line
+  unfolding keyed
+  read-key o e k f = rw (f, e)
+
+  pub no-key : Keys s from key false → Values s from key Missing
+  unfolding bind
+  no-key e = read-key none e
+
+  module _ (e : Keys s from key true) where
+    pub value-ends : (at : ℕ) → Lines s (from + length key) (At at) → Values s from key (Between (from + length key) at)
+    unfolding bind
+    value-ends at l =
+        record { starts = l .starts; ends = l .ends; parts = λ k f. read-key (some (drop (from + length key) s)) (e .rest) k f ∙ l .parts }
+
+    pub value-open : Lines s (from + length key) Nothing → Values s from key Missing
+    unfolding bind
+    value-open l k f = read-key (some (drop (from + length key) s)) (e .rest) k f ∙ l

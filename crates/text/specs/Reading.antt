@@ -1,5 +1,6 @@
 -- What the reader finds at a position of a text.
 use Prim.Native.Nat.{ℕ, _+_, _≤_, _<_}
+use Prim.Native.String.{String}
 use mathlib.Core.Bool.{Bool, true, false}
 use mathlib.Core.Option.{Option, none, some}
 use mathlib.Core.List.{List}
@@ -11,7 +12,10 @@ use Rattle.text.specs.declared.job.Found.{Found}
 use Rattle.text.specs.declared.job.Found.the-variants.{At, Nothing}
 use Rattle.text.specs.declared.job.Number.{Number}
 use Rattle.text.specs.declared.job.Number.the-variants.{Is, TooLarge, Malformed}
-use Rattle.text.specs.Bytes.{Split, after, line}
+use Rattle.text.specs.declared.job.Value.{Value}
+use Rattle.text.specs.declared.job.Value.the-variants.{Between, Missing}
+use Rattle.text.specs.Bytes.{Split, ascii, after, line}
+use Rattle.text.specs.Layout.{keyed}
 
 -- a number that was read, against the largest that is allowed
 unfoldable pub limited : ℕ → Option ℕ → Number
@@ -40,3 +44,13 @@ pub record Key (s : List ℕ) (from : ℕ) (key : List ℕ) : Type 0 where
 abbrev pub Keys : List ℕ → ℕ → List ℕ → Bool → Type 0
 Keys s from key true = Key s from key
 Keys s from key false = after key (drop from s) ≡ none
+
+-- a line with its key stands at a position, its value between two others
+pub record Valued (s : List ℕ) (from : ℕ) (key : List ℕ) (start e : ℕ) : Type 0 where
+  pub starts : start ≤ e
+  pub ends : e < length s
+  pub parts : (k : String) → ascii k ≡ key → keyed k (drop from s) ≡ some (split s start e)
+
+abbrev pub Values : List ℕ → ℕ → List ℕ → Value → Type 0
+Values s from key (Between start e) = Valued s from key start e
+Values s from key Missing = (k : String) → ascii k ≡ key → keyed k (drop from s) ≡ none

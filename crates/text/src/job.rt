@@ -5,7 +5,7 @@ ghost use lib.ListN.{length};
 ghost use lib.Seq.{slice};
 ghost use Rattle.text.specs.Bytes.{digits, read-number};
 ghost use Rattle.text.specs.Marks.{mark};
-ghost use Rattle.text.specs.Reading.{Keys, Lines, limited};
+ghost use Rattle.text.specs.Reading.{Keys, Lines, Values, limited};
 
 pub enum Sign {
     Plus,
@@ -29,6 +29,11 @@ pub enum Number {
 pub enum Found {
     At(usize),
     Nothing,
+}
+
+pub enum Value {
+    Between(usize, usize),
+    Missing,
 }
 
 // What a byte of a term is.
@@ -122,4 +127,19 @@ pub fn has_key(s: &[u8], from: usize, key: &[u8]) -> bool
         j += 1;
     }
     true
+}
+
+// The value of the line that starts at a position with a key: where it starts and ends.
+pub fn keyed(s: &[u8], from: usize, key: &[u8]) -> Value
+    requires { ⌜ from ≤ length (now s) ⌝ }
+    ensures { λ r. ⌜ Values (now (s .entry)) from (now (key .entry)) r ⌝ }
+{
+    if !has_key(s, from, key) {
+        return Value::Missing;
+    }
+    let start = from + key.len();
+    let Found::At(end) = line_end(s, start) else {
+        return Value::Missing;
+    };
+    Value::Between(start, end)
 }
