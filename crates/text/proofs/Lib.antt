@@ -2,3 +2,4 @@
 pub mod Marking
 pub mod Numbers
 pub mod Lines
+pub mod Items

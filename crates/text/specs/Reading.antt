@@ -14,6 +14,11 @@ use Rattle.text.specs.declared.job.Number.{Number}
 use Rattle.text.specs.declared.job.Number.the-variants.{Is, TooLarge, Malformed}
 use Rattle.text.specs.declared.job.Value.{Value}
 use Rattle.text.specs.declared.job.Value.the-variants.{Between, Missing}
+use Rattle.text.specs.declared.job.Item.{Item}
+use Rattle.text.specs.declared.job.Item.the-variants as item
+use Rattle.terms.specs.Run.{MUL}
+use Rattle.terms.specs.Numbers as numbers
+use Rattle.text.specs.TermText.{token}
 use Rattle.text.specs.Bytes.{Split, ascii, after, line}
 use Rattle.text.specs.Layout.{keyed}
 
@@ -54,3 +59,12 @@ pub record Valued (s : List ℕ) (from : ℕ) (key : List ℕ) (start e : ℕ) :
 abbrev pub Values : List ℕ → ℕ → List ℕ → Value → Type 0
 Values s from key (Between start e) = Valued s from key start e
 Values s from key Missing = (k : String) → ascii k ≡ key → keyed k (drop from s) ≡ none
+
+-- an item of a term stands for what a number of a run stands for
+pub record Numbered (bs : List ℕ) (x : ℕ) : Type 0 where
+  pub small : x ≤ MUL
+  pub same : token bs ≡ numbers.token x
+
+abbrev pub Items : List ℕ → Item → Type 0
+Items bs (item.Is x) = Numbered bs x
+Items bs item.Foul = token bs ≡ none

@@ -1,11 +1,12 @@
 // The job's text: the bytes, numbers, lines and items that stand at a position of it.
 ghost use mathlib.Core.Path.{_≡_};
 ghost use Prim.Native.Nat.{_≤_};
+ghost use mathlib.Core.List.{[], _∷_};
 ghost use lib.ListN.{length};
 ghost use lib.Seq.{slice};
 ghost use Rattle.text.specs.Bytes.{digits, read-number};
 ghost use Rattle.text.specs.Marks.{mark};
-ghost use Rattle.text.specs.Reading.{Keys, Lines, Values, limited};
+ghost use Rattle.text.specs.Reading.{Items, Keys, Lines, Values, limited};
 
 pub enum Sign {
     Plus,
@@ -34,6 +35,11 @@ pub enum Found {
 pub enum Value {
     Between(usize, usize),
     Missing,
+}
+
+pub enum Item {
+    Is(u32),
+    Foul,
 }
 
 // What a byte of a term is.
@@ -142,4 +148,49 @@ pub fn keyed(s: &[u8], from: usize, key: &[u8]) -> Value
         return Value::Missing;
     };
     Value::Between(start, end)
+}
+
+// An item of one byte, as a number of a run.
+fn sign_item(b: u8) -> Item
+    ensures { λ r. ⌜ Items (b ∷ []) r ⌝ }
+{
+    let m = mark_of(b);
+    match m {
+        Mark::Sign(sign) => match sign {
+            Sign::Plus => Item::Is(4098),
+            Sign::Times => Item::Is(4099),
+            Sign::Letter => Item::Foul,
+        },
+        Mark::Digit(d) => match d {
+            0 => Item::Is(4096),
+            1 => Item::Is(4097),
+            _ => Item::Foul,
+        },
+        Mark::Space => Item::Foul,
+        Mark::Foul => Item::Foul,
+    }
+}
+
+// The item that stands from one position to another, as a number of a run.
+pub fn item_at(s: &[u8], from: usize, to: usize) -> Item
+    requires { ⌜ (from ≤ to) × (to ≤ length (now s)) ⌝ }
+    ensures { λ r. ⌜ Items (slice from to (now (s .entry))) r ⌝ }
+{
+    if to <= from {
+        return Item::Foul;
+    }
+    let b = s[from];
+    let next = from + 1;
+    if to <= next {
+        return sign_item(b);
+    }
+    if b != b'v' {
+        return Item::Foul;
+    }
+    let n = number_in(s, next, to, 999);
+    match n {
+        Number::Is(x) => Item::Is(x),
+        Number::TooLarge => Item::Foul,
+        Number::Malformed => Item::Foul,
+    }
 }
