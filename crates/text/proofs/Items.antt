@@ -2,14 +2,13 @@
 use Prim.Native.Nat.{ℕ, zero, suc, _+_, _≤_, _<_, _-_}
 use native.Mathlib.Numerals.{add-one}
 use native.Mathlib.Omega.{arith}
-use mathlib.Core.Bool.{true, false}
 use mathlib.Core.Logic.{⊎-elim}
 use mathlib.Core.Option.{Option, none, some}
 use mathlib.Core.List.{List, [], _∷_}
 use mathlib.Core.Path.{_≡_, refl, ap, sym, subst, _∙_}
 use lib.ListN.{length, getD}
-use lib.Seq.{slice, slice-cons, slice-empty}
-use borrow.Author.Tests.{eq-eqb, ne-eqb, le-leb, lt-leb, lt-ltb}
+use lib.Seq.{slice, slice-cons}
+use borrow.Author.Tests.{ne-eqb, le-leb, lt-leb, lt-ltb}
 use Rattle.terms.specs.Theory.Order.{below?}
 use Rattle.terms.specs.Term as term
 use Rattle.terms.specs.Term.{letter}
@@ -27,6 +26,7 @@ use Rattle.text.specs.Marks.{digit, mark}
 use Rattle.text.specs.TermText.{letter-of, sign, token}
 use Rattle.text.specs.Reading.{Items, limited}
 use Rattle.text.proofs.Marking.{other, inside, below, above}
+use Rattle.text.proofs.Parts.{no-part, two-part}
 use Rattle.text.proofs.Numbers.{allowed, too-large, malformed}
 
 -- what an item of one byte stands for, by what the byte is
@@ -92,6 +92,7 @@ lettered (Is n) = item.Is n
 lettered TooLarge = item.Foul
 lettered Malformed = item.Foul
 
+-- what a number behind `v` says of the letter
 abbrev Letters : Option ℕ → Number → Type 0
 Letters o (Is n) = (n ≤ 999) × (letter-of o ≡ some (atom (letter n)))
 Letters o TooLarge = letter-of o ≡ none
@@ -115,32 +116,22 @@ items bs o (Is n) e l = record { small = omega (arith, l .0); same = e ∙ l .1 
 items bs o TooLarge e l = e ∙ l
 items bs o Malformed e l = e ∙ l
 
-module _ (s : List ℕ) (i to : ℕ) (k : to ≤ length s) where
-  pub no-item : i ≡ to → Items (slice i to s) item.Foul
+pub no-item : (s : List ℕ) (i to : ℕ) → i ≡ to → Items (slice i to s) item.Foul
+unfolding token
+no-item s i to e = rw (no-part s i to e)
+
+module _ (s : List ℕ) (i to : ℕ) (k : to ≤ length s) (l : i + 1 < to) where
+  pub no-letter : (getD s i 0 ≡ 118 → ⊥) → Items (slice i to s) item.Foul
   unfolding token
-  no-item e = rw (e, slice-empty to s)
+  no-letter n = rw (two-part s i to k l, ne-eqb (getD s i 0) 118 n, token)
 
-  pub single : i < to → to ≤ i + 1 → slice i to s ≡ getD s i 0 ∷ []
-  single h l = let f : to ≡ suc i = omega arith in rw (slice-cons i to s 0 h k, f, slice-empty (suc i) s)
+  behind : getD s i 0 ≡ 118 → token (slice i to s) ≡ letter-of (read-number (slice (i + 1) to s))
+  unfolding token
+  behind e =
+      let h : suc i < to = omega arith in
+      rw (two-part s i to k l, e, add-one, slice-cons (suc i) to s 0 h k)
 
-  module _ (l : i + 1 < to) where
-    two : slice i to s ≡ getD s i 0 ∷ getD s (suc i) 0 ∷ slice (suc (suc i)) to s
-    two =
-        let h : i < to = omega arith in
-        let h′ : suc i < to = omega arith in
-        rw (slice-cons i to s 0 h k, slice-cons (suc i) to s 0 h′ k)
-
-    pub no-letter : (getD s i 0 ≡ 118 → ⊥) → Items (slice i to s) item.Foul
-    unfolding token
-    no-letter n = rw (two, ne-eqb (getD s i 0) 118 n, token)
-
-    behind : getD s i 0 ≡ 118 → token (slice i to s) ≡ letter-of (read-number (slice (i + 1) to s))
-    unfolding token
-    behind e =
-        let h : suc i < to = omega arith in
-        rw (two, e, add-one, slice-cons (suc i) to s 0 h k)
-
-    pub letter-item : getD s i 0 ≡ 118 → (r : Number) → limited 999 (read-number (slice (i + 1) to s)) ≡ r → Items (slice i to s) (lettered r)
-    letter-item e r f =
-        let o = read-number (slice (i + 1) to s) in
-        items (slice i to s) o r (behind e) (subst (Letters o) f (letters o))
+  pub letter-item : getD s i 0 ≡ 118 → (r : Number) → limited 999 (read-number (slice (i + 1) to s)) ≡ r → Items (slice i to s) (lettered r)
+  letter-item e r f =
+      let o = read-number (slice (i + 1) to s) in
+      items (slice i to s) o r (behind e) (subst (Letters o) f (letters o))

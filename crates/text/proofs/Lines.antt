@@ -1,14 +1,14 @@
 -- Lines and keys of a text, a byte at a time.
-use Prim.Native.Nat.{ℕ, suc, _+_, _≤_, _<_}
+use Prim.Native.Nat.{ℕ, _+_, _≤_, _<_}
 use Prim.Native.String.{String}
 use native.Mathlib.Numerals.{add-one}
 use native.Mathlib.Omega.{arith}
 use mathlib.Core.Bool.{true, false}
 use mathlib.Core.Option.{Option, none, some, bind}
-use mathlib.Core.List.{List, [], _∷_}
-use mathlib.Core.Path.{_≡_, refl, ap, sym, _∙_}
+use mathlib.Core.List.{List, _∷_}
+use mathlib.Core.Path.{_≡_, ap, sym, _∙_}
 use lib.ListN.{length, drop, getD, drop-of-length-le}
-use lib.Seq.{slice, slice-cons, slice-empty, drop-cons}
+use lib.Seq.{slice-cons, slice-empty, drop-cons}
 use borrow.Author.Tests.{eq-eqb, ne-eqb}
 use Rattle.text.specs.declared.job.Found.{Found}
 use Rattle.text.specs.declared.job.Found.the-variants.{At, Nothing}

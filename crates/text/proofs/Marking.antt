@@ -1,6 +1,6 @@
 -- A byte by the tests that tell what it is.
 use Prim.Native.Nat.{ℕ, _≤_, _<_, _-_}
-use mathlib.Core.Path.{_≡_, refl, _∙_}
+use mathlib.Core.Path.{_≡_}
 use borrow.Author.Tests.{ne-eqb, le-leb, lt-leb}
 use Rattle.text.specs.declared.job.Mark.the-variants as is
 use Rattle.text.specs.Marks.{digit, mark}

@@ -1,18 +1,19 @@
 -- Decimal numbers, a digit at a time, in a part of a text and against the largest number allowed.
-use Prim.Native.Nat.{ℕ, suc, _+_, _*_, _≤_, _<_, _-_}
+use Prim.Native.Nat.{ℕ, _+_, _*_, _≤_, _<_, _-_}
 use native.Mathlib.Numerals.{add-one}
 use native.Mathlib.Omega.{arith}
 use mathlib.Core.Bool.{Bool, true, false, _&&_}
 use mathlib.Core.Option.{Option, none, some}
 use mathlib.Core.List.{List, [], _∷_}
-use mathlib.Core.Path.{_≡_, refl, ap, sym, _∙_}
+use mathlib.Core.Path.{_≡_, refl, sym, _∙_}
 use lib.Dec.{leb}
 use lib.ListN.{length, getD}
-use lib.Seq.{slice, slice-cons, slice-empty}
+use lib.Seq.{slice, slice-cons}
 use borrow.Author.Tests.{le-leb, lt-leb, ne-eqb}
 use Rattle.text.specs.declared.job.Number.the-variants.{Is, TooLarge, Malformed}
 use Rattle.text.specs.Bytes.{digits, read-number}
 use Rattle.text.specs.Reading.{limited}
+use Rattle.text.proofs.Parts.{no-part, one-part, two-part}
 
 module _ (most n : ℕ) where
   pub allowed : n ≤ most → limited most (some n) ≡ Is n
@@ -56,29 +57,23 @@ module _ (s : List ℕ) (i to : ℕ) (h : i < to) (k : to ≤ length s) (n : ℕ
 
 pub done : (s : List ℕ) (i to n : ℕ) → i ≡ to → digits n (slice i to s) ≡ some n
 unfolding digits
-done s i to n e = rw (e, slice-empty to s)
+done s i to n e = rw (no-part s i to e)
 
--- a number of several digits starts with none but a needless zero or its first digit
+-- a part is a number: none if it is empty or starts with a needless zero, what its digits make otherwise
 module _ (s : List ℕ) (i to : ℕ) (k : to ≤ length s) where
   pub empty : i ≡ to → read-number (slice i to s) ≡ none
   unfolding read-number
-  empty e = rw (e, slice-empty to s)
-
-  pub needless : i + 1 < to → getD s i 0 ≡ 48 → read-number (slice i to s) ≡ none
-  unfolding read-number
-  needless h e =
-      let h′ : i < to = omega arith in
-      rw (slice-cons i to s 0 h′ k, slice-cons (suc i) to s 0 (omega arith) k, e)
-
-  pub several : i + 1 < to → (getD s i 0 ≡ 48 → ⊥) → read-number (slice i to s) ≡ digits 0 (slice i to s)
-  unfolding read-number
-  several h e =
-      let h′ : i < to = omega arith in
-      let h″ : suc i < to = omega arith in
-      rw (slice-cons i to s 0 h′ k, slice-cons (suc i) to s 0 h″ k, ne-eqb (getD s i 0) 48 e, read-number)
+  empty e = rw (no-part s i to e)
 
   pub single : i < to → to ≤ i + 1 → read-number (slice i to s) ≡ digits 0 (slice i to s)
   unfolding read-number
-  single h e =
-      let f : to ≡ suc i = omega arith in
-      rw (slice-cons i to s 0 h k, f, slice-empty (suc i) s)
+  single h l = rw (one-part s i to k h l)
+
+  module _ (l : i + 1 < to) where
+    pub needless : getD s i 0 ≡ 48 → read-number (slice i to s) ≡ none
+    unfolding read-number
+    needless e = rw (two-part s i to k l, e)
+
+    pub several : (getD s i 0 ≡ 48 → ⊥) → read-number (slice i to s) ≡ digits 0 (slice i to s)
+    unfolding read-number
+    several n = rw (two-part s i to k l, ne-eqb (getD s i 0) 48 n, read-number)

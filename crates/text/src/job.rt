@@ -8,12 +8,23 @@ ghost use Rattle.text.specs.Bytes.{digits, read-number};
 ghost use Rattle.text.specs.Marks.{mark};
 ghost use Rattle.text.specs.Reading.{Items, Keys, Lines, Values, limited};
 
+// The numbers of a run that are no letters.
+const ZERO: u32 = 4096;
+
+const ONE: u32 = 4097;
+
+const ADD: u32 = 4098;
+
+const MUL: u32 = 4099;
+
+// The signs of a term.
 pub enum Sign {
     Plus,
     Times,
     Letter,
 }
 
+// A byte of a term.
 pub enum Mark {
     Sign(Sign),
     Digit(u8),
@@ -21,22 +32,26 @@ pub enum Mark {
     Foul,
 }
 
+// A number that was read, against the largest allowed.
 pub enum Number {
     Is(u32),
     TooLarge,
     Malformed,
 }
 
+// A position, where there is one.
 pub enum Found {
     At(usize),
     Nothing,
 }
 
+// The first byte of a value and the byte 10 behind it.
 pub enum Value {
     Between(usize, usize),
     Missing,
 }
 
+// An item of a term, as a number of a run.
 pub enum Item {
     Is(u32),
     Foul,
@@ -157,13 +172,13 @@ fn sign_item(b: u8) -> Item
     let m = mark_of(b);
     match m {
         Mark::Sign(sign) => match sign {
-            Sign::Plus => Item::Is(4098),
-            Sign::Times => Item::Is(4099),
+            Sign::Plus => Item::Is(ADD),
+            Sign::Times => Item::Is(MUL),
             Sign::Letter => Item::Foul,
         },
         Mark::Digit(d) => match d {
-            0 => Item::Is(4096),
-            1 => Item::Is(4097),
+            0 => Item::Is(ZERO),
+            1 => Item::Is(ONE),
             _ => Item::Foul,
         },
         Mark::Space => Item::Foul,

@@ -1,7 +1,7 @@
 -- `has_key` meets its contract: the bytes passed are those of the key.
 use Prim.Native.Nat.{_+_, _≤_, _-_}
 use native.Mathlib.Omega.{arith}
-use mathlib.Core.Path.{_≡_, refl, ap, sym, _∙_}
+use mathlib.Core.Path.{_≡_, refl, ap, _∙_}
 use mathlib.Core.Option.{some}
 use lib.ListN.{length, drop}
 use Rattle.text.specs.Bytes.{after}

@@ -2,7 +2,8 @@
 use native.Mathlib.Omega.{arith}
 use mathlib.Core.Path.{sym, subst, _∙_}
 use Rattle.text.specs.Reading.{Items}
-use Rattle.text.proofs.Items.{no-item, single, no-letter, letter-item}
+use Rattle.text.proofs.Items.{no-item, no-letter, letter-item}
+use Rattle.text.proofs.Parts.{one-part}
 use borrow.Author.Needs.{needs}
 use Rattle.text.proofs.job.item_at.Statement.{statement}
 use Rattle.text.proofs.job.item_at.Tie as tie
@@ -11,7 +12,7 @@ returns : tie.Need-returns
 returns c =
     let l = c .before .before in
     let a = l .args in
-    no-item (a .s .now) (a .from) (a .to) (l .pre .1) (omega arith)
+    no-item (a .s .now) (a .from) (a .to) (omega arith)
 
 shared-slice-read-b : tie.Need-shared-slice-read-b
 shared-slice-read-b c = search needs
@@ -26,7 +27,7 @@ returns-2 : tie.Need-returns-2
 returns-2 c =
     let l = c .before .before .before .before .before in
     let a = l .args in
-    subst (λ bs. Items bs (c .sign-item .result)) (sym (single (a .s .now) (a .from) (a .to) (l .pre .1) (omega arith) (omega arith))) (c .sign-item .ensures)
+    subst (λ bs. Items bs (c .sign-item .result)) (sym (one-part (a .s .now) (a .from) (a .to) (l .pre .1) (omega arith) (omega arith))) (c .sign-item .ensures)
 
 returns-3 : tie.Need-returns-3
 returns-3 c =
