@@ -1,4 +1,4 @@
-// What the bench calls over C's calling convention, until the entries of the text crate are there.
+// What the bench calls over C's calling convention.
 ghost use mathlib.Core.Path.{_≡_};
 ghost use Prim.Native.Nat.{ℕ, min};
 ghost use Rattle.bench.specs.Told.{told};
