@@ -36,7 +36,7 @@ module _ (r : List ℕ) (w : Law) (R : Row r (law-of w)) (xs : List ℕ) (middle
 
   pub sides-unbound : b ≡ Unbound → BindsSides w xs middle Unbound
   unfolding match-sides
-  sides-unbound e = record { exact = λ s t hs ht. go t (match (law-of w .left) s unbound) (rw e at (left-found s hs)) }
+  sides-unbound e = record { within = tt; exact = λ s t hs ht. go t (match (law-of w .left) s unbound) (rw e at (left-found s hs)) }
     where
       go : (t : Term) (o : Option Bindings) → Found xs Unbound o → Found xs Unbound (elim o [ none ↦ none | some u ↦ match (law-of w .right) t u ])
       go t none F = tt
@@ -44,7 +44,7 @@ module _ (r : List ℕ) (w : Law) (R : Row r (law-of w)) (xs : List ℕ) (middle
 
   pub sides-bound : (z : Spans) (b′ : Binding) → b ≡ Bound z → Matches (part r 9 (9 + getD r 8 0)) xs middle z b′ → BindsSides w xs middle b′
   unfolding match-sides
-  sides-bound z b′ e M′ = record { exact = λ s t hs ht. go t ht (match (law-of w .left) s unbound) (rw e at (left-found s hs)) }
+  sides-bound z b′ e M′ = record { within = M′ .within; exact = λ s t hs ht. go t ht (match (law-of w .left) s unbound) (rw e at (left-found s hs)) }
     where
       go : (t : Term) → Holds xs middle t → (o : Option Bindings) → Found xs (Bound z) o → Found xs b′ (elim o [ none ↦ none | some u ↦ match (law-of w .right) t u ])
       go t ht none F = absurd F

@@ -3,13 +3,14 @@ use Prim.Native.Nat.{ℕ, _≤_}
 use mathlib.Core.Path.{_≡_}
 use mathlib.Core.Option.{Option, none, some}
 use mathlib.Core.List.{List}
+use lib.ListN.{length}
 use Rattle.terms.specs.Term.{Term, size}
 use Rattle.terms.specs.Held.{IsRun, Holds}
 use Rattle.search.specs.Law as law
 use Rattle.search.specs.Law.{Name, semiring}
 use Rattle.search.specs.Match.{Bindings, unbound, match}
 use Rattle.search.specs.Search.{direct}
-use Rattle.search.specs.Span.{Found}
+use Rattle.search.specs.Span.{Found, BoundWithin}
 use Rattle.search.specs.Coded.{name-of, law-of}
 use Rattle.search.specs.declared.search.Law.{Law}
 use Rattle.search.specs.declared.search.Binding.{Binding}
@@ -25,7 +26,9 @@ abbrev pub direct-name : Direct → Option Name
 direct-name (By w) = some (name-of w)
 direct-name Nothing = none
 
+-- of `bind_sides`: the parts lie in the list, and say what matching the terms gives
 pub record BindsSides (w : Law) (xs : List ℕ) (middle : ℕ) (r : Binding) : Type 0 where
+  pub within : BoundWithin (length xs) r
   pub exact : (s t : Term) → Holds xs 0 s → Holds xs middle t → Found xs r (match-sides (law-of w) s t)
 
 pub record TakesFirst (xs : List ℕ) (middle : ℕ) (r : Direct) : Type 0 where

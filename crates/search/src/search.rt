@@ -228,7 +228,7 @@ pub fn bind(p: &[u32], s: &[u32], at: usize, z: Spans) -> Binding
 }
 
 // Matches the sides of a law, the left at the front of a list and then the right at `middle`.
-fn bind_sides(law: Law, both: &[u32], middle: usize) -> Binding
+pub fn bind_sides(law: Law, both: &[u32], middle: usize) -> Binding
     requires { ⌜ middle ≤ length (now both) ⌝ }
     ensures { λ r. ⌜ BindsSides law (now (both .entry)) middle r ⌝ }
 {

@@ -50,7 +50,7 @@ pub fn put_bytes(out: &mut [u8], at: usize, text: &[u8]) -> usize
 }
 
 // A number in decimal.
-pub fn put_number(out: &mut [u8], at: usize, n: u32) -> usize
+pub fn put_number(out: &mut [u8], at: usize, n: usize) -> usize
     ensures { λ r. ⌜ Put (number n) (now (out .entry)) at r (now (out .exit)) ⌝ }
 {
     let digit = 48 + (n % 10) as u8;
@@ -66,7 +66,7 @@ pub fn put_letter(out: &mut [u8], at: usize, n: u32) -> usize
     ensures { λ r. ⌜ Put (write-letter n) (now (out .entry)) at r (now (out .exit)) ⌝ }
 {
     let p = put_byte(out, at, b'v');
-    put_number(out, p, n)
+    put_number(out, p, n as usize)
 }
 
 // The byte of a run's number that is no letter.
