@@ -1,0 +1,2 @@
+// The entries' answers: a text that is measured first, and then written where it fits.
+pub mod outcome;
