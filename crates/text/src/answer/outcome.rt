@@ -39,7 +39,14 @@ fn put_number_line(out: &mut [u8], at: usize, key: &[u8], n: usize) -> usize
 }
 
 // The text where no path is found.
-pub fn put_none(out: &mut [u8], at: usize, left: &[u32], right: &[u32], expanded: usize, cut: bool) -> usize
+pub fn put_none(
+    out: &mut [u8],
+    at: usize,
+    left: &[u32],
+    right: &[u32],
+    expanded: usize,
+    cut: bool,
+) -> usize
     ensures { λ r. ⌜ ((j : Job) (n : ℕ) → IsRun (now (left .entry)) (j .left) → IsRun (now (right .entry)) (j .right) → cut ≡ eqb expanded (j .limits .nodes) → Put (outcome-text semiring j (unproved expanded n)) (now (out .entry)) at r (now (out .exit))) ⌝ }
 {
     let p = put::put_bytes(out, at, b"answer=none\n");
@@ -72,7 +79,16 @@ fn put_proof_line(out: &mut [u8], at: usize, ws: &[u32], path: &[u32], names: &[
 }
 
 // The text where a path is found.
-pub fn put_proved(out: &mut [u8], at: usize, left: &[u32], right: &[u32], expanded: usize, ws: &[u32], path: &[u32], names: &[u32]) -> usize
+pub fn put_proved(
+    out: &mut [u8],
+    at: usize,
+    left: &[u32],
+    right: &[u32],
+    expanded: usize,
+    ws: &[u32],
+    path: &[u32],
+    names: &[u32],
+) -> usize
     ensures { λ r. ⌜ ((j : Job) (xs : List Line) (n : ℕ) → IsRun (now (left .entry)) (j .left) → IsRun (now (right .entry)) (j .right) → Walk (now (ws .entry)) (now (path .entry)) (j .left) xs → now (names .entry) ≡ rising (letters (j .left) ++ letters (j .right)) → Put (outcome-text semiring j (proved xs expanded n)) (now (out .entry)) at r (now (out .exit))) ⌝ }
 {
     let p = put::put_bytes(out, at, b"answer=proved\n");
