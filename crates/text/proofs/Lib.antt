@@ -12,3 +12,4 @@ pub mod Items
 pub mod WordTexts
 pub mod Measured
 pub mod WordLines
+pub mod Renaming

@@ -1,9 +1,9 @@
 -- Lines of an answer, and WORDS' text from the order of its lists.
 use Prim.Native.Nat.{ℕ}
-use mathlib.Core.Path.{_≡_, refl, sym, ap, _∙_}
+use mathlib.Core.Path.{_≡_, sym, ap, _∙_}
 use mathlib.Core.Bool.{Bool, true, false}
 use mathlib.Core.List.{List, [], _∷_, _++_, flatten, append-assoc, append-nil}
-use Rattle.terms.specs.Compare.{lt, eq, gt}
+use lib.Dec.{isEq}
 use Rattle.terms.specs.Equation.{orient}
 use Rattle.terms.specs.Promises.{ordering-of}
 use Rattle.terms.specs.declared.term.Comparison.{Comparison}
@@ -36,6 +36,9 @@ put-lists same us vs p q r s = put-as whole (then (then (then p q) r) s)
 
 -- the arms of the comparison
 module _ {xs ys : List ℕ} {r : Comparison} (compared : ComparesLists xs ys r) (us vs : List Word) (u : xs ≡ spelled us) (v : ys ≡ spelled vs) where
+  pub same-words : (w : Comparison) → r ≡ w → isEq (ordering-of w) ≡ isEq (order-lists us vs)
+  same-words w e = ap (λ k. isEq (ordering-of k)) (sym e) ∙ ap isEq (compared .exact us vs u v)
+
   pub words-less : r ≡ Less → lists-text false us vs ≡ words-text us vs
   unfolding words-text orient
   words-less e = rw (← compared .exact us vs u v, e)

@@ -7,7 +7,7 @@ ghost use Rattle.terms.specs.Term.{Term, size};
 ghost use Rattle.terms.specs.Held.{IsRun};
 ghost use Rattle.words.specs.Words.{Word, words};
 ghost use Rattle.words.specs.Spelled.{spelled};
-ghost use Rattle.text.specs.Answer.{fitting, field, yes-no};
+ghost use Rattle.text.specs.Answer.{fitting};
 ghost use Rattle.text.specs.Words.{words-text, lists-text};
 ghost use Rattle.text.specs.Entry.{Call};
 ghost use Rattle.text.specs.Put.{Put};
