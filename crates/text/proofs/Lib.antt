@@ -13,3 +13,4 @@ pub mod WordTexts
 pub mod Measured
 pub mod WordLines
 pub mod Renaming
+pub mod Entries
