@@ -13,3 +13,6 @@ pub mod WordTexts
 pub mod Measured
 pub mod Outcomes
 pub mod Answering
+pub mod WordLines
+pub mod Renaming
+pub mod Entries

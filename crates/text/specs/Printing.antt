@@ -1,7 +1,7 @@
 -- Parts of an outcome's text, as they are put.
 use Prim.Native.Nat.{ℕ}
 use Prim.Native.Char.{code}
-use mathlib.Core.List.{List, [], _∷_, _++_}
+use mathlib.Core.List.{List, _++_}
 use lib.ListN.{length}
 use Rattle.terms.specs.Term.{Term}
 use Rattle.search.specs.Law.{semiring}
@@ -10,10 +10,6 @@ use Rattle.text.specs.Bytes.{number, parted}
 use Rattle.text.specs.Answer.{field}
 use Rattle.text.specs.Proof.{proof}
 use Rattle.text.specs.Find.{uses}
-
--- a line with a key and a value
-abbrev pub line-with : List ℕ → List ℕ → List ℕ
-line-with key value = key ++ (value ++ (10 ∷ []))
 
 -- how many lines a path has, how many terms were opened, and the laws used
 abbrev pub figures : ℕ → List Line → List ℕ

@@ -9,34 +9,16 @@ ghost use Rattle.terms.specs.Letters.{letters, rising};
 ghost use Rattle.search.specs.Law.{semiring};
 ghost use Rattle.search.specs.Line.{Line};
 ghost use Rattle.search.specs.Search.{proved, unproved};
-ghost use Rattle.text.specs.Bytes.{number};
-ghost use Rattle.text.specs.TermText.{write-term};
 ghost use Rattle.text.specs.Job.{Job};
 ghost use Rattle.text.specs.Find.{outcome-text};
-ghost use Rattle.text.specs.Printing.{line-with, figures, proof-line};
+ghost use Rattle.text.specs.Printing.{figures, proof-line};
 ghost use Rattle.text.specs.Walk.{Walk};
 ghost use Rattle.text.specs.Put.{Put};
+use crate::answer::put_number_line;
+use crate::answer::put_term_line;
 use crate::kernel_bridge::path::put_proof;
 use crate::put;
 use crate::step;
-
-// A line with a key and a term.
-fn put_term_line(out: &mut [u8], at: usize, key: &[u8], run: &[u32]) -> usize
-    ensures { λ r. ⌜ ((t : Term) → IsRun (now (run .entry)) t → Put (line-with (now (key .entry)) (write-term t)) (now (out .entry)) at r (now (out .exit))) ⌝ }
-{
-    let p = put::put_bytes(out, at, key);
-    let q = put::put_term(out, p, run);
-    put::put_byte(out, q, b'\n')
-}
-
-// A line with a key and a number.
-fn put_number_line(out: &mut [u8], at: usize, key: &[u8], n: usize) -> usize
-    ensures { λ r. ⌜ Put (line-with (now (key .entry)) (number n)) (now (out .entry)) at r (now (out .exit)) ⌝ }
-{
-    let p = put::put_bytes(out, at, key);
-    let q = put::put_number(out, p, n);
-    put::put_byte(out, q, b'\n')
-}
 
 // The text where no path is found.
 pub fn put_none(

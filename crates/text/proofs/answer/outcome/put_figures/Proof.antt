@@ -2,7 +2,7 @@
 use mathlib.Core.Path.{ap}
 use Rattle.text.specs.Bytes.{ascii, number}
 use Rattle.text.specs.Answer.{field}
-use Rattle.text.specs.Printing.{line-with}
+use mathlib.Core.List.{[], _∷_, _++_}
 use Rattle.text.proofs.Overlay.{then, put-as}
 use Rattle.text.proofs.Outcomes.{walk-count}
 use borrow.Author.Needs.{needs}
@@ -45,7 +45,7 @@ returns c =
     let p2 = p3 .before .before .before .before .before in
     let p1 = p2 .before .before .before .before .before in
     λ s xs walk.
-    then (put-as (ap (λ n. line-with (ascii "steps=") (number n)) (walk-count walk)) (p1 .put-number-line .ensures))
+    then (put-as (ap (λ n. ascii "steps=" ++ (number n ++ (10 ∷ []))) (walk-count walk)) (p1 .put-number-line .ensures))
     (then (p2 .put-number-line2 .ensures) (then (p3 .put-bytes .ensures) (then (p4 .put-uses .ensures s xs walk) (p5 .put-byte .ensures))))
 
 pub put-figures-spec : {M : Type 1} → statement M

@@ -1,8 +1,8 @@
 -- `put_number_line` meets its contract.
 use Rattle.text.proofs.Overlay.{then}
 use borrow.Author.Needs.{needs}
-use Rattle.text.proofs.answer.outcome.put_number_line.Statement.{statement}
-use Rattle.text.proofs.answer.outcome.put_number_line.Tie as tie
+use Rattle.text.proofs.answer.put_number_line.Statement.{statement}
+use Rattle.text.proofs.answer.put_number_line.Tie as tie
 
 put-bytes-requires : tie.Need-put-bytes-requires
 put-bytes-requires c κs = search needs

@@ -1,8 +1,8 @@
 -- `put_term_line` meets its contract.
-use Rattle.text.proofs.Overlay.{then}
+use Rattle.text.proofs.WordLines.{put-line}
 use borrow.Author.Needs.{needs}
-use Rattle.text.proofs.answer.outcome.put_term_line.Statement.{statement}
-use Rattle.text.proofs.answer.outcome.put_term_line.Tie as tie
+use Rattle.text.proofs.answer.put_term_line.Statement.{statement}
+use Rattle.text.proofs.answer.put_term_line.Tie as tie
 
 put-bytes-requires : tie.Need-put-bytes-requires
 put-bytes-requires c κs = search needs
@@ -18,10 +18,8 @@ same-length c = search needs
 
 returns : tie.Need-returns
 returns c =
-    let p3 = c .before .before in
-    let p2 = p3 .before .before .before .before in
-    let p1 = p2 .before .before .before .before in
-    λ t run. then (p1 .put-bytes .ensures) (then (p2 .put-term .ensures t run) (p3 .put-byte .ensures))
+    let v = c .before .before .before .before .before .before in
+    λ t e. put-line (v .before .before .before .before .put-bytes .ensures) (v .put-term .ensures t e) (c .before .before .put-byte .ensures)
 
 pub put-term-line-spec : {M : Type 1} → statement M
 put-term-line-spec =
