@@ -3,7 +3,7 @@ use Prim.Native.Nat.{ℕ, _+_, _≤_, _<_}
 use Prim.Native.Char.{code}
 use native.Mathlib.Numerals.{add-one}
 use native.Mathlib.Omega.{arith}
-use mathlib.Core.Bool.{false}
+use mathlib.Core.Bool.{true, false}
 use mathlib.Core.Logic.{⊎-elim}
 use mathlib.Core.Option.{Option, none, some}
 use mathlib.Core.List.{List, [], _∷_, _++_}
@@ -14,12 +14,14 @@ use borrow.Author.Tests.{eq-eqb, ne-eqb}
 use Rattle.terms.specs.Theory.Order.{below?}
 use Rattle.terms.specs.Term.{Term}
 use Rattle.terms.specs.Build.{Token, next, build, single, read}
+use Rattle.terms.specs.Promises.{Reads}
+use Rattle.terms.specs.Theory.ReadRun.{run-read}
 use Rattle.terms.specs.Numbers as numbers
 use Rattle.terms.specs.Numbers.{read-run, is-some}
 use Rattle.text.specs.Bytes.{pieces}
 use Rattle.text.specs.TermText.{token, read-term}
 use Rattle.text.specs.Reading.{Numbered}
-use Rattle.text.specs.SideRead.{ItemEnds, ItemsRead}
+use Rattle.text.specs.SideRead.{ItemEnds, ItemsRead, TermRead}
 use Rattle.text.proofs.Parts.{no-part}
 
 -- ---- where an item ends
@@ -150,7 +152,16 @@ module _ (s : List ℕ) (from to : ℕ) (run : List ℕ) (n i e : ℕ) (r : Reac
 
 -- ---- the term that the numbers make
 
-pub none-read : (o : Option Term) → is-some o ≡ false → o ≡ none
+none-read : (o : Option Term) → is-some o ≡ false → o ≡ none
 unfolding is-some
 none-read none e = refl
 none-read (some t) e = let z : _≡_ {A = ℕ} 0 1 = cc in absurd (omega arith)
+
+module _ (bs run : List ℕ) (n : ℕ) (h : ItemsRead bs run n) where
+  pub term-read : Reads (take n run) true → TermRead bs run n
+  term-read r =
+      let (t, e) = r .sound refl in
+      record { room = h .room; term = t; read = h .same ∙ run-read e; whole = e }
+
+  pub no-term : Reads (take n run) false → read-term bs ≡ none
+  no-term r = h .same ∙ none-read (read-run (take n run)) (sym (r .is))
