@@ -1,10 +1,11 @@
 -- `items_in` meets its contract: the items passed are read, and what is left of the side goes behind them.
-use Prim.Native.Nat.{_-_}
+use Prim.Native.Nat.{ℕ, _-_}
+use mathlib.Core.List.{List}
 use native.Mathlib.Omega.{arith}
 use mathlib.Core.Path.{_≡_, refl, subst}
 use lib.ListN.{length}
 use lib.Seq.{slice}
-use Rattle.text.specs.Reading.{Items}
+use Rattle.text.specs.Reading.{Numbered, Items}
 use Rattle.text.proofs.Sides.{Reached, at-first, foul-item, last-item, next-item}
 use borrow.Author.Needs.{needs}
 use Rattle.text.proofs.job.side.items_in.Statement.{statement}
@@ -45,6 +46,15 @@ returns c =
     foul-item (a .s .now) (a .from) (a .to) (l .loop .run) (l .loop .n) (l .loop .i) (d .item-end .result) (l .loop .inv .1) (d .item-end .ensures)
     (subst (Items (slice (l .loop .i) (d .item-end .result) (a .s .now))) (c .enum-told .given .1) (m .item-at .ensures))
 
+-- the item passed, and its number
+abbrev item : tie.After-x Inv-loop μ-loop → List ℕ
+item c =
+    let d = c .before .before .before in
+    slice (d .before .loop .i) (d .item-end .result) (d .before .before .before .before .args .s .now)
+
+numbered : (c : tie.After-x Inv-loop μ-loop) → Numbered (item c) (c .x .given .0 .0)
+numbered c = subst (Items (item c)) (c .x .given .1) (c .before .before .item-at .ensures)
+
 mul-run : tie.Need-mul-run Inv-loop μ-loop
 mul-run c = search needs
 
@@ -60,12 +70,11 @@ same-length-2 c = search needs
 returns-2 : tie.Need-returns-2 Inv-loop μ-loop
 returns-2 c =
     let k = c .before .before in
-    let m = k .before .before in
-    let d = m .before in
+    let d = k .before .before .before in
     let l = d .before in
     let a = l .before .before .before .args in
     last-item (a .s .now) (a .from) (a .to) (l .loop .run) (l .loop .n) (l .loop .i) (d .item-end .result) (l .loop .inv .1) (d .item-end .ensures)
-    _ (subst (Items (slice (l .loop .i) (d .item-end .result) (a .s .now))) (k .x .given .1) (m .item-at .ensures)) (omega arith) (c .if1 .taken)
+    _ (numbered k) (omega arith) (c .if1 .taken)
 
 add-i : tie.Need-add-i Inv-loop μ-loop
 add-i c = search needs
@@ -76,13 +85,10 @@ loop-less c = search needs
 loop-again : tie.Need-loop-again Inv-loop μ-loop
 loop-again c =
     let k = c .before .before in
-    let m = k .before .before in
-    let d = m .before in
+    let d = k .before .before .before in
     let l = d .before in
     let a = l .before .before .before .args in
-    ( search needs
-    , next-item (a .s .now) (a .from) (a .to) (l .loop .run) (l .loop .n) (l .loop .i) (d .item-end .result) (l .loop .inv .1) (d .item-end .ensures)
-    _ (subst (Items (slice (l .loop .i) (d .item-end .result) (a .s .now))) (k .x .given .1) (m .item-at .ensures)) (omega arith) (c .if1 .left))
+    (search needs, next-item (a .s .now) (a .from) (a .to) (l .loop .run) (l .loop .n) (l .loop .i) (d .item-end .result) (l .loop .inv .1) (d .item-end .ensures) _ (numbered k) (omega arith) (c .if1 .left))
 
 pub items-in-spec : {M : Type 1} → statement M
 items-in-spec =
