@@ -29,7 +29,7 @@ returns c =
     let a = m .before .before .before .before .args in
     subst (ReadsItems (slice (a .from) (a .to) (a .s .now)) _) (c .enum-told .given .1) (m .items-in .ensures)
 
--- the side, its numbers, and how many these are
+-- the side, and the numbers of its items
 abbrev side : tie.After-known-told → List ℕ
 side c =
     let a = c .before .before .before .before .before .before .before .before .before .args in
