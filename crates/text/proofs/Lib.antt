@@ -10,3 +10,4 @@ pub mod Overlay
 pub mod Decimal
 pub mod Items
 pub mod WordTexts
+pub mod StepTexts
