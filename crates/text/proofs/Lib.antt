@@ -11,4 +11,5 @@ pub mod Decimal
 pub mod Items
 pub mod WordTexts
 pub mod Rendered
+pub mod Applied
 pub mod StepTexts

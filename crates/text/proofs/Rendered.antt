@@ -15,7 +15,7 @@ use Rattle.terms.proofs.Positions.{drop-head}
 use Rattle.terms.proofs.Held.{size-pos, holds-within, holds-add, holds-mul}
 use Rattle.text.specs.Bytes.{ascii}
 use Rattle.text.specs.Proof.{ref, app, call, index-of, variable, term}
-use Rattle.text.specs.Rendered.{atom, opening}
+use Rattle.text.specs.Rendered.{atom, operator}
 use Rattle.text.specs.Put.{Put}
 use Rattle.text.proofs.Overlay.{then, put-as}
 
@@ -35,7 +35,7 @@ module _ (names : List ℕ) (n i : ℕ) where
     unfolding index-of
     index-later e = rw (add-one i, drop-cons names i 0 h, ne-eqb n (getD names i 0) (λ p. e (sym p)), index-of) (omega arith)
 
--- ---- atoms and openings
+-- ---- atoms and operators
 
 pub put-ref : {o o₁ o₂ o₃ : List ℕ} {a b c d : ℕ} (name : List ℕ) → Put (ascii "(ref ") o a b o₁ → Put name o₁ b c o₂ → Put (ascii ")") o₂ c d o₃ → Put (ref name) o a d o₃
 unfolding ref ascii
@@ -54,13 +54,13 @@ module _ (names : List ℕ) (n : ℕ) where
   unfolding atom
   atom-one h e = rw (le-ltb n ZERO h, atom) (rw (ne-eqb n ZERO e))
 
-pub opening-add : (n : ℕ) → n ≡ ADD → ascii "(app (app (ref add) " ≡ opening n
-unfolding opening
-opening-add n e = rw e
+pub operator-add : (n : ℕ) → n ≡ ADD → ascii "(app (app (ref add) " ≡ operator n
+unfolding operator
+operator-add n e = rw e
 
-pub opening-mul : (n : ℕ) → (n ≡ ADD → ⊥) → ascii "(app (app (ref mul) " ≡ opening n
-unfolding opening
-opening-mul n e = rw (ne-eqb n ADD e, opening)
+pub operator-mul : (n : ℕ) → (n ≡ ADD → ⊥) → ascii "(app (app (ref mul) " ≡ operator n
+unfolding operator
+operator-mul n e = rw (ne-eqb n ADD e, operator)
 
 -- ---- a term held at a position
 
@@ -82,10 +82,7 @@ put-atom-term names xs i h p t k = put-as (atom-term names xs i t h k) p
 
 -- how the text of a sum or product goes on after its left part
 closing : (x y : ℕ) (ss ts : List ℕ) → ((ss ++ (x ∷ y ∷ [])) ++ ts) ++ (x ∷ []) ≡ (ss ++ (x ∷ [])) ++ (y ∷ (ts ++ (x ∷ [])))
-closing x y ss ts =
-    append-assoc (ss ++ (x ∷ y ∷ [])) ts (x ∷ [])
-    ∙ append-assoc ss (x ∷ y ∷ []) (ts ++ (x ∷ []))
-    ∙ sym (append-assoc ss (x ∷ []) (y ∷ (ts ++ (x ∷ []))))
+closing x y ss ts = simp append-assoc
 
 abbrev around : List ℕ → List ℕ → List ℕ → List ℕ
 around f ss ts = (((f ++ ss) ++ ascii ") ") ++ ts) ++ ascii ")"
@@ -105,7 +102,7 @@ record Node (names xs : List ℕ) (i j : ℕ) (t : Term) : Type 0 where
   right : Term
   first : Holds xs (i + 1) left
   second : Holds xs j right
-  text : around (opening (getD xs i 0)) (term names left) (term names right) ≡ term names t
+  text : around (operator (getD xs i 0)) (term names left) (term names right) ≡ term names t
 
 node : (names xs : List ℕ) (i j : ℕ) (t : Term) → ADD ≤ getD xs i 0 → Ends xs (i + 1) j → Holds xs i t → Node names xs i j t
 unfolding run Fine
@@ -119,7 +116,7 @@ node names xs i j (add s t) h e k =
       right = t;
       first = p .1;
       second = rw (e .exact s (p .1)) (p .2);
-      text = ap (λ f. around f (term names s) (term names t)) (sym (opening-add (getD xs i 0) (p .0))) ∙ text-add names s t;
+      text = ap (λ f. around f (term names s) (term names t)) (sym (operator-add (getD xs i 0) (p .0))) ∙ text-add names s t;
     }
 node names xs i j (mul s t) h e k =
     let p = holds-mul k in
@@ -128,11 +125,11 @@ node names xs i j (mul s t) h e k =
       right = t;
       first = p .1;
       second = rw (e .exact s (p .1)) (p .2);
-      text = ap (λ f. around f (term names s) (term names t)) (sym (opening-mul (getD xs i 0) (λ q. omega (arith, p .0)))) ∙ text-mul names s t;
+      text = ap (λ f. around f (term names s) (term names t)) (sym (operator-mul (getD xs i 0) (λ q. omega (arith, p .0)))) ∙ text-mul names s t;
     }
 
 pub put-node : {o o₁ o₂ o₃ o₄ o₅ : List ℕ} {a b c d e f : ℕ} (names xs : List ℕ) (i j : ℕ) → ADD ≤ getD xs i 0 → Ends xs (i + 1) j
-    → Put (opening (getD xs i 0)) o a b o₁
+    → Put (operator (getD xs i 0)) o a b o₁
     → ((u : Term) → Holds xs (i + 1) u → Put (term names u) o₁ b c o₂)
     → Put (ascii ") ") o₂ c d o₃
     → ((u : Term) → Holds xs j u → Put (term names u) o₃ d e o₄)

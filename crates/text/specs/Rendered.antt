@@ -17,6 +17,6 @@ atom names n =
     ]
 
 -- a sum or product up to its left part
-unfoldable pub opening : ℕ → List ℕ
+unfoldable pub operator : ℕ → List ℕ
 unfolding ascii
-opening n = elim (eqb n ADD) [ true ↦ ascii "(app (app (ref add) " | false ↦ ascii "(app (app (ref mul) " ]
+operator n = elim (eqb n ADD) [ true ↦ ascii "(app (app (ref add) " | false ↦ ascii "(app (app (ref mul) " ]

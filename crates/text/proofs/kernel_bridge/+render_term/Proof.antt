@@ -11,7 +11,7 @@ use Rattle.text.proofs.kernel_bridge.render_term.Kinds as render-term-k
 use Rattle.text.proofs.kernel_bridge.+render_term.Lts-render_term as render-term-lts
 use Rattle.terms.proofs.term.end_of.Reads as end-of-reads
 use Rattle.text.proofs.kernel_bridge.put_atom.Reads as put-atom-reads
-use Rattle.text.proofs.kernel_bridge.put_opening.Reads as put-opening-reads
+use Rattle.text.proofs.kernel_bridge.put_operator.Reads as put-operator-reads
 use Rattle.text.proofs.put.put_byte.Reads as put-byte-reads
 use Rattle.text.proofs.put.put_bytes.Reads as put-bytes-reads
 use Rattle.text.proofs.kernel_bridge.+render_term.{statement}
@@ -28,14 +28,15 @@ abbrev render-term-below : ℕ → In 3 render-term-kinds.ps
 render-term-below t =
     and 3 render-term-kinds.ps (falls 3 render-term-kinds.ps _<_ μ-render-term t) render-term.Pre
 
+-- what the calls ask and tell
 abbrev given : ℕ → render-term-lts.Claims
 given t = (
   put-atom-reads.Asked,
   put-atom-reads.Learnt,
   end-of-reads.Asked,
   end-of-reads.Learnt,
-  put-opening-reads.Asked,
-  put-opening-reads.Learnt,
+  put-operator-reads.Asked,
+  put-operator-reads.Learnt,
   render-term-below t,
   render-term.Post,
   put-bytes-reads.Asked,
@@ -71,8 +72,8 @@ render-term-add-left t c = search needs
 render-term-end-of-requires : (t : ℕ) → render-term-lts.Need-end-of-requires (given t) (render-term-at t) render-term.Post
 render-term-end-of-requires t c κs = search needs
 
-render-term-put-opening-requires : (t : ℕ) → render-term-lts.Need-put-opening-requires (given t) (render-term-at t) render-term.Post
-render-term-put-opening-requires t c κs = search needs
+render-term-put-operator-requires : (t : ℕ) → render-term-lts.Need-put-operator-requires (given t) (render-term-at t) render-term.Post
+render-term-put-operator-requires t c κs = search needs
 
 render-term-render-term-requires : (t : ℕ) → render-term-lts.Need-render-term-requires (given t) (render-term-at t) render-term.Post
 render-term-render-term-requires t c κs = search needs
@@ -102,7 +103,7 @@ render-term-returns-3 t c =
     let e = p .before .before in
     let d = e .before in
     let a = d .before .before .before .before .before .before .args in
-    put-node (a .names .now) (a .run .now) (a .from) (e .end-of .result) (d .if2 .left) (e .end-of .ensures) (p .put-opening .ensures)
+    put-node (a .names .now) (a .run .now) (a .from) (e .end-of .result) (d .if2 .left) (e .end-of .ensures) (p .put-operator .ensures)
     (x .render-term .ensures) (q .put-bytes .ensures) (y .render-term2 .ensures) (c .before .before .put-byte .ensures)
 
 pub +render-term-spec : {M : Type 1} → statement M
@@ -117,7 +118,7 @@ pub +render-term-spec : {M : Type 1} → statement M
     (render-term-returns-2 t)
     (render-term-add-left t)
     (render-term-end-of-requires t)
-    (render-term-put-opening-requires t)
+    (render-term-put-operator-requires t)
     (render-term-render-term-requires t)
     (render-term-slice-aggregate-put-bytes t)
     (render-term-put-bytes-requires t)

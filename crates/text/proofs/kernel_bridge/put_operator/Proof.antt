@@ -1,10 +1,10 @@
--- `put_opening` meets its contract.
+-- `put_operator` meets its contract.
 use Rattle.text.specs.Bytes.{ascii}
 use Rattle.text.proofs.Overlay.{put-as}
-use Rattle.text.proofs.Rendered.{opening-add, opening-mul}
+use Rattle.text.proofs.Rendered.{operator-add, operator-mul}
 use borrow.Author.Needs.{needs}
-use Rattle.text.proofs.kernel_bridge.put_opening.Statement.{statement}
-use Rattle.text.proofs.kernel_bridge.put_opening.Tie as tie
+use Rattle.text.proofs.kernel_bridge.put_operator.Statement.{statement}
+use Rattle.text.proofs.kernel_bridge.put_operator.Tie as tie
 
 slice-aggregate-put-bytes : tie.Need-slice-aggregate-put-bytes
 slice-aggregate-put-bytes c = search needs
@@ -19,7 +19,7 @@ returns : tie.Need-returns
 unfolding ascii
 returns c =
     let d = c .before .before .before .before .before in
-    put-as (opening-add (d .before .before .args .n) (d .if1 .taken)) (c .before .before .put-bytes .ensures)
+    put-as (operator-add (d .before .before .args .n) (d .if1 .taken)) (c .before .before .put-bytes .ensures)
 
 slice-aggregate-put-bytes-2 : tie.Need-slice-aggregate-put-bytes-2
 slice-aggregate-put-bytes-2 c = search needs
@@ -34,10 +34,10 @@ returns-2 : tie.Need-returns-2
 unfolding ascii
 returns-2 c =
     let d = c .before .before .before .before .before in
-    put-as (opening-mul (d .before .before .args .n) (d .if1 .left)) (c .before .before .put-bytes2 .ensures)
+    put-as (operator-mul (d .before .before .args .n) (d .if1 .left)) (c .before .before .put-bytes2 .ensures)
 
-pub put-opening-spec : {M : Type 1} → statement M
-put-opening-spec =
+pub put-operator-spec : {M : Type 1} → statement M
+put-operator-spec =
     tie.close
     (tie.spec
     slice-aggregate-put-bytes
