@@ -11,3 +11,6 @@ pub mod Overlay
 pub mod Decimal
 pub mod Items
 pub mod WordTexts
+pub mod Rendered
+pub mod Applied
+pub mod StepTexts
