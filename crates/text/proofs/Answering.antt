@@ -35,8 +35,8 @@ use Rattle.text.specs.Find.{find}
 use Rattle.text.specs.Entry.{Call}
 use Rattle.text.specs.Walk.{Walk}
 use Rattle.text.specs.Answering.{Sides, Led, searched, told, whole-line}
-use Rattle.text.specs.Theory.Jobs.{job-accepted}
 use Rattle.text.proofs.Measured.{refuses}
+use Rattle.text.proofs.Entries.{accepted-job}
 
 -- the letters of an accepted job fill the front of six numbers
 module _ {left right names names′ : List ℕ} {l : Listed} {j : Job} (S : Sides left right j) (L : Lists left right names l names′) where
@@ -113,7 +113,7 @@ module _ {left right ws : List ℕ} {slots e n : ℕ} {j : Job} (S : Sides left 
 -- a job's answer by what the search answers
 module _ (bs : List ℕ) {j : Job} (read : read-job bs ≡ accepted j) where
   pub sides : {left right : List ℕ} → IsRun left (j .left) → IsRun right (j .right) → Sides left right j
-  sides l r = record { known = rw read at (job-accepted bs); left-run = l; right-run = r }
+  sides l r = record { known = accepted-job bs j read; left-run = l; right-run = r }
 
   find-enough : (slots room : ℕ) → noted (searched j) ≤ slots → find bs slots room ≡ told room j (searched j)
   unfolding find _>>=_ require

@@ -5,6 +5,7 @@ pub mod Parts
 pub mod Numbers
 pub mod Lines
 pub mod Reading
+pub mod Sides
 -- writing
 pub mod Overlay
 pub mod Decimal
@@ -16,3 +17,6 @@ pub mod Answering
 pub mod WordLines
 pub mod Renaming
 pub mod Entries
+pub mod Rendered
+pub mod Applied
+pub mod StepTexts
