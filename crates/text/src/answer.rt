@@ -12,7 +12,6 @@ ghost use Rattle.text.specs.Put.{Put};
 
 // FIND's answer, and the text of an outcome.
 pub mod find;
-
 pub mod outcome;
 
 // WORDS' answer.
