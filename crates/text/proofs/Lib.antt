@@ -6,6 +6,7 @@ pub mod Numbers
 pub mod Lines
 pub mod Reading
 pub mod Layouts
+pub mod Orders
 -- writing
 pub mod Overlay
 pub mod Decimal
