@@ -4,21 +4,23 @@ use Prim.Native.String.{String}
 use native.Mathlib.Omega.{arith}
 use mathlib.Core.Logic.{⊎-elim}
 use mathlib.Core.Option.{Option, none, some, bind}
-use mathlib.Core.List.{List, [], _∷_}
-use mathlib.Core.Path.{_≡_, refl, sym, ap, subst, _∙_}
+use mathlib.Core.List.{List}
+use mathlib.Core.Path.{_≡_, refl, sym, subst, _∙_}
 use lib.ListN.{length, drop, drop-of-length-le}
 use lib.Seq.{slice, drop-cons}
 use Rattle.terms.specs.Theory.Order.{below?}
 use Rattle.search.specs.Line.{Limits}
+use Rattle.search.specs.declared.bounded_search.Limits as limits
 use Rattle.text.specs.declared.job.Number.{Number}
 use Rattle.text.specs.declared.job.Number.the-variants.{Is, TooLarge, Malformed}
 use Rattle.text.specs.declared.job.Value.the-variants.{Between, Missing}
 use Rattle.text.specs.declared.job.lines.Limit.{Limit}
 use Rattle.text.specs.declared.job.lines.Limit.the-variants as limit
-use Rattle.text.specs.Bytes.{Split, ascii, end, read-number}
-use Rattle.text.specs.Layout.{Layout, keyed, layout}
-use Rattle.text.specs.Reading.{Values, limited}
-use Rattle.text.specs.LayoutRead.{Stated, limit-line, limit-lines, LimitAt, LimitIn, LimitedBy}
+use Rattle.text.specs.Bytes.{ascii, end, read-number}
+use Rattle.text.specs.Layout.{layout}
+use Rattle.text.specs.Reading.{Valued, Values, limited}
+use Rattle.text.specs.LayoutRead.{limit-line, limit-lines, LimitAt, LimitIn, LimitedBy, LaidOut}
+use Rattle.text.proofs.Orders.{layout-parts}
 use Rattle.text.proofs.Numbers.{allowed, too-large, malformed}
 
 -- the line of one limit
@@ -95,3 +97,34 @@ module _ (s : List ℕ) (from : ℕ) where
                 is = λ k. record { steps = a .is k; size = b .is k; depth = c .is k; nodes = d .is k };
                 lines = all-lines ∙ rw (drop-of-length-le s h);
               }
+
+-- the six lines
+
+module _ (s : List ℕ) where
+  pub no-left : Values s 0 (ascii "left=") Missing → layout s ≡ none
+  unfolding bind
+  no-left h = layout-parts s ∙ rw (h "left=" refl)
+
+  module _ {a b : ℕ} (l : Valued s 0 (ascii "left=") a b) where
+    pub no-right : Values s (b + 1) (ascii "right=") Missing → layout s ≡ none
+    unfolding bind
+    no-right h = layout-parts s ∙ rw (l .parts "left=" refl) (rw (h "right=" refl))
+
+    module _ {c d : ℕ} (r : Valued s (b + 1) (ascii "right=") c d) where
+      pub no-limits : limit-lines (drop (d + 1) s) ≡ none → layout s ≡ none
+      unfolding bind
+      no-limits h = layout-parts s ∙ rw (l .parts "left=" refl) (rw (r .parts "right=" refl) (rw h))
+
+      pub laid-out : {m : limits.Limits} → LimitedBy (drop (d + 1) s) m
+          → LaidOut s (record { left = record { from = a; to = b }; right = record { from = c; to = d }; limits = m })
+      unfolding bind
+      laid-out h =
+          record {
+            left-starts = l .starts;
+            left-ends = l .ends;
+            right-starts = r .starts;
+            right-ends = r .ends;
+            limits = h .limits;
+            is = h .is;
+            lines = layout-parts s ∙ rw (l .parts "left=" refl) (rw (r .parts "right=" refl) (rw (h .lines)));
+          }

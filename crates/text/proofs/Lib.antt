@@ -5,8 +5,8 @@ pub mod Parts
 pub mod Numbers
 pub mod Lines
 pub mod Reading
-pub mod Layouts
 pub mod Orders
+pub mod Layouts
 -- writing
 pub mod Overlay
 pub mod Decimal
