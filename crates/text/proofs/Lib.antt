@@ -7,6 +7,7 @@ pub mod Lines
 pub mod Reading
 pub mod Orders
 pub mod Layouts
+pub mod Accepts
 -- writing
 pub mod Overlay
 pub mod Decimal
