@@ -8,6 +8,7 @@ use mathlib.Core.List.{List, _++_}
 use mathlib.Core.Path.{_≡_, refl, sym, ap, subst, _∙_}
 use lib.Dec.{T, leb}
 use lib.ListN.{length, take}
+use lib.Seq.{slice}
 use borrow.Author.Tests.{le-leb, lt-leb}
 use Rattle.terms.specs.Compare.{order-numbers}
 use Rattle.terms.specs.Equation.{Equation, orient}
@@ -29,14 +30,17 @@ use Rattle.words.proofs.Coded.{code-orient}
 use Rattle.search.specs.Line.{Limits}
 use Rattle.search.specs.Searched.{limits-of}
 use Rattle.search.specs.declared.bounded_search.Limits as limits
+use Rattle.text.specs.declared.job.lines.Written.{Written}
+use Rattle.text.specs.declared.job.accept.Reading.{Reading}
 use Rattle.text.specs.declared.job.accept.Reading.the-variants.{Refused, Accepted}
-use Rattle.text.specs.Answer.{Answer, refused, accepted, _>>=_, require, or-refuse}
+use Rattle.text.specs.Answer.{refused, accepted, _>>=_, require, or-refuse}
 use Rattle.text.specs.TermText.{read-term}
 use Rattle.text.specs.Layout.{Layout, layout}
-use Rattle.text.specs.Job.{Job, in-range, oriented, read-job}
-use Rattle.text.specs.LayoutRead.{capped}
-use Rattle.text.specs.Accepting.{accept, Takes, FewLetters, AcceptsSides}
-use Rattle.text.specs.Theory.Jobs.{In-range, in-range-true}
+use Rattle.text.specs.Job.{in-range, oriented, read-job}
+use Rattle.text.specs.SideRead.{TermRead}
+use Rattle.text.specs.LayoutRead.{capped, LaidOut}
+use Rattle.text.specs.Accepting.{accept, Answers, FewLetters, AcceptsSides, ReadsJob}
+use Rattle.text.specs.Theory.Jobs.{in-range-true}
 
 -- the letters
 
@@ -237,3 +241,20 @@ module _ (bs : List ℕ) where
         pub both-terms : {t : Term} → read-term (j .right) ≡ some t → read-job bs ≡ accept s t (j .limits)
         unfolding read-job accept _>>=_ require or-refuse
         both-terms h = rw (short-enough) (rw lines (rw first (rw h)))
+
+-- the lines and terms that the code found
+
+module _ (bs : List ℕ) (short : length bs ≤ 1024) {w : Written} (o : LaidOut bs w) where
+  pub foul-left : read-term (slice (w .left .from) (w .left .to) bs) ≡ none → read-job bs ≡ refused 2
+  foul-left h = no-left-term bs short (o .lines) h
+
+  module _ {first : List ℕ} {m : ℕ} (a : TermRead (slice (w .left .from) (w .left .to) bs) first m) where
+    pub foul-right : read-term (slice (w .right .from) (w .right .to) bs) ≡ none → read-job bs ≡ refused 2
+    foul-right h = no-right-term bs short (o .lines) (a .read) h
+
+    pub job-read : {second : List ℕ} {n : ℕ} → TermRead (slice (w .right .from) (w .right .to) bs) second n
+        → {xs ys left right left′ right′ : List ℕ} {r : Reading} → xs ≡ take m first → ys ≡ take n second
+        → AcceptsSides xs ys (w .limits) left right r left′ right′ → 31 ≤ length left → 31 ≤ length right → ReadsJob bs r left′ right′
+    job-read b {xs} {ys} {left} {right} {left′} {right′} {r} e f sides p q =
+        subst (λ x. Answers x r left′ right′) (sym (both-terms bs short (o .lines) (a .read) (b .read)))
+        (sides .exact (a .term) (b .term) (o .limits) (rw e (a .whole)) (rw f (b .whole)) (o .is) p q)
