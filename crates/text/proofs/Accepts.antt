@@ -2,10 +2,10 @@
 use Prim.Native.Nat.{ℕ, _≤_, _<_, min}
 use native.Mathlib.Omega.{arith}
 use mathlib.Core.Logic.{⊎-elim}
-use mathlib.Core.Bool.{Bool, true, false, not, _&&_}
+use mathlib.Core.Bool.{Bool, true, false}
 use mathlib.Core.Option.{none, some}
 use mathlib.Core.List.{List, _++_}
-use mathlib.Core.Path.{_≡_, refl, sym, ap, subst, _∙_}
+use mathlib.Core.Path.{_≡_, sym, ap, subst, _∙_}
 use lib.Dec.{T, leb}
 use lib.ListN.{length, take}
 use lib.Seq.{slice}
@@ -161,9 +161,10 @@ module _ {xs ys left right left′ right′ : List ℕ} {k : Lengths} (h : Keeps
   kept-runs room =
       let fine = orient-either (λ a b. Fine a × Fine b) order s t (u .fine, v .fine) (v .fine, u .fine) in
       let e : sides k left′ right′ ≡ both run (orient order s t) =
-      h .exact 31 room ∙ rw (u .whole, v .whole) (sym (code-orient run Fine run-carries (u .fine) (v .fine))) in
-      ( record { fine = fine .0; whole = ap (λ (z : Equation (List ℕ)). z .left) e }
-      , record { fine = fine .1; whole = ap (λ (z : Equation (List ℕ)). z .right) e })
+      h .exact 31 room ∙ rw (u .whole, v .whole) (sym (code-orient run Fine run-carries (u .fine) (v .fine))) in (
+        record { fine = fine .0; whole = ap (λ (z : Equation (List ℕ)). z .left) e },
+        record { fine = fine .1; whole = ap (λ (z : Equation (List ℕ)). z .right) e },
+      )
 
 -- what the code found of two runs and the limits
 

@@ -20,7 +20,7 @@ use Rattle.text.specs.Bytes.{ascii, end, read-number}
 use Rattle.text.specs.Layout.{layout}
 use Rattle.text.specs.Reading.{Valued, Values, limited}
 use Rattle.text.specs.LayoutRead.{limit-line, limit-lines, LimitAt, LimitIn, LimitedBy, LaidOut}
-use Rattle.text.proofs.Orders.{layout-parts}
+use Rattle.text.proofs.LineOrder.{layout-parts}
 use Rattle.text.proofs.Numbers.{allowed, too-large, malformed}
 
 -- the line of one limit

@@ -6,7 +6,7 @@ pub mod Numbers
 pub mod Lines
 pub mod Reading
 pub mod Sides
-pub mod Orders
+pub mod LineOrder
 pub mod Layouts
 pub mod Accepts
 -- writing

@@ -11,13 +11,17 @@ use search::bounded_search::Limits;
 // The largest number that any limit may be.
 const LARGEST: u32 = 4096;
 
-// The number of a limit and where the next line starts. A number above the largest stands for all of them.
-pub enum Limit {
+// What every larger number is taken for: it is out of each limit's range, too.
+const OVER: usize = 4097;
+
+// The number of a limit, and where the next line starts.
+enum Limit {
     Is(usize, usize),
     Malformed,
 }
 
-pub enum Limited {
+// The four limits, where their lines are well formed.
+enum Limited {
     By(Limits),
     Malformed,
 }
@@ -28,18 +32,20 @@ pub struct Part {
     pub to: usize,
 }
 
+// Where the sides are written, and the limits.
 pub struct Written {
     pub left: Part,
     pub right: Part,
     pub limits: Limits,
 }
 
+// A job's lines, where they are well formed.
 pub enum Laid {
     Lines(Written),
     Malformed,
 }
 
-// The limit in the line that starts at a position with a key.
+// The limit in the line that starts at a position with a key. A number too large is no reason to stop: a later line may be malformed, which is refused first.
 fn limit_line(s: &[u8], from: usize, key: &[u8]) -> Limit
     requires { ⌜ from ≤ length (now s) ⌝ }
     ensures { λ r. ⌜ LimitIn (now (s .entry)) from (now (key .entry)) r ⌝ }
@@ -50,7 +56,7 @@ fn limit_line(s: &[u8], from: usize, key: &[u8]) -> Limit
     let next = end + 1;
     match number_in(s, start, end, LARGEST) {
         Number::Is(n) => Limit::Is(n as usize, next),
-        Number::TooLarge => Limit::Is(4097, next),
+        Number::TooLarge => Limit::Is(OVER, next),
         Number::Malformed => Limit::Malformed,
     }
 }

@@ -2,7 +2,6 @@
 use mathlib.Core.Path.{sym}
 use Rattle.search.specs.Searched.{limits-of}
 use Rattle.text.proofs.Accepts.{steps-over, size-over, depth-over, nodes-over, none-over}
-use borrow.Author.Needs.{needs}
 use Rattle.text.proofs.job.accept.in_range.Statement.{statement}
 use Rattle.text.proofs.job.accept.in_range.Tie as tie
 

@@ -1,5 +1,4 @@
 -- `limit_lines` meets its contract: four lines, and nothing behind them.
-use native.Mathlib.Omega.{arith}
 use mathlib.Core.Path.{subst}
 use Rattle.text.specs.Bytes.{ascii}
 use Rattle.text.specs.LayoutRead.{LimitAt, LimitIn}

@@ -68,38 +68,38 @@ module _ (l r : List ℕ) where
 
   depth-next : (a b : ℕ) (bs : List ℕ)
       → bind (keyed "depth=" bs) (λ d. bind (keyed "nodes=" (d .rest)) (λ n. bind (read-number (d .front)) (λ depth.
-          bind (read-number (n .front)) (λ nodes. end (whole (all a b depth nodes)) (n .rest)))))
+      bind (read-number (n .front)) (λ nodes. end (whole (all a b depth nodes)) (n .rest)))))
       ≡ made (bind (limit-line "depth=" bs) (λ d. bind (limit-line "nodes=" (d .rest)) (λ n. end (all a b (d .number) (n .number)) (n .rest))))
   depth-next a b bs =
       (λ i. bind (keyed "depth=" bs) (λ d. before-one (read-number (d .front)) (keyed "nodes=" (d .rest))
-          (λ n depth. bind (read-number (n .front)) (λ nodes. end (whole (all a b depth nodes)) (n .rest))) i))
+      (λ n depth. bind (read-number (n .front)) (λ nodes. end (whole (all a b depth nodes)) (n .rest))) i))
       ∙ line-next "depth=" bs _ _ (λ c rest. nodes-next a b c rest)
 
   size-next : (a : ℕ) (bs : List ℕ)
       → bind (keyed "size=" bs) (λ z. bind (keyed "depth=" (z .rest)) (λ d. bind (keyed "nodes=" (d .rest)) (λ n. bind (read-number (z .front)) (λ size.
-          bind (read-number (d .front)) (λ depth. bind (read-number (n .front)) (λ nodes. end (whole (all a size depth nodes)) (n .rest)))))))
+      bind (read-number (d .front)) (λ depth. bind (read-number (n .front)) (λ nodes. end (whole (all a size depth nodes)) (n .rest)))))))
       ≡ made (bind (limit-line "size=" bs) (λ z. bind (limit-line "depth=" (z .rest)) (λ d. bind (limit-line "nodes=" (d .rest)) (λ n.
-          end (all a (z .number) (d .number) (n .number)) (n .rest)))))
+      end (all a (z .number) (d .number) (n .number)) (n .rest)))))
   size-next a bs =
       (λ i. bind (keyed "size=" bs) (λ z. before-two (read-number (z .front)) (keyed "depth=" (z .rest)) (λ d. keyed "nodes=" (d .rest))
-          (λ d n size. bind (read-number (d .front)) (λ depth. bind (read-number (n .front)) (λ nodes. end (whole (all a size depth nodes)) (n .rest)))) i))
+      (λ d n size. bind (read-number (d .front)) (λ depth. bind (read-number (n .front)) (λ nodes. end (whole (all a size depth nodes)) (n .rest)))) i))
       ∙ line-next "size=" bs _ _ (λ b rest. depth-next a b rest)
 
   steps-next : (bs : List ℕ)
       → bind (keyed "steps=" bs) (λ s. bind (keyed "size=" (s .rest)) (λ z. bind (keyed "depth=" (z .rest)) (λ d. bind (keyed "nodes=" (d .rest)) (λ n.
-          bind (read-number (s .front)) (λ steps. bind (read-number (z .front)) (λ size. bind (read-number (d .front)) (λ depth.
-          bind (read-number (n .front)) (λ nodes. end (whole (all steps size depth nodes)) (n .rest)))))))))
+      bind (read-number (s .front)) (λ steps. bind (read-number (z .front)) (λ size. bind (read-number (d .front)) (λ depth.
+      bind (read-number (n .front)) (λ nodes. end (whole (all steps size depth nodes)) (n .rest)))))))))
       ≡ made (limit-lines bs)
   unfolding limit-lines
   steps-next bs =
       (λ i. bind (keyed "steps=" bs) (λ s. before-three (read-number (s .front)) (keyed "size=" (s .rest)) (λ z. keyed "depth=" (z .rest)) (λ d. keyed "nodes=" (d .rest))
-          (λ z d n steps. bind (read-number (z .front)) (λ size. bind (read-number (d .front)) (λ depth. bind (read-number (n .front)) (λ nodes.
-          end (whole (all steps size depth nodes)) (n .rest))))) i))
+      (λ z d n steps. bind (read-number (z .front)) (λ size. bind (read-number (d .front)) (λ depth. bind (read-number (n .front)) (λ nodes.
+      end (whole (all steps size depth nodes)) (n .rest))))) i))
       ∙ line-next "steps=" bs _ _ (λ a rest. size-next a rest)
 
 -- the two sides, then the limits
 pub layout-parts : (bs : List ℕ)
     → layout bs ≡ bind (keyed "left=" bs) (λ l. bind (keyed "right=" (l .rest)) (λ r. bind (limit-lines (r .rest)) (λ m.
-        some (record { left = l .front; right = r .front; limits = m }))))
+    some (record { left = l .front; right = r .front; limits = m }))))
 unfolding layout
 layout-parts bs = λ i. bind (keyed "left=" bs) (λ l. bind (keyed "right=" (l .rest)) (λ r. steps-next (l .front) (r .front) (r .rest) i))
