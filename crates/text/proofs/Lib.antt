@@ -10,3 +10,5 @@ pub mod Overlay
 pub mod Decimal
 pub mod Items
 pub mod WordTexts
+pub mod Framing
+pub mod Joining

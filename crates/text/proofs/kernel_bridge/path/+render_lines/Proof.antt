@@ -1,0 +1,349 @@
+use borrow.Author.Needs.{needs}
+use Prim.Native.Nat.{ℕ, _<_}
+use borrow.Fn.Kinds.{In}
+use borrow.Fn.PlainCycle.{Measures, is, falls, and}
+use Rattle.text.proofs.kernel_bridge.path.render_lines.Reads as render-lines
+use Rattle.text.proofs.kernel_bridge.path.render_lines.Kinds as render-lines-kinds
+use Rattle.text.proofs.kernel_bridge.path.+render_lines.Lts-render_lines as render-lines-lts
+use Rattle.text.proofs.kernel_bridge.path.render_step.Reads as render-step-reads
+use Rattle.text.proofs.kernel_bridge.path.render_transitivity.Reads as render-transitivity-reads
+use Rattle.text.proofs.put.put_byte.Reads as put-byte-reads
+use Rattle.text.proofs.put.put_bytes.Reads as put-bytes-reads
+use Rattle.text.proofs.kernel_bridge.path.+render_lines.{statement}
+use Rattle.text.proofs.kernel_bridge.path.+render_lines.Tie.{close}
+
+abbrev μ-render-lines : Measures 4 render-lines-kinds.ps ℕ
+μ-render-lines κs a = ?
+
+abbrev render-lines-at : ℕ → In 4 render-lines-kinds.ps
+render-lines-at t =
+    and 4 render-lines-kinds.ps (is 4 render-lines-kinds.ps μ-render-lines t) render-lines.Pre
+
+abbrev render-lines-below : ℕ → In 4 render-lines-kinds.ps
+render-lines-below t =
+    and
+    4
+    render-lines-kinds.ps
+    (falls 4 render-lines-kinds.ps _<_ μ-render-lines t)
+    render-lines.Pre
+
+-- src/kernel_bridge/path.rt:186:9
+render-lines-returns : (t : ℕ) → render-lines-lts.Need-returns (
+  render-step-reads.Asked,
+  render-step-reads.Learnt,
+  render-transitivity-reads.Asked,
+  render-transitivity-reads.Learnt,
+  render-lines-below t,
+  render-lines.Post,
+  put-bytes-reads.Asked,
+  put-bytes-reads.Learnt,
+  put-byte-reads.Asked,
+  put-byte-reads.Learnt,
+) (render-lines-at t) render-lines.Post
+render-lines-returns t c = search needs
+
+-- src/kernel_bridge/path.rt:189:9
+render-lines-returns-2 : (t : ℕ) → render-lines-lts.Need-returns-2 (
+  render-step-reads.Asked,
+  render-step-reads.Learnt,
+  render-transitivity-reads.Asked,
+  render-transitivity-reads.Learnt,
+  render-lines-below t,
+  render-lines.Post,
+  put-bytes-reads.Asked,
+  put-bytes-reads.Learnt,
+  put-byte-reads.Asked,
+  put-byte-reads.Learnt,
+) (render-lines-at t) render-lines.Post
+render-lines-returns-2 t c = search needs
+
+-- src/kernel_bridge/path.rt:191:18
+render-lines-sub-before : (t : ℕ) → render-lines-lts.Need-sub-before (
+  render-step-reads.Asked,
+  render-step-reads.Learnt,
+  render-transitivity-reads.Asked,
+  render-transitivity-reads.Learnt,
+  render-lines-below t,
+  render-lines.Post,
+  put-bytes-reads.Asked,
+  put-bytes-reads.Learnt,
+  put-byte-reads.Asked,
+  put-byte-reads.Learnt,
+) (render-lines-at t) render-lines.Post
+render-lines-sub-before t c = search needs
+
+-- src/kernel_bridge/path.rt:192:13
+render-lines-mul-k : (t : ℕ) → render-lines-lts.Need-mul-k (
+  render-step-reads.Asked,
+  render-step-reads.Learnt,
+  render-transitivity-reads.Asked,
+  render-transitivity-reads.Learnt,
+  render-lines-below t,
+  render-lines.Post,
+  put-bytes-reads.Asked,
+  put-bytes-reads.Learnt,
+  put-byte-reads.Asked,
+  put-byte-reads.Learnt,
+) (render-lines-at t) render-lines.Post
+render-lines-mul-k t c = search needs
+
+-- src/kernel_bridge/path.rt:192:13
+render-lines-shared-slice-read-k : (t : ℕ) → render-lines-lts.Need-shared-slice-read-k (
+  render-step-reads.Asked,
+  render-step-reads.Learnt,
+  render-transitivity-reads.Asked,
+  render-transitivity-reads.Learnt,
+  render-lines-below t,
+  render-lines.Post,
+  put-bytes-reads.Asked,
+  put-bytes-reads.Learnt,
+  put-byte-reads.Asked,
+  put-byte-reads.Learnt,
+) (render-lines-at t) render-lines.Post
+render-lines-shared-slice-read-k t c = search needs
+
+-- src/kernel_bridge/path.rt:194:9
+render-lines-render-step-requires : (t : ℕ) → render-lines-lts.Need-render-step-requires (
+  render-step-reads.Asked,
+  render-step-reads.Learnt,
+  render-transitivity-reads.Asked,
+  render-transitivity-reads.Learnt,
+  render-lines-below t,
+  render-lines.Post,
+  put-bytes-reads.Asked,
+  put-bytes-reads.Learnt,
+  put-byte-reads.Asked,
+  put-byte-reads.Learnt,
+) (render-lines-at t) render-lines.Post
+render-lines-render-step-requires t c κs = search needs
+
+-- src/kernel_bridge/path.rt:194:9
+render-lines-same-length : (t : ℕ) → render-lines-lts.Need-same-length (
+  render-step-reads.Asked,
+  render-step-reads.Learnt,
+  render-transitivity-reads.Asked,
+  render-transitivity-reads.Learnt,
+  render-lines-below t,
+  render-lines.Post,
+  put-bytes-reads.Asked,
+  put-bytes-reads.Learnt,
+  put-byte-reads.Asked,
+  put-byte-reads.Learnt,
+) (render-lines-at t) render-lines.Post
+render-lines-same-length t c = search needs
+
+-- src/kernel_bridge/path.rt:194:9
+render-lines-returns-3 : (t : ℕ) → render-lines-lts.Need-returns-3 (
+  render-step-reads.Asked,
+  render-step-reads.Learnt,
+  render-transitivity-reads.Asked,
+  render-transitivity-reads.Learnt,
+  render-lines-below t,
+  render-lines.Post,
+  put-bytes-reads.Asked,
+  put-bytes-reads.Learnt,
+  put-byte-reads.Asked,
+  put-byte-reads.Learnt,
+) (render-lines-at t) render-lines.Post
+render-lines-returns-3 t c = search needs
+
+-- src/kernel_bridge/path.rt:196:18
+render-lines-sub-m : (t : ℕ) → render-lines-lts.Need-sub-m (
+  render-step-reads.Asked,
+  render-step-reads.Learnt,
+  render-transitivity-reads.Asked,
+  render-transitivity-reads.Learnt,
+  render-lines-below t,
+  render-lines.Post,
+  put-bytes-reads.Asked,
+  put-bytes-reads.Learnt,
+  put-byte-reads.Asked,
+  put-byte-reads.Learnt,
+) (render-lines-at t) render-lines.Post
+render-lines-sub-m t c = search needs
+
+-- src/kernel_bridge/path.rt:196:13
+render-lines-mul-m : (t : ℕ) → render-lines-lts.Need-mul-m (
+  render-step-reads.Asked,
+  render-step-reads.Learnt,
+  render-transitivity-reads.Asked,
+  render-transitivity-reads.Learnt,
+  render-lines-below t,
+  render-lines.Post,
+  put-bytes-reads.Asked,
+  put-bytes-reads.Learnt,
+  put-byte-reads.Asked,
+  put-byte-reads.Learnt,
+) (render-lines-at t) render-lines.Post
+render-lines-mul-m t c = search needs
+
+-- src/kernel_bridge/path.rt:196:13
+render-lines-shared-slice-read-m : (t : ℕ) → render-lines-lts.Need-shared-slice-read-m (
+  render-step-reads.Asked,
+  render-step-reads.Learnt,
+  render-transitivity-reads.Asked,
+  render-transitivity-reads.Learnt,
+  render-lines-below t,
+  render-lines.Post,
+  put-bytes-reads.Asked,
+  put-bytes-reads.Learnt,
+  put-byte-reads.Asked,
+  put-byte-reads.Learnt,
+) (render-lines-at t) render-lines.Post
+render-lines-shared-slice-read-m t c = search needs
+
+-- src/kernel_bridge/path.rt:197:9
+render-lines-render-transitivity-requires :
+    (t : ℕ) → render-lines-lts.Need-render-transitivity-requires (
+      render-step-reads.Asked,
+      render-step-reads.Learnt,
+      render-transitivity-reads.Asked,
+      render-transitivity-reads.Learnt,
+      render-lines-below t,
+      render-lines.Post,
+      put-bytes-reads.Asked,
+      put-bytes-reads.Learnt,
+      put-byte-reads.Asked,
+      put-byte-reads.Learnt,
+    ) (render-lines-at t) render-lines.Post
+render-lines-render-transitivity-requires t c κs = search needs
+
+-- src/kernel_bridge/path.rt:198:9
+render-lines-render-lines-requires : (t : ℕ) → render-lines-lts.Need-render-lines-requires (
+  render-step-reads.Asked,
+  render-step-reads.Learnt,
+  render-transitivity-reads.Asked,
+  render-transitivity-reads.Learnt,
+  render-lines-below t,
+  render-lines.Post,
+  put-bytes-reads.Asked,
+  put-bytes-reads.Learnt,
+  put-byte-reads.Asked,
+  put-byte-reads.Learnt,
+) (render-lines-at t) render-lines.Post
+render-lines-render-lines-requires t c κs = search needs
+
+-- src/kernel_bridge/path.rt:199:36
+render-lines-slice-aggregate-put-bytes : (t : ℕ) → render-lines-lts.Need-slice-aggregate-put-bytes (
+  render-step-reads.Asked,
+  render-step-reads.Learnt,
+  render-transitivity-reads.Asked,
+  render-transitivity-reads.Learnt,
+  render-lines-below t,
+  render-lines.Post,
+  put-bytes-reads.Asked,
+  put-bytes-reads.Learnt,
+  put-byte-reads.Asked,
+  put-byte-reads.Learnt,
+) (render-lines-at t) render-lines.Post
+render-lines-slice-aggregate-put-bytes t c = search needs
+
+-- src/kernel_bridge/path.rt:199:9
+render-lines-put-bytes-requires : (t : ℕ) → render-lines-lts.Need-put-bytes-requires (
+  render-step-reads.Asked,
+  render-step-reads.Learnt,
+  render-transitivity-reads.Asked,
+  render-transitivity-reads.Learnt,
+  render-lines-below t,
+  render-lines.Post,
+  put-bytes-reads.Asked,
+  put-bytes-reads.Learnt,
+  put-byte-reads.Asked,
+  put-byte-reads.Learnt,
+) (render-lines-at t) render-lines.Post
+render-lines-put-bytes-requires t c κs = search needs
+
+-- src/kernel_bridge/path.rt:200:9
+render-lines-render-step-requires-2 : (t : ℕ) → render-lines-lts.Need-render-step-requires-2 (
+  render-step-reads.Asked,
+  render-step-reads.Learnt,
+  render-transitivity-reads.Asked,
+  render-transitivity-reads.Learnt,
+  render-lines-below t,
+  render-lines.Post,
+  put-bytes-reads.Asked,
+  put-bytes-reads.Learnt,
+  put-byte-reads.Asked,
+  put-byte-reads.Learnt,
+) (render-lines-at t) render-lines.Post
+render-lines-render-step-requires-2 t c κs = search needs
+
+-- src/kernel_bridge/path.rt:201:5
+render-lines-put-byte-requires : (t : ℕ) → render-lines-lts.Need-put-byte-requires (
+  render-step-reads.Asked,
+  render-step-reads.Learnt,
+  render-transitivity-reads.Asked,
+  render-transitivity-reads.Learnt,
+  render-lines-below t,
+  render-lines.Post,
+  put-bytes-reads.Asked,
+  put-bytes-reads.Learnt,
+  put-byte-reads.Asked,
+  put-byte-reads.Learnt,
+) (render-lines-at t) render-lines.Post
+render-lines-put-byte-requires t c κs = search needs
+
+-- src/kernel_bridge/path.rt:182:1
+render-lines-same-length-2 : (t : ℕ) → render-lines-lts.Need-same-length-2 (
+  render-step-reads.Asked,
+  render-step-reads.Learnt,
+  render-transitivity-reads.Asked,
+  render-transitivity-reads.Learnt,
+  render-lines-below t,
+  render-lines.Post,
+  put-bytes-reads.Asked,
+  put-bytes-reads.Learnt,
+  put-byte-reads.Asked,
+  put-byte-reads.Learnt,
+) (render-lines-at t) render-lines.Post
+render-lines-same-length-2 t c = search needs
+
+-- src/kernel_bridge/path.rt:182:1
+render-lines-returns-4 : (t : ℕ) → render-lines-lts.Need-returns-4 (
+  render-step-reads.Asked,
+  render-step-reads.Learnt,
+  render-transitivity-reads.Asked,
+  render-transitivity-reads.Learnt,
+  render-lines-below t,
+  render-lines.Post,
+  put-bytes-reads.Asked,
+  put-bytes-reads.Learnt,
+  put-byte-reads.Asked,
+  put-byte-reads.Learnt,
+) (render-lines-at t) render-lines.Post
+render-lines-returns-4 t c = search needs
+
+pub +render-lines-spec : {M : Type 1} → statement M
++render-lines-spec = close μ-render-lines λ t. render-lines-lts.spec (
+  render-step-reads.Asked,
+  render-step-reads.Learnt,
+  render-transitivity-reads.Asked,
+  render-transitivity-reads.Learnt,
+  render-lines-below t,
+  render-lines.Post,
+  put-bytes-reads.Asked,
+  put-bytes-reads.Learnt,
+  put-byte-reads.Asked,
+  put-byte-reads.Learnt,
+)
+    (render-lines-at t)
+    render-lines.Post
+    (render-lines-returns t)
+    (render-lines-returns-2 t)
+    (render-lines-sub-before t)
+    (render-lines-mul-k t)
+    (render-lines-shared-slice-read-k t)
+    (render-lines-render-step-requires t)
+    (render-lines-same-length t)
+    (render-lines-returns-3 t)
+    (render-lines-sub-m t)
+    (render-lines-mul-m t)
+    (render-lines-shared-slice-read-m t)
+    (render-lines-render-transitivity-requires t)
+    (render-lines-render-lines-requires t)
+    (render-lines-slice-aggregate-put-bytes t)
+    (render-lines-put-bytes-requires t)
+    (render-lines-render-step-requires-2 t)
+    (render-lines-put-byte-requires t)
+    (render-lines-same-length-2 t)
+    (render-lines-returns-4 t)
