@@ -165,7 +165,7 @@ module _ (names : List ℕ) where
   unfolding one-line frame call app ref lam ascii foldl
   frame-text ws x p d n u v = simp append-assoc
 
-  module _ (ws : List Law) (d : Direction) (n : Name) {xs : List ℕ} {i at : ℕ} {u v : Term} {o o₁ : List ℕ} {a b : ℕ} where
+  module _ (ws : List Law) (d : Direction) (n : Name) {xs : List ℕ} {i at : ℕ} {u : Term} (v : Term) {o o₁ : List ℕ} {a b : ℕ} where
     -- a line at the root
     pub line-here : at ≤ i → Holds xs i u → at - i < size u → Put (at-place names ws d n u v) o a b o₁ → Put (one-line names ws (place-at u (at - i)) d n u v) o a b o₁
     unfolding one-line

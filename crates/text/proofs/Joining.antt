@@ -6,9 +6,11 @@ use native.Mathlib.Numerals.{add-one}
 use mathlib.Core.Path.{_≡_, refl, sym, ap, subst, _∙_}
 use mathlib.Core.List.{List, [], _∷_, _++_, map}
 use lib.ListN.{length, take, getD}
+use lib.Seq.{take-all}
 use Rattle.terms.specs.Term as term-of
 use Rattle.terms.specs.Term.{Term, size}
 use Rattle.terms.specs.Held.{Holds}
+use Rattle.terms.specs.Letters.{letters, rising}
 use Rattle.terms.proofs.Held.{holds-whole}
 use Rattle.search.specs.Law.{Law, semiring}
 use Rattle.search.specs.Line.{Line}
@@ -23,12 +25,12 @@ use Rattle.search.specs.declared.bounded_search.Origin.the-variants.{Start, Fro
 use Rattle.search.proofs.Sorting.{line-at}
 use Rattle.search.proofs.Traced.{traced-at}
 use Rattle.text.specs.Bytes.{ascii}
-use Rattle.text.specs.Proof.{call, term, one-line, joined, chain}
+use Rattle.text.specs.Proof.{call, term, one-line, joined, chain, binders, proof}
 use Rattle.text.specs.Put.{Put, top}
 use Rattle.text.specs.Walk.{Walk}
-use Rattle.text.specs.Framed.{ends}
+use Rattle.text.specs.Framed.{ends, opens, closes}
 use Rattle.text.proofs.Overlay.{then, put-as, put-none}
-use Rattle.text.proofs.Framing.{ends-text}
+use Rattle.text.proofs.Framing.{ends-text, binders-text}
 
 -- ---- one line
 
@@ -36,8 +38,9 @@ pub holds-shown : {ws : List ℕ} {k : ℕ} {xs : List ℕ} {t : Term} → Shows
 holds-shown {t = t} S p = holds-whole (S .exact t p)
 
 -- the start has no line
-pub no-start : {ws : List ℕ} {ns : List Noted} {j k : ℕ} {x : Line} → Linked ws ns j k x → Originates ws k Start → ⊥
-no-start {x = x} L O = let e : Start ≡ From (L .line .step) = O .exact (x .result) (L .line .run) ∙ L .line .origin in let z : _≡_ {A = ℕ} 0 1 = cc in omega arith
+pub no-start : {ws : List ℕ} {ns : List Noted} {j k : ℕ} {x : Line} {o : Origin} → Linked ws ns j k x → Originates ws k o → o ≡ Start → ⊥
+no-start {x = x} L O h =
+    let e : Start ≡ From (L .line .step) = sym h ∙ O .exact (x .result) (L .line .run) ∙ L .line .origin in let z : _≡_ {A = ℕ} 0 1 = cc in omega arith
 
 same-step : {s s′ : Step} → From s ≡ From s′ → s ≡ s′
 same-step e = cc
@@ -63,11 +66,11 @@ module _ {ws : List ℕ} {ns : List Noted} {j k : ℕ} {x : Line} (S : Slots ws 
         (f u (x .result) (holds-shown P′ spells-source) (holds-shown Q (L .line .run)) (omega (arith, m .inside)) (omega arith) (spells-source .small) (L .line .run .small))
 
     -- the line that slot k has
-    pub step-put : (s : Step) {xs ys : List ℕ} → Originates ws k (From s) → Shows ws (s .parent) xs → Shows ws k ys
+    pub step-put : (s : Step) {q : Origin} {xs ys : List ℕ} → Originates ws k q → q ≡ From s → Shows ws (s .parent) xs → Shows ws k ys
         → ((u v : Term) → Holds xs 0 u → Holds ys 0 v → s .place - 0 < size u → 0 ≤ s .place → size u ≤ 31 → size v ≤ 31
           → Put (one-line names semiring (place-at u (s .place - 0)) (direction-of (s .direction)) (name-of (s .law)) u v) o a b o′)
         → Put (line-text names x (noted-at ns j .term)) o a b o′
-    step-put s O P Q f = step-by s (same-step (sym (O .exact (x .result) (L .line .run) ∙ L .line .origin))) P Q f
+    step-put s O h P Q f = step-by s (same-step (sym (O .exact (x .result) (L .line .run) ∙ L .line .origin) ∙ h)) P Q f
 
 -- ---- several lines
 
@@ -166,3 +169,14 @@ module _ {ws path : List ℕ} {s : Term} {xs : List Line} (W : Walk ws path s xs
       rw e
       (put-as (ends-text names s u (x .result) (chain names semiring s (take b xs)) (line-text names x u) ∙ sym (chain-more names semiring xs b s p (long b h)))
       (then (tr s u (x .result) (spells-start b h) m (L .line .run)) (then ln (then gap (then q end)))))
+
+  -- all lines
+  pub lines-all : {o o′ : List ℕ} {a c : ℕ} → (length path ≤ length path → Put (chain names semiring s (take (length path) xs)) o a c o′) → Put (chain names semiring s xs) o a c o′
+  lines-all f = put-as (ap (chain names semiring s) (take-all (length path) xs (omega (arith, traced-length (W .lines))))) (f (omega arith))
+
+-- the binders around a proof
+pub proof-put : {names : List ℕ} (s t : Term) (xs : List Line) {o o₁ o₂ o₃ : List ℕ} {a b c d : ℕ} → names ≡ rising (letters s ++ letters t)
+    → Put (opens (length names)) o a b o₁ → Put (chain names semiring s xs) o₁ b c o₂ → Put (closes (length names)) o₂ c d o₃ → Put (proof semiring s t xs) o a d o₃
+unfolding proof
+proof-put {names} s t xs e p q r =
+    put-as (binders-text names (chain names semiring s xs) ∙ ap (λ ns. binders 0 ns (chain ns semiring s xs)) e) (then p (then q r))

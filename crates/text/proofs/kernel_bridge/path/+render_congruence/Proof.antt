@@ -90,7 +90,7 @@ render-congruence-returns : (t : ℕ) → render-congruence-lts.Need-returns (
 render-congruence-returns t c =
     let d = c .before .before .before .before in
     let a = d .before .before .before .before .before .args in
-    λ u v h k q w p z. line-here (a .names .now) semiring (direction-of (a .direction)) (name-of (a .law)) (d .if1 .taken) h q (c .before .before .render-law .ensures u v h k p z)
+    λ u v h k q w p z. line-here (a .names .now) semiring (direction-of (a .direction)) (name-of (a .law)) v (d .if1 .taken) h q (c .before .before .render-law .ensures u v h k p z)
 
 render-congruence-part-of-requires : (t : ℕ) → render-congruence-lts.Need-part-of-requires (
   render-law-reads.Asked,
@@ -218,7 +218,7 @@ render-congruence-returns-2 t c =
     let x = side-of (d5 .part-of .result .right) in
     λ u v h k q w p z.
     let E = d5 .part-of .ensures .exact u (d6 .if1 .left) h q in
-    line-below (a .names .now) semiring (direction-of (a .direction)) (name-of (a .law)) E (d3 .render-frame .ensures u v h k)
+    line-below (a .names .now) semiring (direction-of (a .direction)) (name-of (a .law)) v E (d3 .render-frame .ensures u v h k)
     (d2 .render-congruence .ensures (part x u) (part x v) (E .held) (d4 .part-at .ensures v k) (E .inside) (d5 .part-of .ensures .nears (d6 .if1 .left) .1)
       (omega (arith, part-size x u)) (omega (arith, part-size x v)))
     (d1 .put-byte .ensures)

@@ -1,5 +1,9 @@
+-- `render_lines` meets its contract: the lines but the last, joined to the last. The measure is the number of lines.
+use native.Mathlib.Omega.{arith}
+use Rattle.text.specs.Bytes.{ascii}
+use Rattle.text.proofs.Joining.{lines-none, lines-first, lines-more}
 use borrow.Author.Needs.{needs}
-use Prim.Native.Nat.{ℕ, _<_}
+use Prim.Native.Nat.{ℕ, _<_, _-_}
 use borrow.Fn.Kinds.{In}
 use borrow.Fn.PlainCycle.{Measures, is, falls, and}
 use Rattle.text.proofs.kernel_bridge.path.render_lines.Reads as render-lines
@@ -13,7 +17,7 @@ use Rattle.text.proofs.kernel_bridge.path.+render_lines.{statement}
 use Rattle.text.proofs.kernel_bridge.path.+render_lines.Tie.{close}
 
 abbrev μ-render-lines : Measures 4 render-lines-kinds.ps ℕ
-μ-render-lines κs a = ?
+μ-render-lines κs a = a .1 .1 .1 .1 .0
 
 abbrev render-lines-at : ℕ → In 4 render-lines-kinds.ps
 render-lines-at t =
@@ -27,7 +31,6 @@ render-lines-below t =
     (falls 4 render-lines-kinds.ps _<_ μ-render-lines t)
     render-lines.Pre
 
--- src/kernel_bridge/path.rt:186:9
 render-lines-returns : (t : ℕ) → render-lines-lts.Need-returns (
   render-step-reads.Asked,
   render-step-reads.Learnt,
@@ -40,9 +43,10 @@ render-lines-returns : (t : ℕ) → render-lines-lts.Need-returns (
   put-byte-reads.Asked,
   put-byte-reads.Learnt,
 ) (render-lines-at t) render-lines.Post
-render-lines-returns t c = search needs
+render-lines-returns t c =
+    let a = c .before .before .before .before .before .args in
+    λ s xs w h. lines-none w (a .names .now) (a .n) (c .if1 .taken) (omega arith) (omega arith)
 
--- src/kernel_bridge/path.rt:189:9
 render-lines-returns-2 : (t : ℕ) → render-lines-lts.Need-returns-2 (
   render-step-reads.Asked,
   render-step-reads.Learnt,
@@ -55,9 +59,8 @@ render-lines-returns-2 : (t : ℕ) → render-lines-lts.Need-returns-2 (
   put-byte-reads.Asked,
   put-byte-reads.Learnt,
 ) (render-lines-at t) render-lines.Post
-render-lines-returns-2 t c = search needs
+render-lines-returns-2 t c = λ s xs w h. absurd (omega (arith, h, c .if2 .taken))
 
--- src/kernel_bridge/path.rt:191:18
 render-lines-sub-before : (t : ℕ) → render-lines-lts.Need-sub-before (
   render-step-reads.Asked,
   render-step-reads.Learnt,
@@ -72,7 +75,6 @@ render-lines-sub-before : (t : ℕ) → render-lines-lts.Need-sub-before (
 ) (render-lines-at t) render-lines.Post
 render-lines-sub-before t c = search needs
 
--- src/kernel_bridge/path.rt:192:13
 render-lines-mul-k : (t : ℕ) → render-lines-lts.Need-mul-k (
   render-step-reads.Asked,
   render-step-reads.Learnt,
@@ -87,7 +89,6 @@ render-lines-mul-k : (t : ℕ) → render-lines-lts.Need-mul-k (
 ) (render-lines-at t) render-lines.Post
 render-lines-mul-k t c = search needs
 
--- src/kernel_bridge/path.rt:192:13
 render-lines-shared-slice-read-k : (t : ℕ) → render-lines-lts.Need-shared-slice-read-k (
   render-step-reads.Asked,
   render-step-reads.Learnt,
@@ -102,7 +103,6 @@ render-lines-shared-slice-read-k : (t : ℕ) → render-lines-lts.Need-shared-sl
 ) (render-lines-at t) render-lines.Post
 render-lines-shared-slice-read-k t c = search needs
 
--- src/kernel_bridge/path.rt:194:9
 render-lines-render-step-requires : (t : ℕ) → render-lines-lts.Need-render-step-requires (
   render-step-reads.Asked,
   render-step-reads.Learnt,
@@ -117,7 +117,6 @@ render-lines-render-step-requires : (t : ℕ) → render-lines-lts.Need-render-s
 ) (render-lines-at t) render-lines.Post
 render-lines-render-step-requires t c κs = search needs
 
--- src/kernel_bridge/path.rt:194:9
 render-lines-same-length : (t : ℕ) → render-lines-lts.Need-same-length (
   render-step-reads.Asked,
   render-step-reads.Learnt,
@@ -132,7 +131,6 @@ render-lines-same-length : (t : ℕ) → render-lines-lts.Need-same-length (
 ) (render-lines-at t) render-lines.Post
 render-lines-same-length t c = search needs
 
--- src/kernel_bridge/path.rt:194:9
 render-lines-returns-3 : (t : ℕ) → render-lines-lts.Need-returns-3 (
   render-step-reads.Asked,
   render-step-reads.Learnt,
@@ -145,9 +143,13 @@ render-lines-returns-3 : (t : ℕ) → render-lines-lts.Need-returns-3 (
   put-byte-reads.Asked,
   put-byte-reads.Learnt,
 ) (render-lines-at t) render-lines.Post
-render-lines-returns-3 t c = search needs
+render-lines-returns-3 t c =
+    let d1 = c .before .before in
+    let d2 = d1 .before .before in
+    let d4 = d2 .before .before .before in
+    let a = d4 .before .before .before .before .before .args in
+    λ s xs w h. lines-first w (a .names .now) (a .n) (omega (arith, d2 .if3 .taken, d4 .if1 .left)) h (d1 .render-step .ensures)
 
--- src/kernel_bridge/path.rt:196:18
 render-lines-sub-m : (t : ℕ) → render-lines-lts.Need-sub-m (
   render-step-reads.Asked,
   render-step-reads.Learnt,
@@ -162,7 +164,6 @@ render-lines-sub-m : (t : ℕ) → render-lines-lts.Need-sub-m (
 ) (render-lines-at t) render-lines.Post
 render-lines-sub-m t c = search needs
 
--- src/kernel_bridge/path.rt:196:13
 render-lines-mul-m : (t : ℕ) → render-lines-lts.Need-mul-m (
   render-step-reads.Asked,
   render-step-reads.Learnt,
@@ -177,7 +178,6 @@ render-lines-mul-m : (t : ℕ) → render-lines-lts.Need-mul-m (
 ) (render-lines-at t) render-lines.Post
 render-lines-mul-m t c = search needs
 
--- src/kernel_bridge/path.rt:196:13
 render-lines-shared-slice-read-m : (t : ℕ) → render-lines-lts.Need-shared-slice-read-m (
   render-step-reads.Asked,
   render-step-reads.Learnt,
@@ -192,7 +192,6 @@ render-lines-shared-slice-read-m : (t : ℕ) → render-lines-lts.Need-shared-sl
 ) (render-lines-at t) render-lines.Post
 render-lines-shared-slice-read-m t c = search needs
 
--- src/kernel_bridge/path.rt:197:9
 render-lines-render-transitivity-requires :
     (t : ℕ) → render-lines-lts.Need-render-transitivity-requires (
       render-step-reads.Asked,
@@ -208,7 +207,6 @@ render-lines-render-transitivity-requires :
     ) (render-lines-at t) render-lines.Post
 render-lines-render-transitivity-requires t c κs = search needs
 
--- src/kernel_bridge/path.rt:198:9
 render-lines-render-lines-requires : (t : ℕ) → render-lines-lts.Need-render-lines-requires (
   render-step-reads.Asked,
   render-step-reads.Learnt,
@@ -223,7 +221,6 @@ render-lines-render-lines-requires : (t : ℕ) → render-lines-lts.Need-render-
 ) (render-lines-at t) render-lines.Post
 render-lines-render-lines-requires t c κs = search needs
 
--- src/kernel_bridge/path.rt:199:36
 render-lines-slice-aggregate-put-bytes : (t : ℕ) → render-lines-lts.Need-slice-aggregate-put-bytes (
   render-step-reads.Asked,
   render-step-reads.Learnt,
@@ -238,7 +235,6 @@ render-lines-slice-aggregate-put-bytes : (t : ℕ) → render-lines-lts.Need-sli
 ) (render-lines-at t) render-lines.Post
 render-lines-slice-aggregate-put-bytes t c = search needs
 
--- src/kernel_bridge/path.rt:199:9
 render-lines-put-bytes-requires : (t : ℕ) → render-lines-lts.Need-put-bytes-requires (
   render-step-reads.Asked,
   render-step-reads.Learnt,
@@ -253,7 +249,6 @@ render-lines-put-bytes-requires : (t : ℕ) → render-lines-lts.Need-put-bytes-
 ) (render-lines-at t) render-lines.Post
 render-lines-put-bytes-requires t c κs = search needs
 
--- src/kernel_bridge/path.rt:200:9
 render-lines-render-step-requires-2 : (t : ℕ) → render-lines-lts.Need-render-step-requires-2 (
   render-step-reads.Asked,
   render-step-reads.Learnt,
@@ -268,7 +263,6 @@ render-lines-render-step-requires-2 : (t : ℕ) → render-lines-lts.Need-render
 ) (render-lines-at t) render-lines.Post
 render-lines-render-step-requires-2 t c κs = search needs
 
--- src/kernel_bridge/path.rt:201:5
 render-lines-put-byte-requires : (t : ℕ) → render-lines-lts.Need-put-byte-requires (
   render-step-reads.Asked,
   render-step-reads.Learnt,
@@ -283,7 +277,6 @@ render-lines-put-byte-requires : (t : ℕ) → render-lines-lts.Need-put-byte-re
 ) (render-lines-at t) render-lines.Post
 render-lines-put-byte-requires t c κs = search needs
 
--- src/kernel_bridge/path.rt:182:1
 render-lines-same-length-2 : (t : ℕ) → render-lines-lts.Need-same-length-2 (
   render-step-reads.Asked,
   render-step-reads.Learnt,
@@ -298,7 +291,6 @@ render-lines-same-length-2 : (t : ℕ) → render-lines-lts.Need-same-length-2 (
 ) (render-lines-at t) render-lines.Post
 render-lines-same-length-2 t c = search needs
 
--- src/kernel_bridge/path.rt:182:1
 render-lines-returns-4 : (t : ℕ) → render-lines-lts.Need-returns-4 (
   render-step-reads.Asked,
   render-step-reads.Learnt,
@@ -311,7 +303,19 @@ render-lines-returns-4 : (t : ℕ) → render-lines-lts.Need-returns-4 (
   put-byte-reads.Asked,
   put-byte-reads.Learnt,
 ) (render-lines-at t) render-lines.Post
-render-lines-returns-4 t c = search needs
+unfolding ascii
+render-lines-returns-4 t c =
+    let d1 = c .before .before in
+    let d2 = d1 .before .before .before .before in
+    let d3 = d2 .before .before .before .before in
+    let d4 = d3 .before .before .before .before .before in
+    let d5 = d4 .before .before .before .before in
+    let d6 = d5 .before .before .before in
+    let d8 = d6 .before .before .before in
+    let a = d8 .before .before .before .before .before .args in
+    λ s xs w h.
+    lines-more w (a .names .now) (a .n) (a .n - 1) (omega (arith, d8 .if1 .left)) (omega (arith, d6 .if3 .left)) (omega (arith, d8 .if1 .left, h))
+    (d5 .render-transitivity .ensures) (d4 .render-lines .ensures s xs w (omega (arith, h))) (d3 .put-bytes .ensures) (d2 .render-step2 .ensures) (d1 .put-byte .ensures)
 
 pub +render-lines-spec : {M : Type 1} → statement M
 +render-lines-spec = close μ-render-lines λ t. render-lines-lts.spec (

@@ -1,51 +1,46 @@
+-- `render_step` meets its contract: the line by the step in slot k, from the term in the slot that it names.
+use Rattle.text.proofs.Joining.{no-start, step-put}
 use borrow.Author.Needs.{needs}
 use Rattle.text.proofs.kernel_bridge.path.render_step.Statement.{statement}
 use Rattle.text.proofs.kernel_bridge.path.render_step.Tie as tie
-use Rattle.text.proofs.kernel_bridge.path.render_step.Reads as reads
-use Rattle.text.proofs.kernel_bridge.path.render_step.Lts as lts
-use Rattle.search.proofs.path.origin_of.Reads as origin-of-reads
-use Rattle.search.proofs.path.run_of.Reads as run-of-reads
-use Rattle.text.proofs.kernel_bridge.path.render_congruence.Reads as render-congruence-reads
 
--- src/kernel_bridge/path.rt:158:30
 origin-of-requires : tie.Need-origin-of-requires
 origin-of-requires c κs = search needs
 
--- src/kernel_bridge/path.rt:158:22
 enum-known-step : tie.Need-enum-known-step
 enum-known-step c = search needs
 
--- src/kernel_bridge/path.rt:159:9
 enum-told : tie.Need-enum-told
 enum-told c = search needs
 
--- src/kernel_bridge/path.rt:159:9
 returns : tie.Need-returns
-returns c = search needs
+returns c = λ ns j x S L. absurd (no-start L (c .before .before .origin-of .ensures) (c .enum-told .given .1))
 
--- src/kernel_bridge/path.rt:163:9
 run-of-requires : tie.Need-run-of-requires
 run-of-requires c κs = search needs
 
--- src/kernel_bridge/path.rt:164:9
 run-of-requires-2 : tie.Need-run-of-requires-2
 run-of-requires-2 c κs = search needs
 
--- src/kernel_bridge/path.rt:165:54
 cast-render-congruence : tie.Need-cast-render-congruence
 cast-render-congruence c = search needs
 
--- src/kernel_bridge/path.rt:165:5
 render-congruence-requires : tie.Need-render-congruence-requires
 render-congruence-requires c κs = search needs
 
--- src/kernel_bridge/path.rt:155:1
 same-length : tie.Need-same-length
 same-length c = search needs
 
--- src/kernel_bridge/path.rt:155:1
 returns-2 : tie.Need-returns-2
-returns-2 c = search needs
+returns-2 c =
+    let d1 = c .before .before in
+    let d2 = d1 .before .before .before in
+    let d3 = d2 .before in
+    let d5 = d3 .before .before in
+    let d7 = d5 .before .before in
+    λ ns j x S L.
+    step-put S L (d7 .before .before .before .before .args .names .now) (d5 .step .given .0 .0) (d7 .origin-of .ensures) (d5 .step .given .1) (d3 .run-of .ensures)
+    (d2 .run-of2 .ensures) (d1 .render-congruence .ensures)
 
 pub render-step-spec : {M : Type 1} → statement M
 render-step-spec =
