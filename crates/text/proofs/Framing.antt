@@ -2,10 +2,10 @@
 use Prim.Native.Nat.{ℕ, suc, _+_, _-_, _≤_, _<_}
 use native.Mathlib.Omega.{arith}
 use native.Mathlib.Nat.{add-zero, zero-add}
-use mathlib.Core.Path.{_≡_, refl, sym, ap, subst, _∙_}
+use mathlib.Core.Path.{_≡_, refl, sym, ap, _∙_}
 use mathlib.Core.Bool.{Bool, true, false, cond}
-use mathlib.Core.List.{List, [], _∷_, _++_, foldl, append-assoc, append-nil}
-use lib.Dec.{eqb, ltb}
+use mathlib.Core.List.{List, [], _∷_, _++_, append-assoc, append-nil}
+use lib.Dec.{ltb}
 use lib.ListN.{length, getD}
 use borrow.Author.Tests.{lt-ltb, le-ltb}
 use Rattle.terms.specs.Term.{Term, letter, zero, one, add, mul, size}
@@ -13,17 +13,16 @@ use Rattle.terms.specs.Run.{ADD, run}
 use Rattle.terms.specs.Held.{Fine, Holds}
 use Rattle.terms.specs.Promises.{Ends}
 use Rattle.terms.proofs.Positions.{drop-head}
-use Rattle.terms.proofs.Held.{size-pos, holds-within, holds-add, holds-mul}
+use Rattle.terms.proofs.Held.{holds-add, holds-mul}
 use Rattle.search.specs.Law.{Law, Name}
 use Rattle.search.specs.Line.{Direction, back, Side, l, r}
 use Rattle.search.specs.Place.{place-at}
 use Rattle.search.proofs.Turning.{turn-here}
 use Rattle.text.specs.Bytes.{ascii}
-use Rattle.text.specs.Proof.{ref, app, lam, call, hole, variable, part, term, applied, context, at-place, one-line, binders}
+use Rattle.text.specs.Proof.{ref, app, lam, call, hole, part, term, applied, context, at-place, one-line, binders}
 use Rattle.text.specs.Rendered.{operator}
 use Rattle.text.specs.Put.{Put}
 use Rattle.text.specs.Framed.{side-of, frame, ends, opens, closes, Enclosed, Encloses}
-use Rattle.text.specs.declared.kernel_bridge.path.Part.{Part}
 use Rattle.text.proofs.Overlay.{then, put-as}
 use Rattle.text.proofs.Rendered.{held-past}
 
@@ -56,7 +55,7 @@ pub record Node (xs : List ℕ) (i : ℕ) (t : Term) : Type 0 where
   pub after : (names : List ℕ) → operator (getD xs i 0) ++ (ascii "(ref hole)) " ++ (term names (part r t) ++ ascii ")")) ≡ context names l t
 
 pub node : {xs : List ℕ} {i : ℕ} (t : Term) → ADD ≤ getD xs i 0 → Holds xs i t → Node xs i t
-unfolding run part context operator ascii call app ref hole Fine foldl
+unfolding run part context operator ascii call app ref hole Fine
 node (letter n) k h = absurd (low (letter n) k h refl (omega (arith, h .fine)))
 node zero k h = absurd (low zero k h refl (omega arith))
 node one k h = absurd (low one k h refl (omega arith))
@@ -156,13 +155,13 @@ module _ (xs : List ℕ) (i at : ℕ) where
 module _ (names : List ℕ) where
   pub symmetry-text : (ws : List Law) (n : Name) (u v : Term)
       → ascii "(app (app (app (ref eq_symm) " ++ (term names v ++ (ascii ") " ++ (term names u ++ (ascii ") " ++ (applied names ws n v u ++ ascii ")"))))) ≡ at-place names ws back n u v
-  unfolding at-place call app ref ascii foldl
+  unfolding at-place call app ref ascii
   symmetry-text ws n u v = simp append-assoc
 
   -- a line below the root is one on the part, in its frame
   pub frame-text : (ws : List Law) (x : Side) (p : List Side) (d : Direction) (n : Name) (u v : Term)
       → frame names x u v ++ (one-line names ws p d n (part x u) (part x v) ++ ascii ")") ≡ one-line names ws (x ∷ p) d n u v
-  unfolding one-line frame call app ref lam ascii foldl
+  unfolding one-line frame call app ref lam ascii
   frame-text ws x p d n u v = simp append-assoc
 
   module _ (ws : List Law) (d : Direction) (n : Name) {xs : List ℕ} {i at : ℕ} {u : Term} (v : Term) {o o₁ : List ℕ} {a b : ℕ} where
@@ -180,7 +179,7 @@ module _ (names : List ℕ) where
 
   pub ends-text : (s u v : Term) (p q : List ℕ)
       → ends names s u v ++ (p ++ (ascii ") " ++ (q ++ ascii ")"))) ≡ call (ascii "eq_trans") (term names s ∷ term names u ∷ term names v ∷ p ∷ q ∷ [])
-  unfolding ends call app ref ascii foldl
+  unfolding ends call app ref ascii
   ends-text s u v p q = simp append-assoc
 
 -- ---- binders

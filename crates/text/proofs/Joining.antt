@@ -2,7 +2,6 @@
 use Prim.Native.Nat.{ℕ, suc, _+_, _-_, _≤_, _<_}
 use native.Mathlib.Omega.{arith}
 use native.Mathlib.Nat.{sub-zero}
-use native.Mathlib.Numerals.{add-one}
 use mathlib.Core.Path.{_≡_, refl, sym, ap, subst, _∙_}
 use mathlib.Core.List.{List, [], _∷_, _++_, map}
 use lib.ListN.{length, take, getD}
@@ -55,7 +54,7 @@ module _ {ws : List ℕ} {ns : List Noted} {j k : ℕ} {x : Line} (S : Slots ws 
   module _ (names : List ℕ) {o o′ : List ℕ} {a b : ℕ} where
     step-by : (s : Step) → L .line .step ≡ s → {xs ys : List ℕ} → Shows ws (s .parent) xs → Shows ws k ys
         → ((u v : Term) → Holds xs 0 u → Holds ys 0 v → s .place - 0 < size u → 0 ≤ s .place → size u ≤ 31 → size v ≤ 31
-          → Put (one-line names semiring (place-at u (s .place - 0)) (direction-of (s .direction)) (name-of (s .law)) u v) o a b o′)
+        → Put (one-line names semiring (place-at u (s .place - 0)) (direction-of (s .direction)) (name-of (s .law)) u v) o a b o′)
         → Put (line-text names x (noted-at ns j .term)) o a b o′
     step-by s e {xs} {ys} P Q f =
         let u = noted-at ns j .term in
@@ -68,7 +67,7 @@ module _ {ws : List ℕ} {ns : List Noted} {j k : ℕ} {x : Line} (S : Slots ws 
     -- the line that slot k has
     pub step-put : (s : Step) {q : Origin} {xs ys : List ℕ} → Originates ws k q → q ≡ From s → Shows ws (s .parent) xs → Shows ws k ys
         → ((u v : Term) → Holds xs 0 u → Holds ys 0 v → s .place - 0 < size u → 0 ≤ s .place → size u ≤ 31 → size v ≤ 31
-          → Put (one-line names semiring (place-at u (s .place - 0)) (direction-of (s .direction)) (name-of (s .law)) u v) o a b o′)
+        → Put (one-line names semiring (place-at u (s .place - 0)) (direction-of (s .direction)) (name-of (s .law)) u v) o a b o′)
         → Put (line-text names x (noted-at ns j .term)) o a b o′
     step-put s O h P Q f = step-by s (same-step (sym (O .exact (x .result) (L .line .run) ∙ L .line .origin) ∙ h)) P Q f
 
@@ -84,8 +83,8 @@ source s xs n = getD (s ∷ results xs) n term-of.zero
 module _ (names : List ℕ) (ws : List Law) where
   joined-more : (xs : List Line) (n : ℕ) (s m : Term) (p : List ℕ) → n < length xs
       → joined names ws s m p (take (suc n) xs)
-        ≡ call (ascii "eq_trans") (term names s ∷ term names (source m xs n) ∷ term names (line-at xs n .result) ∷ joined names ws s m p (take n xs)
-          ∷ one-line names ws (line-at xs n .place) (line-at xs n .direction) (line-at xs n .law) (source m xs n) (line-at xs n .result) ∷ [])
+      ≡ call (ascii "eq_trans") (term names s ∷ term names (source m xs n) ∷ term names (line-at xs n .result) ∷ joined names ws s m p (take n xs)
+      ∷ one-line names ws (line-at xs n .place) (line-at xs n .direction) (line-at xs n .law) (source m xs n) (line-at xs n .result) ∷ [])
   unfolding joined
   joined-more [] n s m p h = absurd (omega arith)
   joined-more (x ∷ xs) ℕ.zero s m p h = refl
@@ -96,8 +95,8 @@ module _ (names : List ℕ) (ws : List Law) where
 
   pub chain-more : (xs : List Line) (n : ℕ) (s : Term) → 0 < n → n < length xs
       → chain names ws s (take (suc n) xs)
-        ≡ call (ascii "eq_trans") (term names s ∷ term names (source s xs n) ∷ term names (line-at xs n .result) ∷ chain names ws s (take n xs)
-          ∷ one-line names ws (line-at xs n .place) (line-at xs n .direction) (line-at xs n .law) (source s xs n) (line-at xs n .result) ∷ [])
+      ≡ call (ascii "eq_trans") (term names s ∷ term names (source s xs n) ∷ term names (line-at xs n .result) ∷ chain names ws s (take n xs)
+      ∷ one-line names ws (line-at xs n .place) (line-at xs n .direction) (line-at xs n .law) (source s xs n) (line-at xs n .result) ∷ [])
   unfolding chain
   chain-more [] n s k h = absurd (omega arith)
   chain-more (x ∷ xs) ℕ.zero s k h = absurd (omega arith)
@@ -163,9 +162,9 @@ module _ {ws path : List ℕ} {s : Term} {xs : List Line} (W : Walk ws path s xs
       let x = line-at xs b in
       let u = source s xs b in
       let m : Spells ws (getD path (b - 1) 0) u =
-          subst (λ i. Spells ws i u) (slot-before path b p) (subst (λ t. Spells ws (getD (0 ∷ path) b 0) t) (from b h) (spells-source (W .slots) L)) in
+      subst (λ i. Spells ws i u) (slot-before path b p) (subst (λ t. Spells ws (getD (0 ∷ path) b 0) t) (from b h) (spells-source (W .slots) L)) in
       let q : Put (line-text names x u) o₃ a₃ a₄ o₄ =
-          subst (λ t. Put (line-text names x t) o₃ a₃ a₄ o₄) (from b h) (st (W .noted) (getD (0 ∷ path) b 0) x (W .slots) L) in
+      subst (λ t. Put (line-text names x t) o₃ a₃ a₄ o₄) (from b h) (st (W .noted) (getD (0 ∷ path) b 0) x (W .slots) L) in
       rw e
       (put-as (ends-text names s u (x .result) (chain names semiring s (take b xs)) (line-text names x u) ∙ sym (chain-more names semiring xs b s p (long b h)))
       (then (tr s u (x .result) (spells-start b h) m (L .line .run)) (then ln (then gap (then q end)))))

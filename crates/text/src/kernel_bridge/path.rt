@@ -60,13 +60,26 @@ fn part_of(run: &[u32], from: usize, place: usize) -> Part
     let left = from + 1;
     let middle = term::end_of(run, left);
     if place < middle {
-        return Part { right: false, from: left };
+        return Part {
+            right: false,
+            from: left,
+        };
     }
-    Part { right: true, from: middle }
+    Part {
+        right: true,
+        from: middle,
+    }
 }
 
 // A sum or product with a hole for the part on one side: nothing of an atom.
-fn render_context(out: &mut [u8], at: usize, run: &[u32], from: usize, right: bool, names: &[u32]) -> usize
+fn render_context(
+    out: &mut [u8],
+    at: usize,
+    run: &[u32],
+    from: usize,
+    right: bool,
+    names: &[u32],
+) -> usize
     ensures { λ r. ⌜ ((t : Term) → Holds (now (run .entry)) from t → Put (context (now (names .entry)) (side-of right) t) (now (out .entry)) at r (now (out .exit))) ⌝ }
 {
     if run.len() <= from {
@@ -88,7 +101,16 @@ fn render_context(out: &mut [u8], at: usize, run: &[u32], from: usize, right: bo
 }
 
 // A law from t to s, turned round.
-fn render_symmetry(out: &mut [u8], at: usize, law: Law, s: &[u32], i: usize, t: &[u32], j: usize, names: &[u32]) -> usize
+fn render_symmetry(
+    out: &mut [u8],
+    at: usize,
+    law: Law,
+    s: &[u32],
+    i: usize,
+    t: &[u32],
+    j: usize,
+    names: &[u32],
+) -> usize
     ensures { λ r. ⌜ ((u v : Term) → Holds (now (s .entry)) i u → Holds (now (t .entry)) j v → size u ≤ 31 → size v ≤ 31 → Put (at-place (now (names .entry)) semiring back (name-of law) u v) (now (out .entry)) at r (now (out .exit))) ⌝ }
 {
     let a = put::put_bytes(out, at, b"(app (app (app (ref eq_symm) ");
@@ -101,17 +123,45 @@ fn render_symmetry(out: &mut [u8], at: usize, law: Law, s: &[u32], i: usize, t: 
 }
 
 // The law of a line at its place.
-fn render_law(out: &mut [u8], at: usize, law: Law, direction: Direction, s: &[u32], i: usize, t: &[u32], j: usize, names: &[u32]) -> usize
+fn render_law(
+    out: &mut [u8],
+    at: usize,
+    law: Law,
+    direction: Direction,
+    s: &[u32],
+    i: usize,
+    t: &[u32],
+    j: usize,
+    names: &[u32],
+) -> usize
     ensures { λ r. ⌜ ((u v : Term) → Holds (now (s .entry)) i u → Holds (now (t .entry)) j v → size u ≤ 31 → size v ≤ 31 → Put (at-place (now (names .entry)) semiring (direction-of direction) (name-of law) u v) (now (out .entry)) at r (now (out .exit))) ⌝ }
 {
     match direction {
-        Direction::Forward => kernel_bridge::render_axiom_application(out, at, law, s, i, t, j, names),
+        Direction::Forward => kernel_bridge::render_axiom_application(
+            out,
+            at,
+            law,
+            s,
+            i,
+            t,
+            j,
+            names,
+        ),
         Direction::Back => render_symmetry(out, at, law, s, i, t, j, names),
     }
 }
 
-// What stands before the proof of a part in the proof of the whole.
-fn render_frame(out: &mut [u8], at: usize, right: bool, s: &[u32], i: usize, t: &[u32], j: usize, names: &[u32]) -> usize
+// What stands before the proof of a part in the proof of the whole: the context, and the part of s and of t.
+fn render_frame(
+    out: &mut [u8],
+    at: usize,
+    right: bool,
+    s: &[u32],
+    i: usize,
+    t: &[u32],
+    j: usize,
+    names: &[u32],
+) -> usize
     ensures { λ r. ⌜ ((u v : Term) → Holds (now (s .entry)) i u → Holds (now (t .entry)) j v → Put (frame (now (names .entry)) (side-of right) u v) (now (out .entry)) at r (now (out .exit))) ⌝ }
 {
     let m = part_at(s, i, right);
@@ -127,7 +177,18 @@ fn render_frame(out: &mut [u8], at: usize, right: bool, s: &[u32], i: usize, t: 
 
 // One line, from s to t, with its law at `place` of s. It calls itself for the part that has the place: its calls nest once for
 // each sum or product around the place.
-pub fn render_congruence(out: &mut [u8], at: usize, law: Law, direction: Direction, s: &[u32], i: usize, place: usize, t: &[u32], j: usize, names: &[u32]) -> usize
+pub fn render_congruence(
+    out: &mut [u8],
+    at: usize,
+    law: Law,
+    direction: Direction,
+    s: &[u32],
+    i: usize,
+    place: usize,
+    t: &[u32],
+    j: usize,
+    names: &[u32],
+) -> usize
     ensures { λ r. ⌜ ((u v : Term) → Holds (now (s .entry)) i u → Holds (now (t .entry)) j v → place - i < size u → i ≤ place → size u ≤ 31 → size v ≤ 31 → Put (one-line (now (names .entry)) semiring (place-at u (place - i)) (direction-of direction) (name-of law) u v) (now (out .entry)) at r (now (out .exit))) ⌝ }
 {
     if place <= i {
@@ -152,11 +213,29 @@ pub fn render_step(out: &mut [u8], at: usize, ws: &[u32], k: u32, names: &[u32])
     let direction = step.direction;
     let s = path::run_of(ws, step.parent);
     let t = path::run_of(ws, k);
-    render_congruence(out, at, law, direction, s, 0, step.place as usize, t, 0, names)
+    render_congruence(
+        out,
+        at,
+        law,
+        direction,
+        s,
+        0,
+        step.place as usize,
+        t,
+        0,
+        names,
+    )
 }
 
 // What stands before the two proofs that are joined: the terms in slot 0, in slot m and in slot k.
-fn render_transitivity(out: &mut [u8], at: usize, ws: &[u32], m: u32, k: u32, names: &[u32]) -> usize
+fn render_transitivity(
+    out: &mut [u8],
+    at: usize,
+    ws: &[u32],
+    m: u32,
+    k: u32,
+    names: &[u32],
+) -> usize
     ensures { λ r. ⌜ ((s u v : Term) → Spells (now (ws .entry)) 0 s → Spells (now (ws .entry)) m u → Spells (now (ws .entry)) k v → Put (ends (now (names .entry)) s u v) (now (out .entry)) at r (now (out .exit))) ⌝ }
 {
     let a = put::put_bytes(out, at, b"(app (app (app (app (app (ref eq_trans) ");
@@ -168,8 +247,15 @@ fn render_transitivity(out: &mut [u8], at: usize, ws: &[u32], m: u32, k: u32, na
     put::put_bytes(out, f, b") ")
 }
 
-// The first n lines of a path, joined: nothing for none. It calls itself for all but the last, so its calls nest once a line.
-fn render_lines(out: &mut [u8], at: usize, ws: &[u32], path: &[u32], n: usize, names: &[u32]) -> usize
+// The first n lines of a path, joined: nothing for none. It calls itself for all but the last: its calls nest once for each line.
+fn render_lines(
+    out: &mut [u8],
+    at: usize,
+    ws: &[u32],
+    path: &[u32],
+    n: usize,
+    names: &[u32],
+) -> usize
     ensures { λ r. ⌜ ((s : Term) (xs : List Line) → Walk (now (ws .entry)) (now (path .entry)) s xs → n ≤ length (now (path .entry)) → Put (chain (now (names .entry)) semiring s (take n xs)) (now (out .entry)) at r (now (out .exit))) ⌝ }
 {
     if n == 0 {

@@ -41,7 +41,9 @@ render-congruence-below t =
     (falls 4 render-congruence-kinds.ps _<_ μ-render-congruence t)
     render-congruence.Pre
 
-render-congruence-render-law-requires : (t : ℕ) → render-congruence-lts.Need-render-law-requires (
+-- what the called functions promise, and it itself below the measure
+abbrev callees : ℕ → render-congruence-lts.Claims
+callees t = (
   render-law-reads.Asked,
   render-law-reads.Learnt,
   part-of-reads.Asked,
@@ -54,158 +56,41 @@ render-congruence-render-law-requires : (t : ℕ) → render-congruence-lts.Need
   render-congruence.Post,
   put-byte-reads.Asked,
   put-byte-reads.Learnt,
-) (render-congruence-at t) render-congruence.Post
+)
+
+render-congruence-render-law-requires : (t : ℕ) → render-congruence-lts.Need-render-law-requires (callees t) (render-congruence-at t) render-congruence.Post
 render-congruence-render-law-requires t c κs = search needs
 
-render-congruence-same-length : (t : ℕ) → render-congruence-lts.Need-same-length (
-  render-law-reads.Asked,
-  render-law-reads.Learnt,
-  part-of-reads.Asked,
-  part-of-reads.Learnt,
-  part-at-reads.Asked,
-  part-at-reads.Learnt,
-  render-frame-reads.Asked,
-  render-frame-reads.Learnt,
-  render-congruence-below t,
-  render-congruence.Post,
-  put-byte-reads.Asked,
-  put-byte-reads.Learnt,
-) (render-congruence-at t) render-congruence.Post
+render-congruence-same-length : (t : ℕ) → render-congruence-lts.Need-same-length (callees t) (render-congruence-at t) render-congruence.Post
 render-congruence-same-length t c = search needs
 
-render-congruence-returns : (t : ℕ) → render-congruence-lts.Need-returns (
-  render-law-reads.Asked,
-  render-law-reads.Learnt,
-  part-of-reads.Asked,
-  part-of-reads.Learnt,
-  part-at-reads.Asked,
-  part-at-reads.Learnt,
-  render-frame-reads.Asked,
-  render-frame-reads.Learnt,
-  render-congruence-below t,
-  render-congruence.Post,
-  put-byte-reads.Asked,
-  put-byte-reads.Learnt,
-) (render-congruence-at t) render-congruence.Post
+render-congruence-returns : (t : ℕ) → render-congruence-lts.Need-returns (callees t) (render-congruence-at t) render-congruence.Post
 render-congruence-returns t c =
     let d = c .before .before .before .before in
     let a = d .before .before .before .before .before .args in
     λ u v h k q w p z. line-here (a .names .now) semiring (direction-of (a .direction)) (name-of (a .law)) v (d .if1 .taken) h q (c .before .before .render-law .ensures u v h k p z)
 
-render-congruence-part-of-requires : (t : ℕ) → render-congruence-lts.Need-part-of-requires (
-  render-law-reads.Asked,
-  render-law-reads.Learnt,
-  part-of-reads.Asked,
-  part-of-reads.Learnt,
-  part-at-reads.Asked,
-  part-at-reads.Learnt,
-  render-frame-reads.Asked,
-  render-frame-reads.Learnt,
-  render-congruence-below t,
-  render-congruence.Post,
-  put-byte-reads.Asked,
-  put-byte-reads.Learnt,
-) (render-congruence-at t) render-congruence.Post
+render-congruence-part-of-requires : (t : ℕ) → render-congruence-lts.Need-part-of-requires (callees t) (render-congruence-at t) render-congruence.Post
 render-congruence-part-of-requires t c κs = search needs
 
-render-congruence-part-at-requires : (t : ℕ) → render-congruence-lts.Need-part-at-requires (
-  render-law-reads.Asked,
-  render-law-reads.Learnt,
-  part-of-reads.Asked,
-  part-of-reads.Learnt,
-  part-at-reads.Asked,
-  part-at-reads.Learnt,
-  render-frame-reads.Asked,
-  render-frame-reads.Learnt,
-  render-congruence-below t,
-  render-congruence.Post,
-  put-byte-reads.Asked,
-  put-byte-reads.Learnt,
-) (render-congruence-at t) render-congruence.Post
+render-congruence-part-at-requires : (t : ℕ) → render-congruence-lts.Need-part-at-requires (callees t) (render-congruence-at t) render-congruence.Post
 render-congruence-part-at-requires t c κs = search needs
 
-render-congruence-render-frame-requires :
-    (t : ℕ) → render-congruence-lts.Need-render-frame-requires (
-      render-law-reads.Asked,
-      render-law-reads.Learnt,
-      part-of-reads.Asked,
-      part-of-reads.Learnt,
-      part-at-reads.Asked,
-      part-at-reads.Learnt,
-      render-frame-reads.Asked,
-      render-frame-reads.Learnt,
-      render-congruence-below t,
-      render-congruence.Post,
-      put-byte-reads.Asked,
-      put-byte-reads.Learnt,
-    ) (render-congruence-at t) render-congruence.Post
+render-congruence-render-frame-requires : (t : ℕ) → render-congruence-lts.Need-render-frame-requires (callees t) (render-congruence-at t) render-congruence.Post
 render-congruence-render-frame-requires t c κs = search needs
 
-render-congruence-render-congruence-requires :
-    (t : ℕ) → render-congruence-lts.Need-render-congruence-requires (
-      render-law-reads.Asked,
-      render-law-reads.Learnt,
-      part-of-reads.Asked,
-      part-of-reads.Learnt,
-      part-at-reads.Asked,
-      part-at-reads.Learnt,
-      render-frame-reads.Asked,
-      render-frame-reads.Learnt,
-      render-congruence-below t,
-      render-congruence.Post,
-      put-byte-reads.Asked,
-      put-byte-reads.Learnt,
-    ) (render-congruence-at t) render-congruence.Post
+render-congruence-render-congruence-requires : (t : ℕ) → render-congruence-lts.Need-render-congruence-requires (callees t) (render-congruence-at t) render-congruence.Post
 render-congruence-render-congruence-requires t c κs =
     let d = c .before .before .before .before .before .before in
     omega (arith, d .part-of .ensures .nears (d .before .if1 .left), d .before .if1 .left)
 
-render-congruence-put-byte-requires : (t : ℕ) → render-congruence-lts.Need-put-byte-requires (
-  render-law-reads.Asked,
-  render-law-reads.Learnt,
-  part-of-reads.Asked,
-  part-of-reads.Learnt,
-  part-at-reads.Asked,
-  part-at-reads.Learnt,
-  render-frame-reads.Asked,
-  render-frame-reads.Learnt,
-  render-congruence-below t,
-  render-congruence.Post,
-  put-byte-reads.Asked,
-  put-byte-reads.Learnt,
-) (render-congruence-at t) render-congruence.Post
+render-congruence-put-byte-requires : (t : ℕ) → render-congruence-lts.Need-put-byte-requires (callees t) (render-congruence-at t) render-congruence.Post
 render-congruence-put-byte-requires t c κs = search needs
 
-render-congruence-same-length-2 : (t : ℕ) → render-congruence-lts.Need-same-length-2 (
-  render-law-reads.Asked,
-  render-law-reads.Learnt,
-  part-of-reads.Asked,
-  part-of-reads.Learnt,
-  part-at-reads.Asked,
-  part-at-reads.Learnt,
-  render-frame-reads.Asked,
-  render-frame-reads.Learnt,
-  render-congruence-below t,
-  render-congruence.Post,
-  put-byte-reads.Asked,
-  put-byte-reads.Learnt,
-) (render-congruence-at t) render-congruence.Post
+render-congruence-same-length-2 : (t : ℕ) → render-congruence-lts.Need-same-length-2 (callees t) (render-congruence-at t) render-congruence.Post
 render-congruence-same-length-2 t c = search needs
 
-render-congruence-returns-2 : (t : ℕ) → render-congruence-lts.Need-returns-2 (
-  render-law-reads.Asked,
-  render-law-reads.Learnt,
-  part-of-reads.Asked,
-  part-of-reads.Learnt,
-  part-at-reads.Asked,
-  part-at-reads.Learnt,
-  render-frame-reads.Asked,
-  render-frame-reads.Learnt,
-  render-congruence-below t,
-  render-congruence.Post,
-  put-byte-reads.Asked,
-  put-byte-reads.Learnt,
-) (render-congruence-at t) render-congruence.Post
+render-congruence-returns-2 : (t : ℕ) → render-congruence-lts.Need-returns-2 (callees t) (render-congruence-at t) render-congruence.Post
 unfolding ascii
 render-congruence-returns-2 t c =
     let d1 = c .before .before in
@@ -220,26 +105,11 @@ render-congruence-returns-2 t c =
     let E = d5 .part-of .ensures .exact u (d6 .if1 .left) h q in
     line-below (a .names .now) semiring (direction-of (a .direction)) (name-of (a .law)) v E (d3 .render-frame .ensures u v h k)
     (d2 .render-congruence .ensures (part x u) (part x v) (E .held) (d4 .part-at .ensures v k) (E .inside) (d5 .part-of .ensures .nears (d6 .if1 .left) .1)
-      (omega (arith, part-size x u)) (omega (arith, part-size x v)))
+    (omega (arith, part-size x u)) (omega (arith, part-size x v)))
     (d1 .put-byte .ensures)
 
 pub +render-congruence-spec : {M : Type 1} → statement M
-+render-congruence-spec = close μ-render-congruence λ t. render-congruence-lts.spec (
-  render-law-reads.Asked,
-  render-law-reads.Learnt,
-  part-of-reads.Asked,
-  part-of-reads.Learnt,
-  part-at-reads.Asked,
-  part-at-reads.Learnt,
-  render-frame-reads.Asked,
-  render-frame-reads.Learnt,
-  render-congruence-below t,
-  render-congruence.Post,
-  put-byte-reads.Asked,
-  put-byte-reads.Learnt,
-)
-    (render-congruence-at t)
-    render-congruence.Post
++render-congruence-spec = close μ-render-congruence λ t. render-congruence-lts.spec (callees t) (render-congruence-at t) render-congruence.Post
     (render-congruence-render-law-requires t)
     (render-congruence-same-length t)
     (render-congruence-returns t)

@@ -1,6 +1,6 @@
 -- `close_lambdas` meets its contract. The invariant: the ends of i binders are put.
 use Prim.Native.Nat.{_≤_, _-_}
-use mathlib.Core.Path.{_≡_, refl, sym, ap, _∙_}
+use mathlib.Core.Path.{_≡_, refl, ap, _∙_}
 use native.Mathlib.Omega.{arith}
 use native.Mathlib.Numerals.{add-one}
 use lib.ListN.{length}
@@ -35,10 +35,10 @@ loop-again : tie.Need-loop-again Inv-loop μ-loop
 unfolding closes ascii
 loop-again c =
     let d1 = c .before .before in
-    let d3 = d1 .before .before .before in (
-      omega (arith, d3 .loop .inv .0),
-      d1 .put-byte .kept .0 ∙ d3 .loop .inv .1,
-      rw add-one (then (d3 .loop .inv .2) (d1 .put-byte .ensures)),
+    let d2 = d1 .before .before .before in (
+      omega (arith, d2 .loop .inv .0),
+      d1 .put-byte .kept .0 ∙ d2 .loop .inv .1,
+      rw add-one (then (d2 .loop .inv .2) (d1 .put-byte .ensures)),
     )
 
 same-length : tie.Need-same-length Inv-loop μ-loop

@@ -1,6 +1,6 @@
 -- `open_lambdas` meets its contract. The invariant: the binders before i are put.
 use Prim.Native.Nat.{_≤_, _-_}
-use mathlib.Core.Path.{_≡_, refl, sym, ap, _∙_}
+use mathlib.Core.Path.{_≡_, refl, ap, _∙_}
 use native.Mathlib.Omega.{arith}
 use native.Mathlib.Numerals.{add-one}
 use lib.ListN.{length}
@@ -46,10 +46,10 @@ loop-again c =
     let d1 = c .before .before in
     let d2 = d1 .before .before .before .before in
     let d3 = d2 .before .before .before .before in
-    let d5 = d3 .before .before .before .before in (
-      omega (arith, d5 .loop .inv .0),
-      d1 .put-byte .kept .0 ∙ d2 .put-variable .kept .0 ∙ d3 .put-bytes .kept .0 ∙ d5 .loop .inv .1,
-      rw add-one (then (d5 .loop .inv .2) (then (d3 .put-bytes .ensures) (then (d2 .put-variable .ensures) (d1 .put-byte .ensures)))),
+    let d4 = d3 .before .before .before .before in (
+      omega (arith, d4 .loop .inv .0),
+      d1 .put-byte .kept .0 ∙ d2 .put-variable .kept .0 ∙ d3 .put-bytes .kept .0 ∙ d4 .loop .inv .1,
+      rw add-one (then (d4 .loop .inv .2) (then (d3 .put-bytes .ensures) (then (d2 .put-variable .ensures) (d1 .put-byte .ensures)))),
     )
 
 same-length : tie.Need-same-length Inv-loop μ-loop

@@ -1,5 +1,4 @@
 -- `render_law` meets its contract.
-use mathlib.Core.Path.{sym}
 use Rattle.text.specs.Proof.{at-place}
 use borrow.Author.Needs.{needs}
 use Rattle.text.proofs.kernel_bridge.path.render_law.Statement.{statement}

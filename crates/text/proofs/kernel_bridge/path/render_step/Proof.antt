@@ -36,10 +36,10 @@ returns-2 c =
     let d1 = c .before .before in
     let d2 = d1 .before .before .before in
     let d3 = d2 .before in
-    let d5 = d3 .before .before in
-    let d7 = d5 .before .before in
+    let d4 = d3 .before .before in
+    let d5 = d4 .before .before in
     λ ns j x S L.
-    step-put S L (d7 .before .before .before .before .args .names .now) (d5 .step .given .0 .0) (d7 .origin-of .ensures) (d5 .step .given .1) (d3 .run-of .ensures)
+    step-put S L (d5 .before .before .before .before .args .names .now) (d4 .step .given .0 .0) (d5 .origin-of .ensures) (d4 .step .given .1) (d3 .run-of .ensures)
     (d2 .run-of2 .ensures) (d1 .render-congruence .ensures)
 
 pub render-step-spec : {M : Type 1} → statement M

@@ -54,13 +54,13 @@ same-length : tie.Need-same-length
 same-length c =
     let d1 = c .before .before in
     let d2 = d1 .before .before .before .before .before in
-    let d4 = d2 .before .before .before .before .before in
+    let d3 = d2 .before .before .before .before .before in
+    let d4 = d3 .before .before .before .before .before in
     let d5 = d4 .before .before .before .before .before in
-    let d7 = d5 .before .before .before .before .before in
-    let d8 = d7 .before .before .before .before .before in
-    let d10 = d8 .before .before .before .before .before in
-    d1 .put-bytes4 .kept .0 ∙ d2 .render-term3 .kept .0 ∙ d4 .put-bytes3 .kept .0 ∙ d5 .render-term2 .kept .0 ∙ d7 .put-bytes2 .kept .0 ∙ d8 .render-term .kept .0
-    ∙ d10 .put-bytes .kept .0
+    let d6 = d5 .before .before .before .before .before in
+    let d7 = d6 .before .before .before .before .before in
+    d1 .put-bytes4 .kept .0 ∙ d2 .render-term3 .kept .0 ∙ d3 .put-bytes3 .kept .0 ∙ d4 .render-term2 .kept .0 ∙ d5 .put-bytes2 .kept .0 ∙ d6 .render-term .kept .0
+    ∙ d7 .put-bytes .kept .0
 
 returns : tie.Need-returns
 unfolding ascii ends
