@@ -5,6 +5,7 @@ pub mod Parts
 pub mod Numbers
 pub mod Lines
 pub mod Reading
+pub mod Sides
 -- writing
 pub mod Overlay
 pub mod Decimal
