@@ -14,3 +14,8 @@ pub mod Overlay
 pub mod Decimal
 pub mod Items
 pub mod WordTexts
+pub mod Rendered
+pub mod Applied
+pub mod StepTexts
+pub mod Framing
+pub mod Joining
