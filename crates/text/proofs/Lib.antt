@@ -6,6 +6,9 @@ pub mod Numbers
 pub mod Lines
 pub mod Reading
 pub mod Sides
+pub mod LineOrder
+pub mod Layouts
+pub mod Accepts
 -- writing
 pub mod Overlay
 pub mod Decimal
@@ -20,3 +23,5 @@ pub mod Entries
 pub mod Rendered
 pub mod Applied
 pub mod StepTexts
+pub mod Framing
+pub mod Joining

@@ -23,6 +23,8 @@ use search::search::Span;
 use search::search::Spans;
 use terms::term;
 
+pub mod path;
+
 // In a run, the numbers below it are letters.
 const ZERO: u32 = 4096;
 
