@@ -19,3 +19,7 @@ pub mod Applied
 pub mod StepTexts
 pub mod Framing
 pub mod Joining
+pub mod Measured
+pub mod WordLines
+pub mod Renaming
+pub mod Entries
