@@ -11,3 +11,4 @@ pub mod Decimal
 pub mod Items
 pub mod WordTexts
 pub mod StepTexts
+pub mod Walks
