@@ -147,11 +147,11 @@ module _ {ws ks : List ℕ} (w : Law) (i : ℕ) (U : Unused ws ks w i) where
     led : {b : Bool} → Leads ws (getD ks i 0) w b → {s : Term} {xs : List Line} → Walk ws ks s xs → b ≡ eqb (rank (name-of w)) (rank (line-at xs i .law))
     led L {xs = xs} W = L (W .noted) (getD (0 ∷ ks) i 0) (line-at xs i) (W .slots) (traced-at (W .lines) i h)
 
-    pub used-found : Leads ws (getD ks i 0) w true → Tells ws ks w true
-    used-found L s xs W = sym (U s xs W ∙ ap (used (name-of w)) (line-left W) ∙ used-here (name-of w) (line-at xs i) (drop (i + 1) xs) (led L W))
+    pub used-found : {b : Bool} → Leads ws (getD ks i 0) w b → b ≡ true → Tells ws ks w true
+    used-found L e s xs W = sym (U s xs W ∙ ap (used (name-of w)) (line-left W) ∙ used-here (name-of w) (line-at xs i) (drop (i + 1) xs) (sym e ∙ led L W))
 
-    pub unused-more : Leads ws (getD ks i 0) w false → Unused ws ks w (i + 1)
-    unused-more L s xs W = U s xs W ∙ ap (used (name-of w)) (line-left W) ∙ used-later (name-of w) (line-at xs i) (drop (i + 1) xs) (led L W)
+    pub unused-more : {b : Bool} → Leads ws (getD ks i 0) w b → b ≡ false → Unused ws ks w (i + 1)
+    unused-more L e s xs W = U s xs W ∙ ap (used (name-of w)) (line-left W) ∙ used-later (name-of w) (line-at xs i) (drop (i + 1) xs) (sym e ∙ led L W)
 
   pub unused-all : length ks ≤ i → Tells ws ks w false
   unfolding used
@@ -204,14 +204,14 @@ module _ (n : ℕ) (h : n < 10) (w : Law) (is : w ≡ numbered-law n) where
   uses-at xs = ap (λ l. uses l xs) law-more ∙ uses-behind (take n semiring) (law-at n) xs
 
   module _ {ws ks o o₁ : List ℕ} {a b count : ℕ} (P : PutsUses ws ks n count o a b o₁) where
-    pub uses-skip : Tells ws ks w false → PutsUses ws ks (n + 1) count o a b o₁
-    uses-skip T s xs W = subst (λ l. (count ≡ length l) × Put (parted (code ",") l) o a b o₁) (sym same) (P s xs W)
+    pub uses-skip : {u : Bool} → Tells ws ks w u → u ≡ false → PutsUses ws ks (n + 1) count o a b o₁
+    uses-skip T e s xs W = subst (λ l. (count ≡ length l) × Put (parted (code ",") l) o a b o₁) (sym same) (P s xs W)
       where
         same : uses (take (n + 1) semiring) xs ≡ uses (take n semiring) xs
-        same = uses-at xs ∙ ap (λ l. uses (take n semiring) xs ++ l) (uses-none (law-at n) xs (T s xs W ∙ ap (λ m. used m xs) name-at)) ∙ append-nil (uses (take n semiring) xs)
+        same = uses-at xs ∙ ap (λ l. uses (take n semiring) xs ++ l) (uses-none (law-at n) xs (sym e ∙ T s xs W ∙ ap (λ m. used m xs) name-at)) ∙ append-nil (uses (take n semiring) xs)
 
-    pub uses-more : {o₂ o₃ : List ℕ} {c d : ℕ} → Tells ws ks w true → Put (gap (code ",") count) o₁ b c o₂ → Put (law-name (name-of w)) o₂ c d o₃ → PutsUses ws ks (n + 1) (count + 1) o a d o₃
-    uses-more T p q s xs W =
+    pub uses-more : {o₂ o₃ : List ℕ} {c d : ℕ} {u : Bool} → Tells ws ks w u → u ≡ true → Put (gap (code ",") count) o₁ b c o₂ → Put (law-name (name-of w)) o₂ c d o₃ → PutsUses ws ks (n + 1) (count + 1) o a d o₃
+    uses-more T e p q s xs W =
         ( omega (arith, P s xs W .0, ap length longer, length-append (uses (take n semiring) xs) (law-name (name-of w) ∷ []))
         , put-as (ap (λ k. (parted (code ",") (uses (take n semiring) xs) ++ gap (code ",") k) ++ law-name (name-of w)) (P s xs W .0)
             ∙ parted-more (code ",") (uses (take n semiring) xs) (law-name (name-of w))
@@ -221,4 +221,4 @@ module _ (n : ℕ) (h : n < 10) (w : Law) (is : w ≡ numbered-law n) where
         longer : uses (take (n + 1) semiring) xs ≡ uses (take n semiring) xs ++ (law-name (name-of w) ∷ [])
         longer =
             uses-at xs
-            ∙ ap (λ l. uses (take n semiring) xs ++ l) (uses-one (law-at n) xs (T s xs W ∙ ap (λ m. used m xs) name-at) ∙ ap (λ m. law-name m ∷ []) (sym name-at))
+            ∙ ap (λ l. uses (take n semiring) xs ++ l) (uses-one (law-at n) xs (sym e ∙ T s xs W ∙ ap (λ m. used m xs) name-at) ∙ ap (λ m. law-name m ∷ []) (sym name-at))

@@ -1,51 +1,45 @@
+-- `put_steps` meets its contract. The invariant: the lines before i are put.
+use Prim.Native.Nat.{_≤_, _-_}
+use mathlib.Core.Path.{_≡_, refl, _∙_}
+use native.Mathlib.Omega.{arith}
+use lib.ListN.{length}
+use Rattle.text.proofs.Walks.{PutsSteps, steps-start, steps-more, steps-all}
 use borrow.Author.Needs.{needs}
 use Rattle.text.proofs.step.put_steps.Statement.{statement}
 use Rattle.text.proofs.step.put_steps.Tie as tie
-use Rattle.text.proofs.step.put_steps.Reads as reads
-use Rattle.text.proofs.step.put_steps.Lts as lts
-use Rattle.text.proofs.step.put_step.Reads as put-step-reads
 
 abbrev Inv-loop : tie.InvT-loop
-Inv-loop out₀ at ws path p₀ i₀ out p i = ?
+Inv-loop out₀ at ws path p₀ i₀ out p i = (i ≤ length path) × (length out ≡ length out₀) × PutsSteps ws path i out₀ at p out
 
 abbrev μ-loop : tie.MeasureT-loop
-μ-loop out₀ at ws path p₀ i₀ out p i = ?
+μ-loop out₀ at ws path p₀ i₀ out p i = length path - i
 
--- src/step.rt:120:5
 loop-holds : tie.Need-loop-holds Inv-loop μ-loop
-loop-holds c = search needs
+loop-holds c = search (steps-start, needs)
 
--- src/step.rt:121:34
 mul-put-step : tie.Need-mul-put-step Inv-loop μ-loop
 mul-put-step c = search needs
 
--- src/step.rt:121:34
 shared-slice-read-put-step : tie.Need-shared-slice-read-put-step Inv-loop μ-loop
 shared-slice-read-put-step c = search needs
 
--- src/step.rt:121:9
 put-step-requires : tie.Need-put-step-requires Inv-loop μ-loop
 put-step-requires c κs = search needs
 
--- src/step.rt:122:9
 add-i : tie.Need-add-i Inv-loop μ-loop
 add-i c = search needs
 
--- src/step.rt:120:5
 loop-less : tie.Need-loop-less Inv-loop μ-loop
 loop-less c = search needs
 
--- src/step.rt:120:5
 loop-again : tie.Need-loop-again Inv-loop μ-loop
-loop-again c = search needs
+loop-again c = search (steps-more, needs)
 
--- src/step.rt:115:1
 same-length : tie.Need-same-length Inv-loop μ-loop
 same-length c = search needs
 
--- src/step.rt:115:1
 returns : tie.Need-returns Inv-loop μ-loop
-returns c = search needs
+returns c = search (steps-all, needs)
 
 pub put-steps-spec : {M : Type 1} → statement M
 put-steps-spec =

@@ -1,70 +1,57 @@
+-- `put_uses` meets its contract. The invariant: those of the first n laws that the path uses are put, and counted.
+use Prim.Native.Nat.{_≤_, _-_}
+use mathlib.Core.Path.{_≡_, refl, _∙_}
+use native.Mathlib.Omega.{arith}
+use lib.ListN.{length}
+use Rattle.text.proofs.Walks.{PutsUses, uses-start, uses-skip, uses-more, uses-all}
 use borrow.Author.Needs.{needs}
 use Rattle.text.proofs.step.put_uses.Statement.{statement}
 use Rattle.text.proofs.step.put_uses.Tie as tie
-use Rattle.text.proofs.step.put_uses.Reads as reads
-use Rattle.text.proofs.step.put_uses.Lts as lts
-use Rattle.search.proofs.search.law_of.Reads as law-of-reads
-use Rattle.text.proofs.put.put_gap.Reads as put-gap-reads
-use Rattle.text.proofs.step.put_law.Reads as put-law-reads
-use Rattle.text.proofs.step.uses_law.Reads as uses-law-reads
 
 abbrev Inv-loop : tie.InvT-loop
-Inv-loop out₀ at ws path p₀ count₀ n₀ out p count n = ?
+Inv-loop out₀ at ws path p₀ count₀ n₀ out p count n = (n ≤ 10) × (count ≤ n) × (length out ≡ length out₀) × PutsUses ws path n count out₀ at p out
 
 abbrev μ-loop : tie.MeasureT-loop
-μ-loop out₀ at ws path p₀ count₀ n₀ out p count n = ?
+μ-loop out₀ at ws path p₀ count₀ n₀ out p count n = 10 - n
 
--- src/step.rt:159:5
 loop-holds : tie.Need-loop-holds Inv-loop μ-loop
-loop-holds c = search needs
+loop-holds c = search (uses-start, needs)
 
--- src/step.rt:160:13
 law-of-requires : tie.Need-law-of-requires Inv-loop μ-loop
 law-of-requires c κs = search needs
 
--- src/step.rt:161:9
 add-n : tie.Need-add-n Inv-loop μ-loop
 add-n c = search needs
 
--- src/step.rt:162:13
 uses-law-requires : tie.Need-uses-law-requires Inv-loop μ-loop
 uses-law-requires c κs = search needs
 
--- src/step.rt:159:5
 loop-less : tie.Need-loop-less Inv-loop μ-loop
 loop-less c = search needs
 
--- src/step.rt:159:5
 loop-again : tie.Need-loop-again Inv-loop μ-loop
-loop-again c = search needs
+loop-again c = search (uses-skip, needs)
 
--- src/step.rt:165:13
 put-gap-requires : tie.Need-put-gap-requires Inv-loop μ-loop
 put-gap-requires c κs = search needs
 
--- src/step.rt:166:9
 put-law-requires : tie.Need-put-law-requires Inv-loop μ-loop
 put-law-requires c κs = search needs
 
--- src/step.rt:167:9
 add-count : tie.Need-add-count Inv-loop μ-loop
 add-count c = search needs
 
--- src/step.rt:159:5
 loop-less-2 : tie.Need-loop-less-2 Inv-loop μ-loop
 loop-less-2 c = search needs
 
--- src/step.rt:159:5
 loop-again-2 : tie.Need-loop-again-2 Inv-loop μ-loop
-loop-again-2 c = search needs
+loop-again-2 c = search (uses-more, needs)
 
--- src/step.rt:153:1
 same-length : tie.Need-same-length Inv-loop μ-loop
 same-length c = search needs
 
--- src/step.rt:153:1
 returns : tie.Need-returns Inv-loop μ-loop
-returns c = search needs
+returns c = search (uses-all, needs)
 
 pub put-uses-spec : {M : Type 1} → statement M
 put-uses-spec =
