@@ -1,4 +1,5 @@
 -- `put_step` meets its contract: a slot tells its line.
+use Rattle.text.specs.Bytes.{ascii}
 use Rattle.text.proofs.Walks.{no-step, one-step}
 use borrow.Author.Needs.{needs}
 use Rattle.text.proofs.step.put_step.Statement.{statement}
@@ -41,7 +42,16 @@ same-length : tie.Need-same-length
 same-length c = search needs
 
 returns-2 : tie.Need-returns-2
-returns-2 c = search (one-step, needs)
+unfolding ascii
+returns-2 c =
+    let p3 = c .before .before in
+    let p2 = p3 .before .before .before .before .before in
+    let z = p2 .before in
+    let y = z .before in
+    let p1 = y .before .before .before .before in
+    let s = p1 .before .before .before .before in
+    one-step (s .step .given .0 .0) (s .before .before .origin-of .ensures) (s .step .given .1) (y .run-of .ensures) (z .run-of2 .ensures)
+    (p1 .put-bytes .ensures) (p2 .put-line .ensures) (p3 .put-bytes2 .ensures)
 
 pub put-step-spec : {M : Type 1} → statement M
 put-step-spec =

@@ -15,7 +15,9 @@ abbrev μ-loop : tie.MeasureT-loop
 μ-loop out₀ at ws path p₀ i₀ out p i = length path - i
 
 loop-holds : tie.Need-loop-holds Inv-loop μ-loop
-loop-holds c = search (steps-start, needs)
+loop-holds c =
+    let a = c .before .before .before .args in
+    (search needs, refl, steps-start (a .ws .now) (a .path .now) (a .out .now) (a .at) (omega arith) (omega arith))
 
 mul-put-step : tie.Need-mul-put-step Inv-loop μ-loop
 mul-put-step c = search needs

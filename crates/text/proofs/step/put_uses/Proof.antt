@@ -15,7 +15,9 @@ abbrev μ-loop : tie.MeasureT-loop
 μ-loop out₀ at ws path p₀ count₀ n₀ out p count n = 10 - n
 
 loop-holds : tie.Need-loop-holds Inv-loop μ-loop
-loop-holds c = search (uses-start, needs)
+loop-holds c =
+    let a = c .before .before .before .args in
+    (omega arith, omega arith, refl, uses-start (a .ws .now) (a .path .now) (a .out .now) (a .at) (omega arith) (omega arith))
 
 law-of-requires : tie.Need-law-of-requires Inv-loop μ-loop
 law-of-requires c κs = search needs
@@ -30,7 +32,10 @@ loop-less : tie.Need-loop-less Inv-loop μ-loop
 loop-less c = search needs
 
 loop-again : tie.Need-loop-again Inv-loop μ-loop
-loop-again c = search (uses-skip, needs)
+loop-again c =
+    let w = c .before .before in
+    let l = w .before .before in
+    (omega arith, omega arith, l .loop .inv .2, uses-skip (l .loop .n) (w .before .loop-test .taken) (w .law-of .result) (w .law-of .ensures) (l .loop .inv .3) (c .before .uses-law .ensures) (c .if1 .taken))
 
 put-gap-requires : tie.Need-put-gap-requires Inv-loop μ-loop
 put-gap-requires c κs = search needs
@@ -45,7 +50,19 @@ loop-less-2 : tie.Need-loop-less-2 Inv-loop μ-loop
 loop-less-2 c = search needs
 
 loop-again-2 : tie.Need-loop-again-2 Inv-loop μ-loop
-loop-again-2 c = search (uses-more, needs)
+loop-again-2 c =
+    let q = c .before .before in
+    let g = q .before .before .before .before in
+    let d = g .before .before in
+    let u = d .before in
+    let w = u .before in
+    let l = w .before .before in (
+      omega arith,
+      omega arith,
+      q .put-law .kept .0 ∙ g .put-gap .kept .0 ∙ l .loop .inv .2,
+      uses-more (l .loop .n) (w .before .loop-test .taken) (w .law-of .result) (w .law-of .ensures) (l .loop .inv .3) (u .uses-law .ensures) (d .if1 .left) (g .put-gap .ensures)
+          (q .put-law .ensures),
+    )
 
 same-length : tie.Need-same-length Inv-loop μ-loop
 same-length c = search needs
