@@ -4,6 +4,7 @@ use mathlib.Core.Path.{_≡_, refl, _∙_}
 use native.Mathlib.Omega.{arith}
 use lib.ListN.{length}
 use Rattle.text.proofs.Walks.{PutsUses, uses-start, uses-skip, uses-more, uses-all}
+use borrow.Author.Tests.{not-true, not-false}
 use borrow.Author.Needs.{needs}
 use Rattle.text.proofs.step.put_uses.Statement.{statement}
 use Rattle.text.proofs.step.put_uses.Tie as tie
@@ -35,7 +36,7 @@ loop-again : tie.Need-loop-again Inv-loop μ-loop
 loop-again c =
     let w = c .before .before in
     let l = w .before .before in
-    (omega arith, omega arith, l .loop .inv .2, uses-skip (l .loop .n) (w .before .loop-test .taken) (w .law-of .result) (w .law-of .ensures) (l .loop .inv .3) (c .before .uses-law .ensures) (c .if1 .taken))
+    (omega arith, omega arith, l .loop .inv .2, uses-skip (l .loop .n) (w .before .loop-test .taken) (w .law-of .result) (w .law-of .ensures) (l .loop .inv .3) (c .before .uses-law .ensures) (not-true (c .before .uses-law .result) (c .if1 .taken)))
 
 put-gap-requires : tie.Need-put-gap-requires Inv-loop μ-loop
 put-gap-requires c κs = search needs
@@ -60,7 +61,7 @@ loop-again-2 c =
       omega arith,
       omega arith,
       q .put-law .kept .0 ∙ g .put-gap .kept .0 ∙ l .loop .inv .2,
-      uses-more (l .loop .n) (w .before .loop-test .taken) (w .law-of .result) (w .law-of .ensures) (l .loop .inv .3) (u .uses-law .ensures) (d .if1 .left) (g .put-gap .ensures)
+      uses-more (l .loop .n) (w .before .loop-test .taken) (w .law-of .result) (w .law-of .ensures) (l .loop .inv .3) (u .uses-law .ensures) (not-false (u .uses-law .result) (d .if1 .left)) (g .put-gap .ensures)
           (q .put-law .ensures),
     )
 
