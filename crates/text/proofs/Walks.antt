@@ -16,7 +16,7 @@ use Rattle.search.specs.Law.{Name, rank, semiring}
 use Rattle.search.specs.Line.{Line}
 use Rattle.search.specs.Search.{Noted}
 use Rattle.search.specs.Coded.{name-of, law-number, numbered-law, law-at}
-use Rattle.search.specs.Slots.{Spells, Marks, noted-at, Slots}
+use Rattle.search.specs.Slots.{Marks, noted-at, Slots}
 use Rattle.search.specs.Traced.{Linked, Traced, none, more, Originates, Shows}
 use Rattle.search.specs.declared.search.Law.{Law}
 use Rattle.search.specs.declared.bounded_search.Step.{Step}
@@ -211,12 +211,13 @@ module _ (n : ℕ) (h : n < 10) (w : Law) (is : w ≡ numbered-law n) where
         same = uses-at xs ∙ ap (λ l. uses (take n semiring) xs ++ l) (uses-none (law-at n) xs (sym e ∙ T s xs W ∙ ap (λ m. used m xs) name-at)) ∙ append-nil (uses (take n semiring) xs)
 
     pub uses-more : {o₂ o₃ : List ℕ} {c d : ℕ} {u : Bool} → Tells ws ks w u → u ≡ true → Put (gap (code ",") count) o₁ b c o₂ → Put (law-name (name-of w)) o₂ c d o₃ → PutsUses ws ks (n + 1) (count + 1) o a d o₃
-    uses-more T e p q s xs W =
-        ( omega (arith, P s xs W .0, ap length longer, length-append (uses (take n semiring) xs) (law-name (name-of w) ∷ []))
-        , put-as (ap (λ k. (parted (code ",") (uses (take n semiring) xs) ++ gap (code ",") k) ++ law-name (name-of w)) (P s xs W .0)
-            ∙ parted-more (code ",") (uses (take n semiring) xs) (law-name (name-of w))
-            ∙ ap (parted (code ",")) (sym longer))
-          (then (then (P s xs W .1) p) q))
+    uses-more T e p q s xs W = (
+      omega (arith, P s xs W .0, ap length longer, length-append (uses (take n semiring) xs) (law-name (name-of w) ∷ [])),
+      put-as (ap (λ k. (parted (code ",") (uses (take n semiring) xs) ++ gap (code ",") k) ++ law-name (name-of w)) (P s xs W .0)
+          ∙ parted-more (code ",") (uses (take n semiring) xs) (law-name (name-of w))
+          ∙ ap (parted (code ",")) (sym longer))
+          (then (then (P s xs W .1) p) q),
+    )
       where
         longer : uses (take (n + 1) semiring) xs ≡ uses (take n semiring) xs ++ (law-name (name-of w) ∷ [])
         longer =

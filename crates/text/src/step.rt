@@ -107,7 +107,13 @@ pub fn put_step(out: &mut [u8], at: usize, ws: &[u32], k: u32) -> usize
         return at;
     };
     let p = put::put_bytes(out, at, b"step=");
-    let q = put_line(out, p, step, path::run_of(ws, step.parent), path::run_of(ws, k));
+    let q = put_line(
+        out,
+        p,
+        step,
+        path::run_of(ws, step.parent),
+        path::run_of(ws, k),
+    );
     put::put_bytes(out, q, b"\n")
 }
 

@@ -53,9 +53,9 @@ returns c =
     let p2 = p3 .before .before .before .before in
     let p1 = p2 .before .before .before .before .before in
     λ t x h m k.
-        put-value (p1 .before .before .before .before .before .args .step) t x m
-        (then (then (then (then (then (then (p1 .put-law .ensures) (p2 .put-bytes .ensures)) (p3 .put-direction .ensures)) (p4 .put-bytes2 .ensures))
-        (p5 .put-place .ensures t h (m .inside))) (p6 .put-bytes3 .ensures)) (p7 .put-term .ensures (x .result) k))
+    put-value (p1 .before .before .before .before .before .args .step) t x m
+    (then (then (then (then (then (then (p1 .put-law .ensures) (p2 .put-bytes .ensures)) (p3 .put-direction .ensures)) (p4 .put-bytes2 .ensures))
+    (p5 .put-place .ensures t h (m .inside))) (p6 .put-bytes3 .ensures)) (p7 .put-term .ensures (x .result) k))
 
 pub put-line-spec : {M : Type 1} → statement M
 put-line-spec =

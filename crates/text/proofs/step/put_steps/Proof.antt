@@ -1,6 +1,6 @@
 -- `put_steps` meets its contract. The invariant: the lines before i are put.
 use Prim.Native.Nat.{_≤_, _-_}
-use mathlib.Core.Path.{_≡_, refl, _∙_}
+use mathlib.Core.Path.{_≡_, refl}
 use native.Mathlib.Omega.{arith}
 use lib.ListN.{length}
 use Rattle.text.proofs.Walks.{PutsSteps, steps-start, steps-more, steps-all}
