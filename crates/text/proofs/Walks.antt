@@ -51,10 +51,10 @@ module _ {ws : List ℕ} {k : ℕ} {o : Origin} (O : Originates ws k o) {ns : Li
     step-read : s ≡ L .line .step
     step-read = same-step s (L .line .step) (sym e ∙ origin)
 
-    marks-read : Marks s (noted-at ns j .term) x
+    pub marks-read : Marks s (noted-at ns j .term) x
     marks-read = rw step-read (L .line .marks)
 
-    parent-read : s .parent ≡ j
+    pub parent-read : s .parent ≡ j
     parent-read = ap (λ s. s .parent) step-read ∙ L .line .parent
 
 -- ---- lines
@@ -80,7 +80,7 @@ one-step {ws} {k} s O e Y Z p P q ns j x S L =
 
 -- ---- paths
 
-traced-length : {ws ks : List ℕ} {ns : List Noted} {j : ℕ} {xs : List Line} → Traced ws ns j ks xs → length xs ≡ length ks
+pub traced-length : {ws ks : List ℕ} {ns : List Noted} {j : ℕ} {xs : List Line} → Traced ws ns j ks xs → length xs ≡ length ks
 traced-length none = refl
 traced-length (more h T) = ap suc (traced-length T)
 
