@@ -25,3 +25,4 @@ pub mod Renaming
 pub mod Entries
 pub mod Outcomes
 pub mod Answering
+pub mod Walks
