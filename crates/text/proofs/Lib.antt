@@ -23,3 +23,4 @@ pub mod Measured
 pub mod WordLines
 pub mod Renaming
 pub mod Entries
+pub mod Walks
