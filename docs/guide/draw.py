@@ -151,7 +151,7 @@ class Tree:
 class Arrow:
     def __init__(self, index, law, direction, place, colour):
         before, after = LAWS[law] if direction == "forward" else LAWS[law][::-1]
-        where = "at the root" if not place else "at " + place
+        where = "at the top" if not place else "at " + place
         self.colour = colour[0]
         self.above = [(f"line {index}", 12, ""), (law, 13, ' font-weight="bold"')]
         self.below = [(f"{direction}, {where}", 12, ""), (f"{before} \u2192 {after}", 12, "")]
