@@ -15,6 +15,8 @@ pub mod Trying
 pub mod Directing
 pub mod Origins
 pub mod Slots
+pub mod Indexing
+pub mod Hashing
 pub mod Noting
 pub mod Sorting
 pub mod Keeping
