@@ -1,13 +1,13 @@
--- The hash of a run, a number at a time, and the head of a bucket.
+-- The hash of a run, a number at a time, and what the head of a bucket says.
 use Prim.Native.Nat.{ℕ, _+_, _*_, _%_, _≤_, _<_}
 use native.Mathlib.Omega.{arith}
-use mathlib.Core.Path.{_≡_, refl, sym, ap, _∙_}
+use mathlib.Core.Path.{_≡_, sym, ap, _∙_}
 use mathlib.Core.List.{List}
 use lib.ListN.{length, drop, getD, drop-of-length-le}
 use Rattle.terms.proofs.Positions.{drop-one}
 use Rattle.terms.specs.Run.{run}
 use Rattle.search.specs.Search.{Noted}
-use Rattle.search.specs.Index.{slots-of, hash, bucket, head-of, Newest}
+use Rattle.search.specs.Index.{slots-of, hash, bucket, head-of}
 use Rattle.search.specs.Slots.{noted-at, home, Slots, Heads}
 use Rattle.search.specs.Traced.{Shows}
 
@@ -24,7 +24,7 @@ module _ (xs : List ℕ) (i h : ℕ) where
 module _ (ws : List ℕ) (count b : ℕ) where
   -- no noted term is in the bucket
   heads-none : ((ns : List Noted) (k : ℕ) → Slots ws ns → length ns ≡ count → k < count → home ws ns k ≡ b → ⊥) → Heads ws count b count
-  heads-none h = record { exact = λ ns S c. record { own = λ p. absurd (omega arith); last = λ k p e. absurd (h ns k S c p e) } }
+  heads-none h = record { exact = λ ns S c. record { within = omega arith; own = λ p. absurd (omega arith); last = λ k p e. absurd (h ns k S c p e) } }
 
   -- the head leads to no noted slot
   pub heads-past : count ≤ head-of ws b → Heads ws count b count
@@ -53,6 +53,7 @@ module _ (ws : List ℕ) (count b : ℕ) where
         record {
           exact = λ ns S c.
               record {
+                within = omega arith;
                 own = λ p. home-shown ns S c ∙ f;
                 last = λ k p e. let q : k < length ns = omega arith in rw c at ((rw e at (S .index .head k q)) .last k q e);
               };

@@ -1,11 +1,11 @@
 -- A slot noted: it is written, and the index leads to it. What is said of the index is what two stores to it leave.
-use Prim.Native.Nat.{ℕ, suc, _+_, _*_, _≤_, _<_}
+use Prim.Native.Nat.{ℕ, _+_, _*_, _≤_, _<_}
 use native.Mathlib.Omega.{arith}
 use native.Mathlib.Nat.{add-zero, eq-or-lt-of-le, le-of-suc-le-suc, mod-lt}
 use mathlib.Core.Path.{_≡_, refl, sym, ap, _∙_}
 use mathlib.Core.Logic.{_⊎_, inl, inr}
 use mathlib.Core.List.{List, [], _∷_, _++_}
-use lib.ListN.{length, take, drop, getD, set, length-set, length-append}
+use lib.ListN.{length, getD, set, length-set, length-append}
 use lib.Seq.{getD-set-same, getD-set-other, take-set-le, drop-set-lt}
 use Rattle.terms.specs.Term.{Term}
 use Rattle.terms.specs.Run.{run}
@@ -15,7 +15,7 @@ use Rattle.terms.proofs.Held.{front-holds}
 use Rattle.search.specs.Line.{Line}
 use Rattle.search.specs.Search.{Noted, entry}
 use Rattle.search.specs.Index.{SLOT, slots-of, hash, bucket, head-of, next-of, Newest}
-use Rattle.search.specs.Slots.{Spells, origin-of, distance-of, Marks, noted-at, Comes, Slot, home, Indexed, Slots, Heads, Enters, Starts, Notes}
+use Rattle.search.specs.Slots.{Spells, origin-of, Marks, noted-at, Comes, Slot, home, Slots, Enters, Starts, Notes}
 use Rattle.search.specs.declared.bounded_search.Step.{Step}
 use Rattle.search.specs.declared.bounded_search.Origin.{Origin}
 use Rattle.search.specs.declared.bounded_search.Origin.the-variants.{Start, From}
@@ -48,7 +48,7 @@ module _ (ws : List ℕ) (j i v : ℕ) (low : 6 ≤ i) (high : i ≤ 7) where
   origin-stored : (k : ℕ) → origin-of (set ws (SLOT * j + i) v) k ≡ origin-of ws k
   origin-stored k =
       let n : (p : ℕ) → p < 4 → getD (set ws (SLOT * j + i) v) (SLOT * k + 1 + p) 0 ≡ getD ws (SLOT * k + 1 + p) 0 =
-          λ p h. getD-set-other ws (SLOT * j + i) (SLOT * k + 1 + p) v 0 (λ e. omega arith) in
+      λ p h. getD-set-other ws (SLOT * j + i) (SLOT * k + 1 + p) v 0 (λ e. omega arith) in
       rw (rw add-zero at (n 0 (omega arith)), n 1 (omega arith), n 2 (omega arith), n 3 (omega arith))
 
   slot-stored : {ns : List Noted} {k : ℕ} {n : Noted} → Slot ws ns k n → Slot (set ws (SLOT * j + i) v) ns k n
@@ -60,11 +60,12 @@ module _ (ws : List ℕ) (j i v : ℕ) (low : 6 ≤ i) (high : i ≤ 7) where
       }
 
 newest-still : {f g : ℕ → ℕ} {b n k : ℕ} → ((j : ℕ) → j < n → f j ≡ g j) → Newest f b n k → Newest g b n k
-newest-still {k = k} e N = record { own = λ h. sym (e k h) ∙ N .own h; last = λ j h q. N .last j h (e j h ∙ q) }
+newest-still {k = k} e N = record { within = N .within; own = λ h. sym (e k h) ∙ N .own h; last = λ j h q. N .last j h (e j h ∙ q) }
 
 -- one more slot, of another bucket
 newest-more : {f : ℕ → ℕ} {b n k : ℕ} → Newest f b n k → k < n → (f n ≡ b → ⊥) → Newest f b (n + 1) k
-newest-more {f} {b} {n} {k} N h e = record { own = λ q. N .own h; last = λ j q g. go j g (eq-or-lt-of-le (le-of-suc-le-suc (omega (arith, q)))) }
+newest-more {f} {b} {n} {k} N h e =
+    record { within = omega arith; own = λ q. N .own h; last = λ j q g. go j g (eq-or-lt-of-le (le-of-suc-le-suc (omega (arith, q)))) }
   where
     go : (j : ℕ) → f j ≡ b → (j ≡ n) ⊎ (j < n) → (j ≤ k) × (k < n + 1)
     go j g (inl q) = absurd (e (sym (ap f q) ∙ g))
@@ -136,7 +137,7 @@ module _ {ws ws′ : List ℕ} (ns : List Noted) (n : Noted) {xs : List ℕ} {o 
     where
       go : (home ws′ more k ≡ b) ⊎ (home ws′ more k ≡ b → ⊥) → (k ≡ count) ⊎ (k < count)
           → Newest (home ws′ more) (home ws′ more k) (length more) (head-of ws′ (home ws′ more k))
-      go (inl e) p = rw (e, head-new, counted) (record { own = λ q. home-new; last = λ j q f. (omega arith, omega arith) })
+      go (inl e) p = rw (e, head-new, counted) (record { within = omega arith; own = λ q. home-new; last = λ j q f. (omega arith, omega arith) })
       go (inr e) (inl p) = absurd (e (ap (home ws′ more) p ∙ home-new))
       go (inr e) (inr p) =
           let N = S .index .head k p in

@@ -27,7 +27,8 @@ head-of ws b = getD ws (SLOT * b + 6) 0
 abbrev pub next-of : List ℕ → ℕ → ℕ
 next-of ws k = getD ws (SLOT * k + 7) 0
 
--- k is the newest slot below n whose bucket is b, and not below n if there is none
+-- k is the newest slot below n whose bucket is b, or n if there is none
 pub record Newest (home : ℕ → ℕ) (b n k : ℕ) : Type 0 where
+  pub within : k ≤ n
   pub own : k < n → home k ≡ b
   pub last : (j : ℕ) → j < n → home j ≡ b → (j ≤ k) × (k < n)

@@ -116,10 +116,11 @@ fn note_slot(ws: &mut [u32], k: usize, s: &[u32], o: Origin, distance: u32)
     ensures { λ _. ⌜ Enters (now (ws .entry)) (now (ws .exit)) k (now (s .entry)) o distance ⌝ }
 {
     let b = index::bucket_of(s, index::slots_of(ws.len()));
-    let older = index::newest(ws, k as u32, b);
+    let new = k as u32;
+    let older = index::newest(ws, new, b);
     write_slot(ws, k, s, o, distance);
     ws[SLOT * k + 7] = older;
-    ws[SLOT * b + 6] = k as u32;
+    ws[SLOT * b + 6] = new;
 }
 
 // Notes the term that the search starts with.

@@ -1,8 +1,6 @@
 -- `listed` meets its contract. The loop's invariant: the first `end` slots decide, and slot `k` is the newest of them in the run's bucket.
-use Prim.Native.Nat.{_≤_, _*_}
+use Prim.Native.Nat.{_≤_}
 use native.Mathlib.Omega.{arith}
-use mathlib.Core.Path.{_≡_}
-use Rattle.search.specs.Slots.{SLOT}
 use Rattle.search.proofs.Noting.{Going, Leading, Tells, going-starts, leading-starts, leading-next, none-noted, tells, found-nowhere}
 use borrow.Author.Needs.{needs}
 use Rattle.search.proofs.bounded_search.listed.Statement.{statement}

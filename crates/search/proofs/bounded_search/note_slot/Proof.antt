@@ -1,8 +1,6 @@
 -- `note_slot` meets its contract.
 use native.Mathlib.Omega.{arith}
-use mathlib.Core.Path.{_≡_, _∙_}
-use lib.ListN.{length, length-set}
-use Rattle.search.specs.Index.{slots-of, bucket}
+use lib.ListN.{length-set}
 use borrow.Author.Needs.{needs}
 use Rattle.search.proofs.bounded_search.note_slot.Statement.{statement}
 use Rattle.search.proofs.bounded_search.note_slot.Tie as tie
@@ -13,8 +11,8 @@ slots-of-requires c κs = search needs
 bucket-of-requires : tie.Need-bucket-of-requires
 bucket-of-requires c κs = search needs
 
-cast-newest : tie.Need-cast-newest
-cast-newest c = search needs
+cast-new : tie.Need-cast-new
+cast-new c = search needs
 
 newest-requires : tie.Need-newest-requires
 newest-requires c κs = search needs
@@ -33,9 +31,6 @@ mul-ws-2 c = search needs
 
 slice-write-ws : tie.Need-slice-write-ws
 slice-write-ws c = search needs
-
-cast-ws : tie.Need-cast-ws
-cast-ws c = search needs
 
 mul-ws-3 : tie.Need-mul-ws-3
 mul-ws-3 c = search needs
@@ -77,14 +72,13 @@ note-slot-spec =
     (tie.spec
     slots-of-requires
     bucket-of-requires
-    cast-newest
+    cast-new
     newest-requires
     write-slot-requires
     mul-ws
     add-ws
     mul-ws-2
     slice-write-ws
-    cast-ws
     mul-ws-3
     add-ws-2
     mul-ws-4
