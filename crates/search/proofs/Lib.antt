@@ -18,6 +18,7 @@ pub mod Slots
 pub mod Indexing
 pub mod Hashing
 pub mod Noting
+pub mod Rising
 pub mod Sorting
 pub mod Keeping
 pub mod Tracing
