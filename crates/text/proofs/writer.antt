@@ -1,0 +1,3 @@
+-- What the walks of the writer share.
+pub mod Held
+pub mod Again
