@@ -1,7 +1,7 @@
 -- `text::writer::write_line` meets its contract: a walk of its MIR, by hand. All that it knows of `new`, `put_bytes`, `put_byte` and `finish` is that each meets its contract (`Calls.antt`).
 -- The texts are lent on as they are: what each owns is had twice, and one copy is kept for the exit. The output's borrow is given up for good (`gave-slice`).
 -- Assumes nothing.
-use mathlib.Core.Path.{_≡_, refl, _∙_}
+use mathlib.Core.Path.{_≡_, refl}
 use Prim.Native.Nat.{ℕ, _<_, _^_}
 use native.Mathlib.Omega.{arith}
 use mathlib.Core.List.{[], _∷_, _++_, List}
