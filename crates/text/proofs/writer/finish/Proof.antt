@@ -37,11 +37,11 @@ use Rattle.text.proofs.writer.Writer as T
 use Rattle.text.proofs.writer.Writer.Laws as T′
 use Rattle.text.proofs.writer.Held.{writer-stay, writer-goes}
 use Rattle.text.proofs.writer.finish.Key.{name as #finish}
-use Rattle.text.proofs.writer.finish as at
+use Rattle.text.proofs.writer.finish as finish
 use Rattle.text.proofs.writer.finish.Statement as stated
 use Rattle.text.proofs.writer.finish.Code as code
 
-abbrev stayed : Stays (at.ended .signature .params) (at.ended .kept)
+abbrev stayed : Stays (finish.ended .signature .params) (finish.ended .kept)
 stayed = (writer-stay 0, tt)
 
 module _ {M : Type 1} (𝓤 : URA M) (H : Heap 𝓤) (A : Atoms 𝓤) (W : Given 𝓤 H A) (mem : Memory → SProp 𝓤) (run : Routine → Fun 𝓤) (κ : Lft) (q : Share) (b o : ℕ) (γ : GName) (ys : List ℕ) (n : ℕ) where
@@ -59,39 +59,39 @@ module _ {M : Type 1} (𝓤 : URA M) (H : Heap 𝓤) (A : Atoms 𝓤) (W : Given
   vals = (mach ∷ [], tt)
 
   abbrev Post : Val → SProp 𝓤
-  Post = walkOf 𝓤 H A at.ended stayed (at.clauses 𝓤 H A mem run) .post (((κ, tt), (q, tt), tt, (h, tt), vals), tt)
+  Post = walkOf 𝓤 H A finish.ended stayed (finish.clauses 𝓤 H A mem run) .post (((κ, tt), (q, tt), tt, (h, tt), vals), tt)
 
-  exits : n < 2 ^ 64 → ent 𝓤 (onEntry 𝓤 H A at.signature (κ, tt) (q, tt) (h, tt) vals) (Post (vint w64 n))
+  exits : n < 2 ^ 64 → ent 𝓤 (onEntry 𝓤 H A finish.signature (κ, tt) (q, tt) (h, tt) vals) (Post (vint w64 n))
   exits fits =
       qed W ((‵ (flft κ q) ⊛ ‵ ftrue) ∷ ‵ (owns (T.the-row α ∷ []) (h, tt) vals) ∷ []) ∵
-      suffices ! _ (ends-at 𝓤 H A at.ended stayed (at.clauses 𝓤 H A mem run) W (((κ, tt), (q, tt), tt, (h, tt), vals), tt) (vint w64 n) n ((ys, tt), tt) ((refl, (tt, tt)), tt)) $ says ! (refl, refl) $
+      suffices ! _ (ends-at 𝓤 H A finish.ended stayed (finish.clauses 𝓤 H A mem run) W (((κ, tt), (q, tt), tt, (h, tt), vals), tt) (vint w64 n) n ((ys, tt), tt) ((refl, (tt, tt)), tt)) $ says ! (refl, refl) $
       frame ! $ frame ! $ owned ! usize (Is usize) (uint-makes 𝓤 H A W w64) n _ (refl, fits) $ done !
 
   module _ (C : Calls 𝓤 H) (Λ : Loops 𝓤 H) where
-    walk : Is (T.the-row α) h (mach ∷ []) → n < 2 ^ 64 → ent 𝓤 (onEntry 𝓤 H A at.signature (κ, tt) (q, tt) (h, tt) vals) (WpFn 𝓤 H C Λ code.function (mach ∷ []) Post)
+    walk : Is (T.the-row α) h (mach ∷ []) → n < 2 ^ 64 → ent 𝓤 (onEntry 𝓤 H A finish.signature (κ, tt) (q, tt) (h, tt) vals) (WpFn 𝓤 H C Λ code.function (mach ∷ []) Post)
     walk g fits =
-        qed W (raw (onEntry 𝓤 H A at.signature (κ, tt) (q, tt) (h, tt) vals) ∷ []) ∵ enter ! C Λ code.function (mach ∷ []) _ $
+        qed W (raw (onEntry 𝓤 H A finish.signature (κ, tt) (q, tt) (h, tt) vals) ∷ []) ∵ enter ! C Λ code.function (mach ∷ []) _ $
         alloc1 ! (λ l₀. alloc1 ! (λ l₁. alloc0 ! $ params1 ! $ pass1 ! (init ! 0 refl (LL.lawful (T.the-type α) (T′.the-laws α) 𝓤 H A W .typed h _ g .0)) $ pass0 ! $
         assigns ! (of-opd ! (load ! (from ! (fld ! refl (stop !))) (look-in ! 0 (sub ! 1 refl (whole !))))) (from ! (stop !)) (init ! 2 refl (tt, record { fits = fits })) $
         returns ! (look ! 2 refl) $ forget ! 0 refl $ forget ! 2 refl $ move ! (2 ∷ 3 ∷ []) $ free1 ! $ free1 ! $ free0 ! $ by ! (exits fits)))
 
 module _ {M : Type 1} (𝓤 : URA M) (H : Heap 𝓤) (A : Atoms 𝓤) (W : Given 𝓤 H A) (mem : Memory → SProp 𝓤) (run : Routine → Fun 𝓤) where
-  at-walks : (C : Calls 𝓤 H) (Λ : Loops 𝓤 H) → Walks 𝓤 H A at.ended stayed (WpFn 𝓤 H C Λ code.function) (at.clauses 𝓤 H A mem run)
-  at-walks C Λ = walked 𝓤 H A at.ended stayed (at.clauses 𝓤 H A mem run) (WpFn 𝓤 H C Λ code.function)
+  finish-walks : (C : Calls 𝓤 H) (Λ : Loops 𝓤 H) → Walks 𝓤 H A finish.ended stayed (WpFn 𝓤 H C Λ code.function) (finish.clauses 𝓤 H A mem run)
+  finish-walks C Λ = walked 𝓤 H A finish.ended stayed (finish.clauses 𝓤 H A mem run) (WpFn 𝓤 H C Λ code.function)
       (λ κs. (LL.vals (T.the-type (namedLft 1 0 tt κs)) (T′.the-laws (namedLft 1 0 tt κs)), tt)) (λ κs. (LL.tells (T.the-type (namedLft 1 0 tt κs)) (T′.the-laws (namedLft 1 0 tt κs)), tt))
       (λ κs qs bounds a g are. via 𝓤 _ (fst∗ 𝓤 _ (emp 𝓤))
       (walk 𝓤 H A W mem run (κs .0) (qs .0) (a .0 .buf .ptr .0) (a .0 .buf .ptr .1) (a .0 .buf .name) (a .0 .buf .now) (a .0 .at) C Λ (are .0)
       (LL.owed (T.the-type (namedLft 1 0 tt κs)) (T′.the-laws (namedLft 1 0 tt κs)) (a .0) _ (are .0) .1 .0 .1)))
 
-at-meets : {M : Type 1} (𝓤 : URA M) (H : Heap 𝓤) (A : Atoms 𝓤) → Given 𝓤 H A → (mem : Memory → SProp 𝓤) (run : Routine → Fun 𝓤) (𝓣 : Tables 𝓤 H)
-    → Meets 𝓤 H A at.signature (WpFn 𝓤 H (𝓣 .C) (𝓣 .Λ) code.function) (at.spec 𝓤 H A mem run)
-at-meets 𝓤 H A W mem run 𝓣 =
-    walk-meets 𝓤 H A at.ended stayed W (writer-goes 0 𝓤 H A W, tt) (at.clauses 𝓤 H A mem run)
-    (WpFn 𝓤 H (𝓣 .C) (𝓣 .Λ) code.function) (WpFn-mono 𝓤 H (W .laws) 𝓣 code.function) (at-walks 𝓤 H A W mem run (𝓣 .C) (𝓣 .Λ))
+finish-meets : {M : Type 1} (𝓤 : URA M) (H : Heap 𝓤) (A : Atoms 𝓤) → Given 𝓤 H A → (mem : Memory → SProp 𝓤) (run : Routine → Fun 𝓤) (𝓣 : Tables 𝓤 H)
+    → Meets 𝓤 H A finish.signature (WpFn 𝓤 H (𝓣 .C) (𝓣 .Λ) code.function) (finish.spec 𝓤 H A mem run)
+finish-meets 𝓤 H A W mem run 𝓣 =
+    walk-meets 𝓤 H A finish.ended stayed W (writer-goes 0 𝓤 H A W, tt) (finish.clauses 𝓤 H A mem run)
+    (WpFn 𝓤 H (𝓣 .C) (𝓣 .Λ) code.function) (WpFn-mono 𝓤 H (W .laws) 𝓣 code.function) (finish-walks 𝓤 H A W mem run (𝓣 .C) (𝓣 .Λ))
 
 pub finish-spec : {M : Type 1} → stated.statement M
 unfolding code.routine tablesOf
 finish-spec 𝓤 H 𝓜 𝓖 𝓡 =
-    entered 𝓤 H (tripleOf 𝓤 H (𝓖 .A) at.signature (at.spec 𝓤 H (𝓖 .A) (𝓜 .mem) (𝓡 .run)))
+    entered 𝓤 H (tripleOf 𝓤 H (𝓖 .A) finish.signature (finish.spec 𝓤 H (𝓖 .A) (𝓜 .mem) (𝓡 .run)))
     (tables 𝓤 H 𝓜 𝓡 code.env .C) (tables 𝓤 H 𝓜 𝓡 code.env .Λ) #finish code.function (code.unfolded 𝓤 H 𝓜 𝓡)
-    (at-meets 𝓤 H (𝓖 .A) (givenOf 𝓤 H 𝓜 𝓖) (𝓜 .mem) (𝓡 .run) (tablesOf 𝓤 H 𝓜 (tables 𝓤 H 𝓜 𝓡 code.env)))
+    (finish-meets 𝓤 H (𝓖 .A) (givenOf 𝓤 H 𝓜 𝓖) (𝓜 .mem) (𝓡 .run) (tablesOf 𝓤 H 𝓜 (tables 𝓤 H 𝓜 𝓡 code.env)))

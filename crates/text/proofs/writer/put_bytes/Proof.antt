@@ -1,5 +1,5 @@
--- `text::writer::put_bytes` meets its contract: a walk of its MIR, by hand. The slice is lent again to `put_at`, for a lifetime that is made for the call, and comes back at the list that `put_at` left (`Again.antt`). It goes into the result, beside the number that `put_at` returned.
--- All that the proof knows of `put_at` is that it meets its contract. The parameter is spent, since the result names its lifetime (`Held.antt`'s `writer-spent`).
+-- `text::writer::put_bytes` meets its contract: a walk of its MIR, by hand. The slice is lent again to `put::put_bytes`, for a lifetime that is made for the call, and comes back at the list that `put::put_bytes` left (`Again.antt`). It goes into the result, beside the number that `put::put_bytes` returned.
+-- All that the proof knows of `put::put_bytes` is that it meets its contract. The parameter is spent, since the result names its lifetime (`Held.antt`'s `writer-spent`).
 -- Assumes nothing.
 use mathlib.Core.Path.{_≡_, refl, ap}
 use Prim.Native.Nat.{ℕ, _<_, _^_}
@@ -48,21 +48,21 @@ use Rattle.text.proofs.writer.Writer as T
 use Rattle.text.proofs.writer.Writer.Laws as T′
 use Rattle.text.proofs.writer.Held.{writer-spent, writer-spent-goes}
 use Rattle.text.proofs.writer.Again.{LentAgain, lends-again, comes-back}
-use Rattle.text.proofs.put.put_bytes as put-at
-use Rattle.text.proofs.put.put_bytes.Symbol as put-at-def
-use Rattle.text.proofs.put.put_bytes.Symbol.{name as #bytes-at}
-use Rattle.text.proofs.put.put_bytes.Met as put-at-thm
+use Rattle.text.proofs.put.put_bytes as core
+use Rattle.text.proofs.put.put_bytes.Symbol as core-def
+use Rattle.text.proofs.put.put_bytes.Symbol.{name as #core}
+use Rattle.text.proofs.put.put_bytes.Met as core-thm
 use Rattle.text.proofs.writer.put_bytes.Key.{name as #put-bytes}
-use Rattle.text.proofs.writer.put_bytes as put-back
+use Rattle.text.proofs.writer.put_bytes as put-bytes
 use Rattle.text.proofs.writer.put_bytes.Statement as stated
 use Rattle.text.proofs.writer.put_bytes.Code as code
 
-abbrev stayed : Stays (put-back.ended .signature .params) (put-back.ended .kept)
+abbrev stayed : Stays (put-bytes.ended .signature .params) (put-bytes.ended .kept)
 stayed = (writer-spent 1, (stay-none-slice (1 ∷ []) tt (plain (λ _. u8)) yes, tt))
 
 -- the contract that the proof cites
-abbrev PutAt : {M : Type 1} (𝓤 : URA M) (H : Heap 𝓤) (A : Atoms 𝓤) (mem : Memory → SProp 𝓤) (run : Routine → Fun 𝓤) → Contract 𝓤
-PutAt 𝓤 H A mem run = tripleOf 𝓤 H A put-at.signature (put-at.spec 𝓤 H A mem run)
+abbrev Core : {M : Type 1} (𝓤 : URA M) (H : Heap 𝓤) (A : Atoms 𝓤) (mem : Memory → SProp 𝓤) (run : Routine → Fun 𝓤) → Contract 𝓤
+Core 𝓤 H A mem run = tripleOf 𝓤 H A core.signature (core.spec 𝓤 H A mem run)
 
 module _ {M : Type 1} (𝓤 : URA M) (H : Heap 𝓤) (A : Atoms 𝓤) (W : Given 𝓤 H A) (mem : Memory → SProp 𝓤) (run : Routine → Fun 𝓤) (κ κ′ : Lft) (q q′ : Share) (b o : ℕ) (γ : GName) (ys : List ℕ) (n : ℕ) (y : RefT (List ℕ)) (n-fits : n < 2 ^ 64) where
   abbrev α : NamedLft
@@ -102,13 +102,13 @@ module _ {M : Type 1} (𝓤 : URA M) (H : Heap 𝓤) (A : Atoms 𝓤) (W : Given
   vals = (mach n ∷ [], (t ∷ [], tt))
 
   abbrev Post : Val → SProp 𝓤
-  Post = walkOf 𝓤 H A put-back.ended stayed (put-back.clauses 𝓤 H A mem run) .post ((κs, (q, (q′, tt)), tt, a, vals), tt)
+  Post = walkOf 𝓤 H A put-bytes.ended stayed (put-bytes.clauses 𝓤 H A mem run) .post ((κs, (q, (q′, tt)), tt, a, vals), tt)
 
-  -- what `put_at`'s triple binds outside: the slice lent again for the lifetime ν, under the name δ
-  abbrev to-put-at : ℕ → GName → PutAt 𝓤 H A mem run .Ghost
-  to-put-at ν δ = (((ν ∷ [], (κ′, tt)), (fullShare, (q′, tt)), tt, (x δ ys, (n, (y, tt))), (s ∷ [], (vint w64 n ∷ [], (t ∷ [], tt)))), tt)
+  -- what `put::put_bytes`'s triple binds outside: the slice lent again for the lifetime ν, under the name δ
+  abbrev to-core : ℕ → GName → Core 𝓤 H A mem run .Ghost
+  to-core ν δ = (((ν ∷ [], (κ′, tt)), (fullShare, (q′, tt)), tt, (x δ ys, (n, (y, tt))), (s ∷ [], (vint w64 n ∷ [], (t ∷ [], tt)))), tt)
 
-  goes : (ν : ℕ) (δ : GName) → ent 𝓤 (sep 𝓤 (A .lft (ν ∷ []) fullShare) (sep 𝓤 (sem 𝓤 H A (MutSlice (named 0) (ν ∷ []) u8 .own (x δ ys) (s ∷ []))) (sep 𝓤 (A .lft κ′ q′) (sem 𝓤 H A Text)))) (PutAt 𝓤 H A mem run .pre (to-put-at ν δ))
+  goes : (ν : ℕ) (δ : GName) → ent 𝓤 (sep 𝓤 (A .lft (ν ∷ []) fullShare) (sep 𝓤 (sem 𝓤 H A (MutSlice (named 0) (ν ∷ []) u8 .own (x δ ys) (s ∷ []))) (sep 𝓤 (A .lft κ′ q′) (sem 𝓤 H A Text)))) (Core 𝓤 H A mem run .pre (to-core ν δ))
   goes ν δ =
       qed W (‵ (flft (ν ∷ []) fullShare) ∷ ‵ (MutSlice (named 0) (ν ∷ []) u8 .own (x δ ys) (s ∷ [])) ∷ (‵ (flft κ′ q′) ⊛ ‵ Text) ∷ []) ∵
       -- the callee requires nothing: what it owns is joined, then the tokens, and all is handed over
@@ -126,7 +126,7 @@ module _ {M : Type 1} (𝓤 : URA M) (H : Heap 𝓤) (A : Atoms 𝓤) (W : Given
       → ent 𝓤 (sep 𝓤 (A .lft κ q) (sep 𝓤 (sep 𝓤 (A .lft κ′ q′) (sem 𝓤 H A ftrue)) (sep 𝓤 (sem 𝓤 H A (MutSlice (named 0) κ u8 .own (x γ zs) (s ∷ []))) (sem 𝓤 H A Text)))) (Post (mach r))
   exits r zs e r-fits =
       qed W (‵ (flft κ q) ∷ (‵ (flft κ′ q′) ⊛ ‵ ftrue) ∷ ‵ (MutSlice (named 0) κ u8 .own (x γ zs) (s ∷ [])) ∷ ‵ Text ∷ []) ∵
-      suffices ! _ (ends-at 𝓤 H A put-back.ended stayed (put-back.clauses 𝓤 H A mem run) W ((κs, (q, (q′, tt)), tt, a, vals), tt) (mach r) (record { buf = x γ zs; at = r }) ((tt, tt), (tt, tt)) ((tt, (tt, tt)), (tt, tt))) $ says ! (λ i. record { buf = x γ (e .bytes i); at = e .next i }) $
+      suffices ! _ (ends-at 𝓤 H A put-bytes.ended stayed (put-bytes.clauses 𝓤 H A mem run) W ((κs, (q, (q′, tt)), tt, a, vals), tt) (mach r) (record { buf = x γ zs; at = r }) ((tt, tt), (tt, tt)) ((tt, (tt, tt)), (tt, tt))) $ says ! (λ i. record { buf = x γ (e .bytes i); at = e .next i }) $
       join ! $ frame ! $
       nothing ! $ owned ! usize (Is usize) (uint-makes 𝓤 H A W w64) r _ (refl, r-fits) $ fjoin ! $ move ! (1 ∷ 0 ∷ []) $ fjoin ! $
       use1 W (‵ (T.the-row α .own (record { buf = x γ zs; at = r }) (mach r ∷ []))) (makes 𝓤 H A W (MutSlice (named 0) κ u8 ∷ usize ∷ []) (given-on r zs) (s ∷ [], (vint w64 r ∷ [], tt))) $
@@ -134,8 +134,8 @@ module _ {M : Type 1} (𝓤 : URA M) (H : Heap 𝓤) (A : Atoms 𝓤) (W : Given
       use1 W (‵ (inStruct (MutSlice (named 0) κ u8 ∷ usize ∷ []) (mach n ∷ []) had)) (makes 𝓤 H A W (MutSlice (named 0) κ u8 ∷ usize ∷ []) had (s ∷ [], (vint w64 n ∷ [], tt))) $
       nothing ! $ move ! (3 ∷ 0 ∷ []) $ fjoin ! $ move ! (1 ∷ 0 ∷ []) $ fjoin ! $ done !
 
-  module _ (C : Calls 𝓤 H) (Λ : Loops 𝓤 H) (fm : FmC 𝓤 H (W .laws) C) (known : Triple 𝓤 (C #bytes-at) (PutAt 𝓤 H A mem run)) where
-    walk : Is (T.the-row α) h (mach n ∷ []) → Room u8 (length ys) → Is (ShrSlice (named 1) κ′ u8) y (t ∷ []) → ent 𝓤 (onEntry 𝓤 H A put-back.signature κs (q, (q′, tt)) a vals) (WpFn 𝓤 H C Λ code.function (mach n ∷ t ∷ []) Post)
+  module _ (C : Calls 𝓤 H) (Λ : Loops 𝓤 H) (fm : FmC 𝓤 H (W .laws) C) (known : Triple 𝓤 (C #core) (Core 𝓤 H A mem run)) where
+    walk : Is (T.the-row α) h (mach n ∷ []) → Room u8 (length ys) → Is (ShrSlice (named 1) κ′ u8) y (t ∷ []) → ent 𝓤 (onEntry 𝓤 H A put-bytes.signature κs (q, (q′, tt)) a vals) (WpFn 𝓤 H C Λ code.function (mach n ∷ t ∷ []) Post)
     walk g room p =
         qed W ((‵ (flft κ q) ⊛ (‵ (flft κ′ q′) ⊛ ‵ ftrue)) ∷ ‵ (owns (T.the-row α ∷ ShrSlice (named 1) κ′ u8 ∷ []) a vals) ∷ []) ∵ enter ! C Λ code.function (mach n ∷ t ∷ []) _ $
         alloc1 ! (λ l₀. alloc1 ! (λ l₁. alloc1 ! (λ l₂. alloc1 ! (λ l₃. alloc1 ! (λ l₄. alloc1 ! (λ l₅. alloc1 ! (λ l₆. alloc1 ! (λ l₇. alloc1 ! (λ l₈. alloc0 ! $ params1 ! $
@@ -150,12 +150,12 @@ module _ {M : Type 1} (𝓤 : URA M) (H : Heap 𝓤) (A : Atoms 𝓤) (W : Given
         use2 W (later (some (λ (δ : GName). ‵ (MutSlice (named 0) (ν ∷ []) u8 .own (x δ ys) (s ∷ [])) ⊛ ‵ (LentAgain u8 κ (ν ∷ []) q γ b o δ ys)))) (lends-again u8 κ (ν ∷ []) q γ b o 𝓤 H A W (named 0) (named 0) ys) $ await ! tt $ pick ! (λ δ. split ! $
         -- [the new slice; what the lender keeps; ν's token; the text's token with true; …; what the text owns with true; _8; …]: the text is had twice
         move ! (3 ∷ []) $ split ! $ move ! (6 ∷ []) $ fsplit ! $ use1 W (‵ Text ⊛ ‵ Text) (shr-slice-copy 𝓤 H A W (named 1) κ′ u8 .twice y (t ∷ [])) $ split ! $
-        move ! (3 ∷ 0 ∷ []) $ join ! $ move ! (6 ∷ 4 ∷ 0 ∷ []) $ use3 W (raw (PutAt 𝓤 H A mem run .pre (to-put-at ν δ))) (goes ν δ) $
+        move ! (3 ∷ 0 ∷ []) $ join ! $ move ! (6 ∷ 4 ∷ 0 ∷ []) $ use3 W (raw (Core 𝓤 H A mem run .pre (to-core ν δ))) (goes ν δ) $
         -- [the call's; the text; true; true; what the lender keeps; …; _8; …]
-        calls-at ! fm (PutAt 𝓤 H A mem run) known (to-put-at ν δ) (and-then ! (load ! (from ! (stop !)) (look ! 10 refl)) (and-then ! (load ! (from ! (stop !)) (look ! 16 refl)) (and-then ! (load ! (from ! (stop !)) (look ! 18 refl)) (no-more !)))) (λ w.
-        use1 W (later (some (λ (r : ℕ). ((‵ (flft (ν ∷ []) fullShare) ⊛ (‵ (flft κ′ q′) ⊛ ‵ ftrue)) ⊛ ‵ (usize .own r (w ∷ []))) ⊛ raw (ensured 𝓤 H A put-at.ended (put-at.clauses 𝓤 H A mem run) (ν ∷ [], (κ′, tt)) (x δ ys, (n, (y, tt))) tt r)))) (id⊢ 𝓤 _) $ await ! tt $ pick ! (λ r.
-        -- what `bytes_at` ensures, at some last list
-        split ! $ move ! (1 ∷ []) $ use1 W (some (λ (zs : List ℕ × (Unit {0} × (Unit {0} × Unit {0}))). ‵ (lasts put-at.ended (ν ∷ [], (κ′, tt)) (x δ ys, (n, (y, tt))) zs) ⊛ raw (fact 𝓤 (Put (y .now) ys n r (zs .0))))) (id⊢ 𝓤 _) $ pick ! (λ zs.
+        calls-at ! fm (Core 𝓤 H A mem run) known (to-core ν δ) (and-then ! (load ! (from ! (stop !)) (look ! 10 refl)) (and-then ! (load ! (from ! (stop !)) (look ! 16 refl)) (and-then ! (load ! (from ! (stop !)) (look ! 18 refl)) (no-more !)))) (λ w.
+        use1 W (later (some (λ (r : ℕ). ((‵ (flft (ν ∷ []) fullShare) ⊛ (‵ (flft κ′ q′) ⊛ ‵ ftrue)) ⊛ ‵ (usize .own r (w ∷ []))) ⊛ raw (ensured 𝓤 H A core.ended (core.clauses 𝓤 H A mem run) (ν ∷ [], (κ′, tt)) (x δ ys, (n, (y, tt))) tt r)))) (id⊢ 𝓤 _) $ await ! tt $ pick ! (λ r.
+        -- what `put::put_bytes` ensures, at some last list
+        split ! $ move ! (1 ∷ []) $ use1 W (some (λ (zs : List ℕ × (Unit {0} × (Unit {0} × Unit {0}))). ‵ (lasts core.ended (ν ∷ [], (κ′, tt)) (x δ ys, (n, (y, tt))) zs) ⊛ raw (fact 𝓤 (Put (y .now) ys n r (zs .0))))) (id⊢ 𝓤 _) $ pick ! (λ zs.
         split ! $ move ! (1 ∷ []) $ heard ! (Put (y .now) ys n r (zs .0)) (λ e. fsplit ! $ fsplit ! $ move ! (1 ∷ []) $ feqL ! (λ l.
         move ! (2 ∷ []) $ split ! $ move ! (1 ∷ []) $ peeks ! usize (Is usize) (shows 𝓤 H A usize) r (w ∷ []) (λ is.
         land ! (from ! (stop !)) (init ! 17 refl (uint-lawful 𝓤 H A W w64 .typed r _ is .0)) $ rewrite ! 17 (λ (u : Val). ‵ (fat fullShare (tyInt w64) l₄ 0 u)) (ap only (is .0)) refl $
@@ -171,23 +171,23 @@ module _ {M : Type 1} (𝓤 : URA M) (H : Heap 𝓤) (A : Atoms 𝓤) (W : Given
         keep ! (1 ∷ 2 ∷ 0 ∷ 5 ∷ []) $ by ! (exits r (zs .0) e (is .1))))))))))))))))))))
 
 module _ {M : Type 1} (𝓤 : URA M) (H : Heap 𝓤) (A : Atoms 𝓤) (W : Given 𝓤 H A) (mem : Memory → SProp 𝓤) (run : Routine → Fun 𝓤) where
-  put-back-walks : (C : Calls 𝓤 H) (Λ : Loops 𝓤 H) → FmC 𝓤 H (W .laws) C → Triple 𝓤 (C #bytes-at) (PutAt 𝓤 H A mem run) → Walks 𝓤 H A put-back.ended stayed (WpFn 𝓤 H C Λ code.function) (put-back.clauses 𝓤 H A mem run)
-  put-back-walks C Λ fm known = walked 𝓤 H A put-back.ended stayed (put-back.clauses 𝓤 H A mem run) (WpFn 𝓤 H C Λ code.function)
+  put-bytes-walks : (C : Calls 𝓤 H) (Λ : Loops 𝓤 H) → FmC 𝓤 H (W .laws) C → Triple 𝓤 (C #core) (Core 𝓤 H A mem run) → Walks 𝓤 H A put-bytes.ended stayed (WpFn 𝓤 H C Λ code.function) (put-bytes.clauses 𝓤 H A mem run)
+  put-bytes-walks C Λ fm known = walked 𝓤 H A put-bytes.ended stayed (put-bytes.clauses 𝓤 H A mem run) (WpFn 𝓤 H C Λ code.function)
       (λ κs. (LL.vals (T.the-type (namedLft 2 0 tt κs)) (T′.the-laws (namedLft 2 0 tt κs)), (slice-vals, tt))) (λ κs. (LL.tells (T.the-type (namedLft 2 0 tt κs)) (T′.the-laws (namedLft 2 0 tt κs)), (shr-slice-tells (named 1) (κs .1 .0) u8, tt)))
       (λ κs qs bounds a g are. via 𝓤 _ (fst∗ 𝓤 _ (emp 𝓤)) (
       let fields = LL.owed (T.the-type (namedLft 2 0 tt κs)) (T′.the-laws (namedLft 2 0 tt κs)) (a .0) _ (are .0) in
       walk 𝓤 H A W mem run (κs .0) (κs .1 .0) (qs .0) (qs .1 .0) (a .0 .buf .ptr .0) (a .0 .buf .ptr .1) (a .0 .buf .name) (a .0 .buf .now) (a .0 .at) (a .1 .0) (fields .1 .0 .1) C Λ fm known (are .0) (fields .0 .0 .1) (are .1 .0)))
 
-put-back-meets : {M : Type 1} (𝓤 : URA M) (H : Heap 𝓤) (A : Atoms 𝓤) → Given 𝓤 H A → (mem : Memory → SProp 𝓤) (run : Routine → Fun 𝓤) (𝓣 : Tables 𝓤 H) → Triple 𝓤 (𝓣 .C #bytes-at) (PutAt 𝓤 H A mem run)
-    → Meets 𝓤 H A put-back.signature (WpFn 𝓤 H (𝓣 .C) (𝓣 .Λ) code.function) (put-back.spec 𝓤 H A mem run)
-put-back-meets 𝓤 H A W mem run 𝓣 known =
-    walk-meets 𝓤 H A put-back.ended stayed W (writer-spent-goes 1 𝓤 H A W, (goes-none-slice 𝓤 H A W 2 (1 ∷ []) tt (plain (λ _. u8)) yes, tt)) (put-back.clauses 𝓤 H A mem run)
-    (WpFn 𝓤 H (𝓣 .C) (𝓣 .Λ) code.function) (WpFn-mono 𝓤 H (W .laws) 𝓣 code.function) (put-back-walks 𝓤 H A W mem run (𝓣 .C) (𝓣 .Λ) (fmOf 𝓤 H (W .laws) 𝓣) known)
+put-bytes-meets : {M : Type 1} (𝓤 : URA M) (H : Heap 𝓤) (A : Atoms 𝓤) → Given 𝓤 H A → (mem : Memory → SProp 𝓤) (run : Routine → Fun 𝓤) (𝓣 : Tables 𝓤 H) → Triple 𝓤 (𝓣 .C #core) (Core 𝓤 H A mem run)
+    → Meets 𝓤 H A put-bytes.signature (WpFn 𝓤 H (𝓣 .C) (𝓣 .Λ) code.function) (put-bytes.spec 𝓤 H A mem run)
+put-bytes-meets 𝓤 H A W mem run 𝓣 known =
+    walk-meets 𝓤 H A put-bytes.ended stayed W (writer-spent-goes 1 𝓤 H A W, (goes-none-slice 𝓤 H A W 2 (1 ∷ []) tt (plain (λ _. u8)) yes, tt)) (put-bytes.clauses 𝓤 H A mem run)
+    (WpFn 𝓤 H (𝓣 .C) (𝓣 .Λ) code.function) (WpFn-mono 𝓤 H (W .laws) 𝓣 code.function) (put-bytes-walks 𝓤 H A W mem run (𝓣 .C) (𝓣 .Λ) (fmOf 𝓤 H (W .laws) 𝓣) known)
 
 pub put-bytes-spec : {M : Type 1} → stated.statement M
 unfolding code.routine tablesOf
 put-bytes-spec 𝓤 H 𝓜 𝓖 𝓡 =
-    entered 𝓤 H (tripleOf 𝓤 H (𝓖 .A) put-back.signature (put-back.spec 𝓤 H (𝓖 .A) (𝓜 .mem) (𝓡 .run)))
+    entered 𝓤 H (tripleOf 𝓤 H (𝓖 .A) put-bytes.signature (put-bytes.spec 𝓤 H (𝓖 .A) (𝓜 .mem) (𝓡 .run)))
     (tables 𝓤 H 𝓜 𝓡 code.env .C) (tables 𝓤 H 𝓜 𝓡 code.env .Λ) #put-bytes code.function (code.unfolded 𝓤 H 𝓜 𝓡)
-    (put-back-meets 𝓤 H (𝓖 .A) (givenOf 𝓤 H 𝓜 𝓖) (𝓜 .mem) (𝓡 .run) (tablesOf 𝓤 H 𝓜 (tables 𝓤 H 𝓜 𝓡 code.env))
-    (cited 𝓤 H (PutAt 𝓤 H (𝓖 .A) (𝓜 .mem) (𝓡 .run)) 𝓜 𝓡 code.env #bytes-at put-at-def.routine code.calls-text·put·put-bytes (put-at-thm.met 𝓤 H 𝓜 𝓖 𝓡)))
+    (put-bytes-meets 𝓤 H (𝓖 .A) (givenOf 𝓤 H 𝓜 𝓖) (𝓜 .mem) (𝓡 .run) (tablesOf 𝓤 H 𝓜 (tables 𝓤 H 𝓜 𝓡 code.env))
+    (cited 𝓤 H (Core 𝓤 H (𝓖 .A) (𝓜 .mem) (𝓡 .run)) 𝓜 𝓡 code.env #core core-def.routine code.calls-text·put·put-bytes (core-thm.met 𝓤 H 𝓜 𝓖 𝓡)))
