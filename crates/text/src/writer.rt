@@ -48,14 +48,6 @@ pub fn finish<'a>(w: Writer<'a>) -> usize
     w.at
 }
 
-// Two texts, one after the other.
-pub fn write_pair(out: &mut [u8], at: usize, a: &[u8], b: &[u8]) -> usize
-    ensures { λ r. ⌜ Put (now (a .entry) ++ now (b .entry)) (now (out .entry)) at r (now (out .exit)) ⌝ }
-{
-    let w = put_bytes(put_bytes(new(out, at), a), b);
-    finish(w)
-}
-
 // A line of an answer: a key, its value and the line's end.
 pub fn write_line(out: &mut [u8], at: usize, key: &[u8], value: &[u8]) -> usize
     ensures { λ r. ⌜ Put (now (key .entry) ++ (now (value .entry) ++ (10 ∷ []))) (now (out .entry)) at r (now (out .exit)) ⌝ }
