@@ -36,10 +36,10 @@ use Rattle.text.specs.declared.job.accept.Reading.the-variants.{Refused,
 use Rattle.text.specs.Answer.{refused, accepted, _>>=_, require, or-refuse}
 use Rattle.text.specs.TermText.{read-term}
 use Rattle.text.specs.Layout.{Layout, layout}
-use Rattle.text.specs.Job.{in-range, oriented, read-job}
+use Rattle.text.specs.Job.{in-range, oriented, accept, read-job}
 use Rattle.text.specs.SideRead.{TermRead}
 use Rattle.text.specs.LayoutRead.{capped, LaidOut}
-use Rattle.text.specs.Accepting.{accept, Answers, FewLetters, AcceptsSides, ReadsJob}
+use Rattle.text.specs.Accepting.{Answers, FewLetters, AcceptsSides, ReadsJob}
 use Rattle.text.specs.Theory.Jobs.{in-range-true}
 
 -- the letters
@@ -240,7 +240,7 @@ module _ (bs : List ℕ) where
         no-right-term h = rw (short-enough) (rw lines (rw first (rw h)))
 
         pub both-terms : {t : Term} → read-term (j .right) ≡ some t → read-job bs ≡ accept s t (j .limits)
-        unfolding read-job accept _>>=_ require or-refuse
+        unfolding read-job _>>=_ require or-refuse
         both-terms h = rw (short-enough) (rw lines (rw first (rw h)))
 
 -- the lines and terms that the code found

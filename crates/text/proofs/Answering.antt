@@ -31,10 +31,10 @@ use Rattle.search.specs.declared.bounded_search.Outcome.{Outcome}
 use Rattle.search.specs.declared.bounded_search.Outcome.the-variants.{Direct, Proved, Unproved, Full}
 use Rattle.text.specs.Answer.{accepted, refused, _>>=_, require}
 use Rattle.text.specs.Job.{Job, read-job}
-use Rattle.text.specs.Find.{find}
+use Rattle.text.specs.Find.{find, searched, told}
 use Rattle.text.specs.Entry.{Call}
 use Rattle.text.specs.Walk.{Walk}
-use Rattle.text.specs.Answering.{Sides, Led, searched, told, whole-line}
+use Rattle.text.specs.Answering.{Sides, Led, whole-line}
 use Rattle.text.proofs.Measured.{refuses}
 use Rattle.text.proofs.Entries.{accepted-job}
 

@@ -17,10 +17,9 @@ use Rattle.text.specs.declared.job.Value.the-variants.{Between, Missing}
 use Rattle.text.specs.declared.job.lines.Limit.{Limit}
 use Rattle.text.specs.declared.job.lines.Limit.the-variants as limit
 use Rattle.text.specs.Bytes.{ascii, end, read-number}
-use Rattle.text.specs.Layout.{layout}
+use Rattle.text.specs.Layout.{limit-line, limit-lines, layout}
 use Rattle.text.specs.Reading.{Valued, Values, limited}
-use Rattle.text.specs.LayoutRead.{limit-line, limit-lines, LimitAt, LimitIn, LimitedBy, LaidOut}
-use Rattle.text.proofs.LineOrder.{layout-parts}
+use Rattle.text.specs.LayoutRead.{LimitAt, LimitIn, LimitedBy, LaidOut}
 use Rattle.text.proofs.Numbers.{allowed, too-large, malformed}
 
 -- the line of one limit
@@ -102,22 +101,22 @@ module _ (s : List ℕ) (from : ℕ) where
 
 module _ (s : List ℕ) where
   pub no-left : Values s 0 (ascii "left=") Missing → layout s ≡ none
-  unfolding bind
-  no-left h = layout-parts s ∙ rw (h "left=" refl)
+  unfolding layout bind
+  no-left h = rw (h "left=" refl)
 
   module _ {a b : ℕ} (l : Valued s 0 (ascii "left=") a b) where
     pub no-right : Values s (b + 1) (ascii "right=") Missing → layout s ≡ none
-    unfolding bind
-    no-right h = layout-parts s ∙ rw (l .parts "left=" refl) (rw (h "right=" refl))
+    unfolding layout bind
+    no-right h = rw (l .parts "left=" refl) (rw (h "right=" refl))
 
     module _ {c d : ℕ} (r : Valued s (b + 1) (ascii "right=") c d) where
       pub no-limits : limit-lines (drop (d + 1) s) ≡ none → layout s ≡ none
-      unfolding bind
-      no-limits h = layout-parts s ∙ rw (l .parts "left=" refl) (rw (r .parts "right=" refl) (rw h))
+      unfolding layout bind
+      no-limits h = rw (l .parts "left=" refl) (rw (r .parts "right=" refl) (rw h))
 
       pub laid-out : {m : limits.Limits} → LimitedBy (drop (d + 1) s) m
           → LaidOut s (record { left = record { from = a; to = b }; right = record { from = c; to = d }; limits = m })
-      unfolding bind
+      unfolding layout bind
       laid-out h =
           record {
             left-starts = l .starts;
@@ -126,5 +125,5 @@ module _ (s : List ℕ) where
             right-ends = r .ends;
             limits = h .limits;
             is = h .is;
-            lines = layout-parts s ∙ rw (l .parts "left=" refl) (rw (r .parts "right=" refl) (rw (h .lines)));
+            lines = rw (l .parts "left=" refl) (rw (r .parts "right=" refl) (rw (h .lines)));
           }

@@ -6,7 +6,6 @@ pub mod Numbers
 pub mod Lines
 pub mod Reading
 pub mod Sides
-pub mod LineOrder
 pub mod Layouts
 pub mod Accepts
 -- writing

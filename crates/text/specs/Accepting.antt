@@ -1,11 +1,11 @@
 -- What the functions that read a job promise.
 use Prim.Native.Nat.{ℕ, _≤_}
-use mathlib.Core.Bool.{Bool, not, _&&_}
+use mathlib.Core.Bool.{Bool}
 use mathlib.Core.List.{List, _++_}
 use mathlib.Core.Path.{_≡_}
 use lib.Dec.{leb}
 use lib.ListN.{length, take}
-use Rattle.terms.specs.Term.{Term, size, same}
+use Rattle.terms.specs.Term.{Term}
 use Rattle.terms.specs.Letters.{letters, rising}
 use Rattle.terms.specs.Held.{IsRun}
 use Rattle.search.specs.Line as line
@@ -14,19 +14,9 @@ use Rattle.search.specs.declared.bounded_search.Limits.{Limits}
 use Rattle.text.specs.declared.job.accept.Read.{Read}
 use Rattle.text.specs.declared.job.accept.Reading.{Reading}
 use Rattle.text.specs.declared.job.accept.Reading.the-variants.{Refused, Accepted}
-use Rattle.text.specs.Answer.{Answer, refused, accepted, _>>=_, require}
-use Rattle.text.specs.Job.{Job, in-range, oriented, read-job}
+use Rattle.text.specs.Answer.{Answer, refused, accepted}
+use Rattle.text.specs.Job.{Job, accept, read-job}
 use Rattle.text.specs.LayoutRead.{capped}
-
--- refusals 3 to 6
-unfoldable pub accept : Term → Term → line.Limits → Answer Job
-unfolding _>>=_ require size rising letters in-range same oriented
-accept s t m = do
-  _ ← require 3 (leb (size s) 31 && leb (size t) 31)
-  _ ← require 4 (leb (length (rising (letters s ++ letters t))) 6)
-  _ ← require 5 (in-range m)
-  _ ← require 6 (not (same s t))
-  accepted (oriented s t m)
 
 -- the answer is a job, whose sides have their runs at the fronts of two buffers
 pub record Takes (answer : Answer Job) (j : Read) (left right : List ℕ) : Type 0 where

@@ -1,7 +1,7 @@
 -- What the functions that read the six lines of a job promise.
 use Prim.Native.Nat.{ℕ, _≤_, _<_, min}
 use Prim.Native.String.{String}
-use mathlib.Core.Option.{Option, none, some, bind as _>>=_}
+use mathlib.Core.Option.{none, some}
 use mathlib.Core.List.{List}
 use mathlib.Core.Path.{_≡_}
 use lib.ListN.{length, drop}
@@ -16,30 +16,8 @@ use Rattle.text.specs.declared.job.lines.Limited.the-variants as limited
 use Rattle.text.specs.declared.job.lines.Written.{Written}
 use Rattle.text.specs.declared.job.lines.Laid.{Laid}
 use Rattle.text.specs.declared.job.lines.Laid.the-variants as laid
-use Rattle.text.specs.Bytes.{ascii, end, read-number}
-use Rattle.text.specs.Layout.{keyed, layout}
-
--- the number in a line, and what follows the line
-pub record Stated : Type 0 where
-  pub number : ℕ
-  pub rest : List ℕ
-
-unfoldable pub limit-line : String → List ℕ → Option Stated
-unfolding _>>=_ keyed read-number
-limit-line key bs = do
-  c ← keyed key bs
-  n ← read-number (c .front)
-  some (record { number = n; rest = c .rest })
-
--- the last four lines of a job
-unfoldable pub limit-lines : List ℕ → Option line.Limits
-unfolding _>>=_ limit-line end
-limit-lines bs = do
-  s ← limit-line "steps=" bs
-  z ← limit-line "size=" (s .rest)
-  d ← limit-line "depth=" (z .rest)
-  n ← limit-line "nodes=" (d .rest)
-  end (record { steps = s .number; size = z .number; depth = d .number; nodes = n .number }) (n .rest)
+use Rattle.text.specs.Bytes.{ascii}
+use Rattle.text.specs.Layout.{limit-line, limit-lines, layout}
 
 -- a number above 4,096, which no limit may be, is taken for 4,097
 abbrev pub capped : line.Limits → line.Limits

@@ -1,4 +1,4 @@
--- The claims hold of every call of FIND.
+-- The claims hold of every call of an entry.
 use Prim.Native.Nat.{ℕ, _-_, _≤_}
 use native.Mathlib.Omega.{arith}
 use mathlib.Core.Path.{_≡_, refl, sym, ap, _∙_}
@@ -10,16 +10,20 @@ use lib.ListN.{length, take, drop}
 use lib.Seq.{take-append-seam, drop-append-seam}
 use Rattle.terms.specs.Term.{size, same}
 use Rattle.terms.specs.Letters.{letters, rising}
+use Rattle.words.specs.Words.{words}
+use Rattle.words.specs.Rename.{canonical-terms}
 use Rattle.search.specs.Law.{semiring}
 use Rattle.search.specs.Search.{noted, search}
 use Rattle.search.specs.Searched.{slots-of}
 use Rattle.text.specs.TermText.{read-term}
 use Rattle.text.specs.Layout.{layout}
 use Rattle.text.specs.Answer.{Answer, refused, accepted, _>>=_, require, or-refuse, fitting}
-use Rattle.text.specs.Job.{in-range, read-job}
+use Rattle.text.specs.Job.{in-range, accept, read-job}
 use Rattle.text.specs.Find.{outcome-text, find}
-use Rattle.text.specs.Entry.{returned, output-after, FindCall}
-use Rattle.text.specs.Claims.{Answered, FindClaims}
+use Rattle.text.specs.Words.{words-text, words-entry}
+use Rattle.text.specs.Rename.{term-lines, renamed-words, rename-entry}
+use Rattle.text.specs.Entry.{returned, output-after, Call, FindCall}
+use Rattle.text.specs.Claims.{CallClaims, FindClaims}
 use Rattle.text.specs.Theory.Answers as answers
 
 -- a refusal's number is from 1 to 8
@@ -45,7 +49,7 @@ numbered-require n true f h k = k
 numbered-require n false f h k = h
 
 read-numbered : (bs : List ℕ) → Numbered (read-job bs)
-unfolding read-job
+unfolding read-job accept
 read-numbered bs =
     numbered-require 1 (leb (length bs) 1024) _ (omega arith, omega arith)
     (numbered-or 1 (layout bs) _ (omega arith, omega arith) λ j.
@@ -56,29 +60,36 @@ read-numbered bs =
     (numbered-require 5 (in-range (j .limits)) _ (omega arith, omega arith)
     (numbered-require 6 (not (same s t)) _ (omega arith, omega arith) tt))))
 
-module _ (bs : List ℕ) (slots room : ℕ) where
-  find-numbered : Numbered (find bs slots room)
-  unfolding find fitting
-  find-numbered =
-      numbered-then (read-job bs) _ (read-numbered bs) λ j.
-      let o = search semiring (j .limits) (j .left) (j .right) in
-      numbered-require 7 (leb (noted o) slots) _ (omega arith, omega arith)
-      (numbered-require 8 (leb (length (outcome-text semiring j o)) room) _ (omega arith, omega arith) tt)
+fitting-numbered : (room : ℕ) (t : List ℕ) → Numbered (fitting room t)
+unfolding fitting
+fitting-numbered room t = numbered-require 8 (leb (length t) room) _ (omega arith, omega arith) tt
 
-module _ {job out work : List ℕ} {r : ℕ} {out′ work′ : List ℕ} (c : FindCall job out work r out′ work′) where
-  abbrev slots : ℕ
-  slots = slots-of (length work)
+find-numbered : (bs : List ℕ) (slots room : ℕ) → Numbered (find bs slots room)
+unfolding find
+find-numbered bs slots room =
+    numbered-then (read-job bs) _ (read-numbered bs) λ j.
+    let o = search semiring (j .limits) (j .left) (j .right) in
+    numbered-require 7 (leb (noted o) slots) _ (omega arith, omega arith) (fitting-numbered room (outcome-text semiring j o))
 
-  abbrev given : Answer (List ℕ)
-  given = find job slots (length out)
+words-numbered : (bs : List ℕ) (room : ℕ) → Numbered (words-entry bs room)
+unfolding words-entry
+words-numbered bs room =
+    numbered-then (read-job bs) _ (read-numbered bs) λ j. fitting-numbered room (words-text (words (j .left)) (words (j .right)))
 
-  by-answer : (a : Answer (List ℕ)) → given ≡ a → Numbered a → r ≡ returned a → out′ ≡ output-after out a → FindClaims job out work r out′
+rename-numbered : (bs : List ℕ) (room : ℕ) → Numbered (rename-entry bs room)
+unfolding rename-entry
+rename-numbered bs room =
+    numbered-then (read-job bs) _ (read-numbered bs) λ j.
+    fitting-numbered room (term-lines (canonical-terms (j .left) (j .right)) ++ renamed-words (words (j .left)) (words (j .right)))
+
+module _ {given : Answer (List ℕ)} {out : List ℕ} {r : ℕ} {out′ : List ℕ} where
+  by-answer : (a : Answer (List ℕ)) → given ≡ a → Numbered a → r ≡ returned a → out′ ≡ output-after out a → CallClaims given out r out′
   by-answer (refused n) e (low, high) number output =
       record {
         refusal = (λ h. e ∙ ap refused (sym number), λ h. omega arith);
         numbered = λ h. (omega arith, omega arith);
         untouched = λ h. output;
-        answered = λ h. absurd (omega arith);
+        text = λ h. absurd (omega arith);
         kept = λ h. absurd (omega arith);
       }
   by-answer (accepted t) e h number output =
@@ -87,13 +98,23 @@ module _ {job out work : List ℕ} {r : ℕ} {out′ work′ : List ℕ} (c : Fi
         refusal = (λ h. absurd (omega arith), λ (h : given ≡ refused r). absurd (let z : _≡_ {A = ℕ} 0 1 = cc in omega arith));
         numbered = λ h. absurd (omega arith);
         untouched = λ h. absurd (omega arith);
-        answered = λ h. rw (size, output, take-append-seam t (drop (length t) out)) (answers.answered job slots (length out) t e);
+        text = λ h. rw (size, output, take-append-seam t (drop (length t) out)) e;
         kept = λ h. rw (size, output, drop-append-seam t (drop (length t) out));
       }
 
-  -- what the numbers mean, and demand 3 of every answer not refused
-  pub find-claims : FindClaims job out work r out′
-  find-claims = by-answer given refl (find-numbered job slots (length out)) (c .call .number) (c .call .output)
+  call-claims : Numbered given → Call given out r out′ → CallClaims given out r out′
+  call-claims h c = by-answer given refl h (c .number) (c .output)
 
-  pub find-answered : 100 ≤ r → Answered job slots (length out) (take (r - 100) out′)
-  find-answered = find-claims .answered
+-- what the numbers mean, of each entry
+module _ (job out : List ℕ) {r : ℕ} {out′ : List ℕ} where
+  pub words-claims : Call (words-entry job (length out)) out r out′ → CallClaims (words-entry job (length out)) out r out′
+  words-claims = call-claims (words-numbered job (length out))
+
+  pub rename-claims : Call (rename-entry job (length out)) out r out′ → CallClaims (rename-entry job (length out)) out r out′
+  rename-claims = call-claims (rename-numbered job (length out))
+
+  -- and demand 3 of every answer of FIND that is not refused
+  pub find-claims : {work work′ : List ℕ} → FindCall job out work r out′ work′ → FindClaims job out work r out′
+  find-claims {work} c =
+      let call = call-claims (find-numbered job (slots-of (length work)) (length out)) (c .call) in
+      record { call = call; answered = λ h. answers.answered job (slots-of (length work)) (length out) _ (call .text h) }
