@@ -35,7 +35,7 @@ pub enum Origin {
 }
 
 // Stores an origin in four numbers from `at` on.
-pub fn write_origin(ws: &mut [u32], at: usize, o: Origin)
+fn write_origin(ws: &mut [u32], at: usize, o: Origin)
     requires { ⌜ at + 4 ≤ length (now ws) ⌝ }
     ensures { λ _. ⌜ now (ws .exit) ≡ sets (now (ws .entry)) at (numbers o) ⌝ }
 {

@@ -8,7 +8,7 @@ use crate::bounded_search::SLOT;
 use terms::term;
 
 // The distance of the term in a slot: 0 past the end.
-pub fn distance_of(ws: &[u32], k: u32) -> usize
+fn distance_of(ws: &[u32], k: u32) -> usize
     ensures { λ r. ⌜ r ≡ distance-of (now (ws .entry)) k ⌝ }
 {
     let at = SLOT * (k as usize) + 5;
