@@ -237,9 +237,7 @@ fn explore(
             j += 1;
             match take_result(ws, noted, slots, res, k, distance, right) {
                 Taken::Known => {}
-                Taken::Noted => {
-                    noted += 1;
-                }
+                Taken::Noted => noted += 1,
                 Taken::Right => {
                     outcome = Outcome::Proved(i + 1, noted + 1);
                     break 'outer;
