@@ -55,7 +55,7 @@ pub struct Rank {
 
 // One more word counted, by how it compares.
 fn note(rank: Rank, found: Comparison) -> Rank
-    requires { ⌜ (rank .less < 4294967296) × (rank .upto < 4294967296) ⌝ }
+    requires { ⌜ (rank .less < 4611686018427387904) × (rank .upto < 4611686018427387904) ⌝ }
     ensures { λ r. ⌜ Notes rank (ordering-of found) r ⌝ }
 {
     let less = rank.less;
@@ -75,7 +75,6 @@ fn note(rank: Rank, found: Comparison) -> Rank
 
 // The words in all the slots, renamed, counted against the first word that a run spells.
 fn rank_of(words: &[u32], names: &[u32], numbers: &[u32], run: &[u32]) -> Rank
-    requires { ⌜ length (now words) < 4294967296 ⌝ }
     ensures { λ r. ⌜ Ranks (first-word (now (run .entry))) (map (rename-run (renamed (now (names .entry)) (now (numbers .entry)))) (slot-words (now (words .entry)))) r ⌝ }
 {
     let mut counted = Rank { less: 0, upto: 0 };
@@ -105,7 +104,6 @@ fn word_length(run: &[u32]) -> usize
 // Whether the words in all the slots, renamed and sorted, come after a run, if a few words of the run tell.
 // Word i of the sorted list is greater than a word if no more than i words come up to it, and equal to it if no more than i come before it.
 fn is_above(words: &[u32], names: &[u32], numbers: &[u32], run: &[u32]) -> bool
-    requires { ⌜ length (now words) < 4294967296 ⌝ }
     ensures { λ r. ⌜ Above (renamed (now (names .entry)) (now (numbers .entry))) (now (words .entry)) (now (run .entry)) r ⌝ }
 {
     let mut at = 0;
@@ -137,7 +135,6 @@ fn is_above(words: &[u32], names: &[u32], numbers: &[u32], run: &[u32]) -> bool
 
 // Whether renaming number c surely makes a greater equation than one whose left side is a run: both lists come after it.
 pub fn is_greater(u: &[u32], v: &[u32], names: &[u32], numbers: &[u32], c: usize, run: &[u32]) -> bool
-    requires { ⌜ (length (now u) < 4294967296) × (length (now v) < 4294967296) ⌝ }
     ensures { λ r. ⌜ Exceeds (renamed (now (names .entry)) (now (numbers .entry))) (now (u .entry)) (now (v .entry)) c (now (run .entry)) r ⌝ }
 {
     if c == 0 {
