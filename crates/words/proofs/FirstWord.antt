@@ -1,15 +1,20 @@
 -- A word set against the first word that a run spells, letter by letter.
 use Prim.Native.Nat.{ℕ, zero, suc, _+_, _-_, _<_, _≤_, compare}
 use native.Mathlib.Omega.{arith}
-use native.Mathlib.Numerals.{add-one}
+use native.Mathlib.Nat.{add-zero, zero-add}
 use mathlib.Core.Path.{_≡_, refl, sym, ap, _∙_}
 use mathlib.Core.List.{List, [], _∷_, map}
-use lib.ListN.{length, drop, getD, drop-of-length-le}
+use lib.ListN.{length, drop, getD, drop-of-length-le, length-map}
+use lib.Seq.{sets, length-sets, take-all}
 use Rattle.terms.specs.Compare.{Ordering, lt, eq, gt, then, lexicographic}
 use Rattle.terms.specs.Theory.Order.{flip-lt, compare-order, compare-below}
 use Rattle.terms.proofs.Positions.{drop-one}
 use Rattle.words.specs.Words.{order-words}
-use Rattle.words.specs.Rank.{first-word}
+use Rattle.words.specs.Rename.{count-from}
+use Rattle.words.specs.RenameRun.{rename-number, rename-run}
+use Rattle.words.specs.Theory.Bijections.{count-from-length}
+use Rattle.words.specs.Rank.{Tabled, first-word}
+use Rattle.words.proofs.Parts.{front-stored}
 
 letter-first : (y : ℕ) (ys : List ℕ) → (y ≡ 0 → ⊥) → first-word (y ∷ ys) ≡ (y - 1) ∷ first-word ys
 unfolding first-word
@@ -66,3 +71,25 @@ module _ (b : List ℕ) (i n : ℕ) (e : i + length (first-word (drop i b)) ≡ 
 
   pub length-later : i < length b → (getD b i 0 ≡ 0 → ⊥) → i + 1 + length (first-word (drop (i + 1) b)) ≡ n
   length-later h z = omega (arith, rw (drop-one b i h, letter-first (getD b i 0) (drop (i + 1) b) z) at e)
+
+-- numbers renamed by a table of the small ones
+
+count-from-at : (g : ℕ → ℕ) (k i n : ℕ) → n < k → getD (map g (count-from k i)) n 0 ≡ g (i + n)
+unfolding count-from
+count-from-at g zero i n h = absurd (omega arith)
+count-from-at g (suc k) i zero h = rw add-zero
+count-from-at g (suc k) i (suc n) h = let e : suc i + n ≡ i + suc n = omega arith in rw e at (count-from-at g k (suc i) n (omega arith))
+
+pub tabled-at : (f : ℕ → ℕ) (table : List ℕ) (n : ℕ) → Tabled f table → n < length table → getD table n 0 ≡ rename-number f n
+tabled-at f table n t h = ap (λ l. getD l n 0) t ∙ count-from-at (rename-number f) (length table) 0 n h ∙ rw zero-add
+
+pub table-made : (f : ℕ → ℕ) (buffer : List ℕ) {small table : List ℕ} → small ≡ count-from (length buffer) 0
+    → table ≡ sets buffer 0 (rename-run f small) → Tabled f table
+table-made f buffer {small} {table} e d =
+    let n = length buffer in
+    let long : length (rename-run f small) ≡ n = length-map small (rename-number f) ∙ ap length e ∙ count-from-length n 0 in
+    let all : table ≡ rename-run f small =
+    d ∙ sym (take-all (length (rename-run f small)) (sets buffer 0 (rename-run f small)) (omega (arith, length-sets buffer 0 (rename-run f small))))
+    ∙ front-stored buffer (rename-run f small) (omega arith) in
+    let m : length table ≡ n = ap length all ∙ long in
+    rw m (all ∙ ap (rename-run f) e)

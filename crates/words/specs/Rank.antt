@@ -3,13 +3,19 @@ use Prim.Native.Nat.{ℕ, zero, suc, _+_, _<_, _≤_}
 use mathlib.Core.Path.{_≡_}
 use mathlib.Core.Bool.{Bool, true}
 use mathlib.Core.List.{List, [], _∷_, map, foldr}
+use lib.ListN.{length}
 use Rattle.terms.specs.Compare.{Ordering, lt, eq, gt, order-numbers}
 use Rattle.terms.specs.Sort.{kept}
 use Rattle.words.specs.Words.{Word, order-words, normal}
 use Rattle.words.specs.Spelled.{spelled}
+use Rattle.words.specs.Rename.{count-from}
 use Rattle.words.specs.RenameRun.{rename-run}
 use Rattle.words.specs.WordLists.{slot-words}
 use Rattle.words.specs.declared.candidate.rank.Rank.{Rank}
+
+-- the table has the new number of each number below its length
+abbrev pub Tabled : (ℕ → ℕ) → List ℕ → Type 0
+Tabled f table = table ≡ rename-run f (count-from (length table) 0)
 
 -- the first word that a run spells
 unfoldable pub first-word : List ℕ → Word

@@ -6,18 +6,42 @@ ghost use lib.ListN.{length};
 ghost use Rattle.terms.specs.Promises.{ordering-of};
 ghost use Rattle.words.specs.Words.{order-words};
 ghost use Rattle.words.specs.Rename.{renamed};
-ghost use Rattle.words.specs.RenameRun.{rename-run};
+ghost use Rattle.words.specs.RenameRun.{rename-number, rename-run};
 ghost use Rattle.words.specs.WordLists.{slot-words};
-ghost use Rattle.words.specs.Rank.{first-word, Notes, Ranks, Above, Exceeds};
+ghost use Rattle.words.specs.Rank.{Tabled, first-word, Notes, Ranks, Above, Exceeds};
 use super::super::normal_form::word_of;
+use super::super::sort::number_slots;
 use super::new_number;
+use super::rename_run;
 use terms::term::Comparison;
 
 // How many words of a run are looked at: lists that agree in more are sorted.
 const TRIES: usize = 6;
 
+// How many numbers the table of new numbers is for.
+const SMALL: usize = 16;
+
+// The new number of one, from a table that has it for the small ones.
+fn number_by(table: &[u32], names: &[u32], numbers: &[u32], x: u32) -> u32
+    requires { ⌜ Tabled (renamed (now names) (now numbers)) (now table) ⌝ }
+    ensures { λ r. ⌜ r ≡ rename-number (renamed (now (names .entry)) (now (numbers .entry))) x ⌝ }
+{
+    let i = x as usize;
+    if i < table.len() {
+        return table[i];
+    }
+    new_number(names, numbers, x)
+}
+
 // Which comes first, a word renamed or the first word that a run spells.
-fn compare_first(word: &[u32], names: &[u32], numbers: &[u32], run: &[u32]) -> Comparison
+fn compare_first(
+    word: &[u32],
+    table: &[u32],
+    names: &[u32],
+    numbers: &[u32],
+    run: &[u32],
+) -> Comparison
+    requires { ⌜ Tabled (renamed (now names) (now numbers)) (now table) ⌝ }
     ensures { λ r. ⌜ ordering-of r ≡ order-words (rename-run (renamed (now (names .entry)) (now (numbers .entry))) (now (word .entry))) (first-word (now (run .entry))) ⌝ }
 {
     let mut i = 0;
@@ -29,7 +53,7 @@ fn compare_first(word: &[u32], names: &[u32], numbers: &[u32], run: &[u32]) -> C
         if y == 0 {
             return Comparison::Greater;
         }
-        let x = new_number(names, numbers, word[i]);
+        let x = number_by(table, names, numbers, word[i]);
         if x < y - 1 {
             return Comparison::Less;
         }
@@ -74,13 +98,14 @@ fn note(rank: Rank, found: Comparison) -> Rank
 }
 
 // The words in all the slots, renamed, counted against the first word that a run spells.
-fn rank_of(words: &[u32], names: &[u32], numbers: &[u32], run: &[u32]) -> Rank
+fn rank_of(words: &[u32], table: &[u32], names: &[u32], numbers: &[u32], run: &[u32]) -> Rank
+    requires { ⌜ Tabled (renamed (now names) (now numbers)) (now table) ⌝ }
     ensures { λ r. ⌜ Ranks (first-word (now (run .entry))) (map (rename-run (renamed (now (names .entry)) (now (numbers .entry)))) (slot-words (now (words .entry)))) r ⌝ }
 {
     let mut counted = Rank { less: 0, upto: 0 };
     let mut i = 0;
     while i < words.len() / 17 {
-        let found = compare_first(word_of(words, i), names, numbers, run);
+        let found = compare_first(word_of(words, i), table, names, numbers, run);
         counted = note(counted, found);
         i += 1;
     }
@@ -103,7 +128,8 @@ fn word_length(run: &[u32]) -> usize
 
 // Whether the words in all the slots, renamed and sorted, come after a run, if a few words of the run tell.
 // Word i of the sorted list is greater than a word if no more than i words come up to it, and equal to it if no more than i come before it.
-fn is_above(words: &[u32], names: &[u32], numbers: &[u32], run: &[u32]) -> bool
+fn is_above(words: &[u32], table: &[u32], names: &[u32], numbers: &[u32], run: &[u32]) -> bool
+    requires { ⌜ Tabled (renamed (now names) (now numbers)) (now table) ⌝ }
     ensures { λ r. ⌜ Above (renamed (now (names .entry)) (now (numbers .entry))) (now (words .entry)) (now (run .entry)) r ⌝ }
 {
     let mut at = 0;
@@ -116,7 +142,7 @@ fn is_above(words: &[u32], names: &[u32], numbers: &[u32], run: &[u32]) -> bool
             return false;
         }
         let rest = &run[at..];
-        let counted = rank_of(words, names, numbers, rest);
+        let counted = rank_of(words, table, names, numbers, rest);
         if counted.upto <= i {
             return true;
         }
@@ -134,14 +160,25 @@ fn is_above(words: &[u32], names: &[u32], numbers: &[u32], run: &[u32]) -> bool
 }
 
 // Whether renaming number c surely makes a greater equation than one whose left side is a run: both lists come after it.
-pub fn is_greater(u: &[u32], v: &[u32], names: &[u32], numbers: &[u32], c: usize, run: &[u32]) -> bool
+pub fn is_greater(
+    u: &[u32],
+    v: &[u32],
+    names: &[u32],
+    numbers: &[u32],
+    c: usize,
+    run: &[u32],
+) -> bool
     ensures { λ r. ⌜ Exceeds (renamed (now (names .entry)) (now (numbers .entry))) (now (u .entry)) (now (v .entry)) c (now (run .entry)) r ⌝ }
 {
     if c == 0 {
         return false;
     }
-    if is_above(u, names, numbers, run) {
-        return is_above(v, names, numbers, run);
+    let mut small = [0u32; SMALL];
+    number_slots(&mut small);
+    let mut table = [0u32; SMALL];
+    rename_run(&small, names, numbers, &mut table);
+    if is_above(u, &table, names, numbers, run) {
+        return is_above(v, &table, names, numbers, run);
     }
     false
 }

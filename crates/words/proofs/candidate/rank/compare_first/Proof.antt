@@ -13,10 +13,10 @@ use Rattle.words.proofs.candidate.rank.compare_first.Statement.{stateme
 use Rattle.words.proofs.candidate.rank.compare_first.Tie as tie
 
 abbrev Inv-loop : tie.InvT-loop
-Inv-loop word names numbers run i₀ i = (i ≤ length word) × (order-words (rename-run (renamed names numbers) (drop i word)) (first-word (drop i run)) ≡ order-words (rename-run (renamed names numbers) word) (first-word run))
+Inv-loop word table names numbers run i₀ i = (i ≤ length word) × (order-words (rename-run (renamed names numbers) (drop i word)) (first-word (drop i run)) ≡ order-words (rename-run (renamed names numbers) word) (first-word run))
 
 abbrev μ-loop : tie.MeasureT-loop
-μ-loop word names numbers run i₀ i = length word - i
+μ-loop word table names numbers run i₀ i = length word - i
 
 loop-holds : tie.Need-loop-holds Inv-loop μ-loop
 loop-holds c = search needs
@@ -33,14 +33,14 @@ shared-slice-read-y c = search needs
 returns-2 : tie.Need-returns-2 Inv-loop μ-loop
 returns-2 c = search (end-here, needs)
 
-mul-new-number : tie.Need-mul-new-number Inv-loop μ-loop
-mul-new-number c = search needs
+mul-number-by : tie.Need-mul-number-by Inv-loop μ-loop
+mul-number-by c = search needs
 
-shared-slice-read-new-number : tie.Need-shared-slice-read-new-number Inv-loop μ-loop
-shared-slice-read-new-number c = search needs
+shared-slice-read-number-by : tie.Need-shared-slice-read-number-by Inv-loop μ-loop
+shared-slice-read-number-by c = search needs
 
-new-number-requires : tie.Need-new-number-requires Inv-loop μ-loop
-new-number-requires c κs = search needs
+number-by-requires : tie.Need-number-by-requires Inv-loop μ-loop
+number-by-requires c κs = search needs
 
 sub-if3 : tie.Need-sub-if3 Inv-loop μ-loop
 sub-if3 c = search needs
@@ -61,10 +61,10 @@ loop-again : tie.Need-loop-again Inv-loop μ-loop
 loop-again c =
     let n = c .before .before in
     let l = n .before .before .before .before .before .before in
-    let a = l .before .before .before .before .before .args in
+    let a = l .before .before .before .before .before .before .args in
     (omega arith,
-     equal-here (rename-number (renamed (a .names .now) (a .numbers .now))) (a .word .now) (a .run .now) (l .loop .i) _ (l .loop .inv .1) (n .new-number .result)
-     (n .new-number .ensures) (omega arith) (omega arith) (n .before .before .if2 .left) (c .before .if3 .left) (omega arith))
+     equal-here (rename-number (renamed (a .names .now) (a .numbers .now))) (a .word .now) (a .run .now) (l .loop .i) _ (l .loop .inv .1) (n .number-by .result)
+     (n .number-by .ensures) (omega arith) (omega arith) (n .before .before .if2 .left) (c .before .if3 .left) (omega arith))
 
 returns-5 : tie.Need-returns-5 Inv-loop μ-loop
 returns-5 c = search (both-ended, needs)
@@ -92,9 +92,9 @@ compare-first-spec =
     mul-y
     shared-slice-read-y
     returns-2
-    mul-new-number
-    shared-slice-read-new-number
-    new-number-requires
+    mul-number-by
+    shared-slice-read-number-by
+    number-by-requires
     sub-if3
     returns-3
     returns-4

@@ -15,10 +15,10 @@ use Rattle.words.proofs.candidate.rank.is_above.Statement.{statement}
 use Rattle.words.proofs.candidate.rank.is_above.Tie as tie
 
 abbrev Inv-loop : tie.InvT-loop
-Inv-loop words names numbers run at₀ i₀ at i = (i ≤ 6) × (at ≤ length run) × (order-numbers (drop at run) (spelled (drop i (sorted-renamed (renamed names numbers) words))) ≡ order-numbers run (spelled (sorted-renamed (renamed names numbers) words)))
+Inv-loop words table names numbers run at₀ i₀ at i = (i ≤ 6) × (at ≤ length run) × (order-numbers (drop at run) (spelled (drop i (sorted-renamed (renamed names numbers) words))) ≡ order-numbers run (spelled (sorted-renamed (renamed names numbers) words)))
 
 abbrev μ-loop : tie.MeasureT-loop
-μ-loop words names numbers run at₀ i₀ at i = 6 - i
+μ-loop words table names numbers run at₀ i₀ at i = 6 - i
 
 loop-holds : tie.Need-loop-holds Inv-loop μ-loop
 loop-holds c = (omega arith, omega arith, refl)
@@ -48,7 +48,7 @@ returns-3 : tie.Need-returns-3 Inv-loop μ-loop
 returns-3 c =
     let r = c .before .before in
     let l = r .before .before .before .before .before in
-    let a = l .before .before .before .before .before .args in
+    let a = l .before .before .before .before .before .before .args in
     λ e. found-greater (renamed (a .names .now) (a .numbers .now)) (a .words .now) (a .run .now) (l .loop .at) (l .loop .i) (l .loop .inv .2)
     (rw (end-lent (a .run .now) (l .loop .at)) at (r .rank-of .ensures)) (c .if3 .taken) (omega arith)
 
@@ -78,7 +78,7 @@ loop-again c =
     let n = c .before in
     let r = n .before .before .before .before .before in
     let l = r .before .before .before .before .before in
-    let a = l .before .before .before .before .before .args in
+    let a = l .before .before .before .before .before .before .args in
     let lent = end-lent (a .run .now) (l .loop .at) in
     let inside = rw lent at (c .if5 .left) in (
       omega arith,

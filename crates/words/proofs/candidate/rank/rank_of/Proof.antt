@@ -13,10 +13,10 @@ use Rattle.words.proofs.candidate.rank.rank_of.Statement.{statement}
 use Rattle.words.proofs.candidate.rank.rank_of.Tie as tie
 
 abbrev Inv-loop : tie.InvT-loop
-Inv-loop words names numbers run counted₀ i₀ counted i = (i ≤ length words / 17) × Counted (rename-run (renamed names numbers)) words (first-word run) i counted
+Inv-loop words table names numbers run counted₀ i₀ counted i = (i ≤ length words / 17) × Counted (rename-run (renamed names numbers)) words (first-word run) i counted
 
 abbrev μ-loop : tie.MeasureT-loop
-μ-loop words names numbers run counted₀ i₀ counted i = length words / 17 - i
+μ-loop words table names numbers run counted₀ i₀ counted i = length words / 17 - i
 
 loop-holds : tie.Need-loop-holds Inv-loop μ-loop
 loop-holds c = (omega arith, none-counted _ _ _)
@@ -40,7 +40,7 @@ loop-again : tie.Need-loop-again Inv-loop μ-loop
 loop-again c =
     let f = c .before in
     let l = f .before .before .before in
-    let a = l .before .before .before .before .before .args in
+    let a = l .before .before .before .before .before .before .args in
     let F = rename-run (renamed (a .names .now) (a .numbers .now)) in (
       omega arith,
       one-more-counted F (a .words .now) (first-word (a .run .now)) (l .loop .i) (ordering-of (f .compare-first .result)) (l .loop .inv .1)
@@ -50,7 +50,7 @@ loop-again c =
 returns : tie.Need-returns Inv-loop μ-loop
 returns c =
     let l = c .before in
-    let e : l .loop .i ≡ length (l .before .before .before .before .before .args .words .now) / 17 = omega arith in
+    let e : l .loop .i ≡ length (l .before .before .before .before .before .before .args .words .now) / 17 = omega arith in
     rw e at (l .loop .inv .1 .ranks)
 
 pub rank-of-spec : {M : Type 1} → statement M
