@@ -141,7 +141,16 @@ fn least_renaming(
     let mut c = 0;
     while c < count {
         best = visit(
-            u, v, names, c, &mut slots, &mut x, &mut y, left, right, best,
+            u,
+            v,
+            names,
+            c,
+            &mut slots,
+            &mut x,
+            &mut y,
+            left,
+            right,
+            best,
         );
         c += 1;
     }

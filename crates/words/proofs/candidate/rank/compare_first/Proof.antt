@@ -61,10 +61,11 @@ loop-again : tie.Need-loop-again Inv-loop μ-loop
 loop-again c =
     let n = c .before .before in
     let l = n .before .before .before .before .before .before in
-    let a = l .before .before .before .before .before .before .args in
-    (omega arith,
-     equal-here (rename-number (renamed (a .names .now) (a .numbers .now))) (a .word .now) (a .run .now) (l .loop .i) _ (l .loop .inv .1) (n .number-by .result)
-     (n .number-by .ensures) (omega arith) (omega arith) (n .before .before .if2 .left) (c .before .if3 .left) (omega arith))
+    let a = l .before .before .before .before .before .before .args in (
+      omega arith,
+      equal-here (rename-number (renamed (a .names .now) (a .numbers .now))) (a .word .now) (a .run .now) (l .loop .i) _ (l .loop .inv .1) (n .number-by .result)
+          (n .number-by .ensures) (omega arith) (omega arith) (n .before .before .if2 .left) (c .before .if3 .left) (omega arith),
+    )
 
 returns-5 : tie.Need-returns-5 Inv-loop μ-loop
 returns-5 c = search (both-ended, needs)

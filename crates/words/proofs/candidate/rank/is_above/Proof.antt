@@ -84,7 +84,7 @@ loop-again c =
       omega arith,
       omega (arith, inside, length-drop (l .loop .at) (a .run .now)),
       found-equal (renamed (a .names .now) (a .numbers .now)) (a .words .now) (a .run .now) (l .loop .at) (l .loop .i) (l .loop .inv .2)
-      (rw lent at (r .rank-of .ensures)) (n .word-length .result) (n .before .if4 .left) (omega (arith, n .before .before .before .if3 .left)) (rw lent at (n .word-length .ensures)) (omega (arith, inside)),
+          (rw lent at (r .rank-of .ensures)) (n .word-length .result) (n .before .if4 .left) (omega (arith, n .before .before .before .if3 .left)) (rw lent at (n .word-length .ensures)) (omega (arith, inside)),
     )
 
 returns-6 : tie.Need-returns-6 Inv-loop μ-loop

@@ -44,7 +44,7 @@ loop-again c =
     let F = rename-run (renamed (a .names .now) (a .numbers .now)) in (
       omega arith,
       one-more-counted F (a .words .now) (first-word (a .run .now)) (l .loop .i) (ordering-of (f .compare-first .result)) (l .loop .inv .1)
-      (f .before .word-of .ensures) (f .compare-first .ensures) (c .note .ensures),
+          (f .before .word-of .ensures) (f .compare-first .ensures) (c .note .ensures),
     )
 
 returns : tie.Need-returns Inv-loop μ-loop
