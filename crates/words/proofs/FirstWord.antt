@@ -3,7 +3,7 @@ use Prim.Native.Nat.{ℕ, zero, suc, _+_, _-_, _<_, _≤_, compare}
 use native.Mathlib.Omega.{arith}
 use native.Mathlib.Nat.{add-zero, zero-add}
 use mathlib.Core.Path.{_≡_, refl, sym, ap, _∙_}
-use mathlib.Core.List.{List, [], _∷_, map}
+use mathlib.Core.List.{List, _∷_, map}
 use lib.ListN.{length, drop, getD, drop-of-length-le, length-map}
 use lib.Seq.{sets, length-sets, take-all}
 use Rattle.terms.specs.Compare.{Ordering, lt, eq, gt, then, lexicographic}

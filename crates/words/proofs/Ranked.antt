@@ -2,7 +2,7 @@
 use Prim.Native.Nat.{ℕ, _+_, _/_, _<_, _≤_}
 use native.Mathlib.Omega.{arith}
 use mathlib.Core.Path.{_≡_, refl, sym, _∙_, ap}
-use mathlib.Core.List.{List, [], _∷_, map, map-append, flatMap}
+use mathlib.Core.List.{List, map, map-append, flatMap}
 use lib.ListN.{length, drop, length-map}
 use lib.Seq.{drop-drop}
 use Rattle.terms.specs.Compare.{Ordering, lt, eq, gt, order-numbers}
@@ -18,7 +18,7 @@ use Rattle.words.specs.Theory.Order.{word-order}
 use Rattle.words.specs.Rank.{first-word, if-less, if-upto, tally, Notes, Ranks, sorted-renamed}
 use Rattle.words.specs.declared.candidate.rank.Rank.{Rank}
 use Rattle.words.proofs.SlotWords.{words-in-next}
-use Rattle.words.proofs.Tallied.{tally-next, tally-sorted, length-sorted, Next, greater-next, equal-next, run-before, run-same}
+use Rattle.words.proofs.Tallied.{tally-next, tally-sorted, length-sorted, greater-next, equal-next, run-before, run-same}
 
 less-small : (o : Ordering) → if-less o ≤ 1
 less-small lt = omega arith
