@@ -16,12 +16,12 @@ use super::rename_run;
 use terms::term::Comparison;
 
 // How many words of a run are looked at: lists that agree in more are sorted.
-const TRIES: usize = 6;
+const TRIES: usize = 4;
 
-// How many numbers the table of new numbers is for.
+// How many numbers have their new numbers in a table.
 const SMALL: usize = 16;
 
-// The new number of one, from a table that has it for the small ones.
+// The new number of another, by the table if it is small.
 fn number_by(table: &[u32], names: &[u32], numbers: &[u32], x: u32) -> u32
     requires { ⌜ Tabled (renamed (now names) (now numbers)) (now table) ⌝ }
     ensures { λ r. ⌜ r ≡ rename-number (renamed (now (names .entry)) (now (numbers .entry))) x ⌝ }

@@ -15,10 +15,10 @@ use Rattle.words.proofs.candidate.rank.is_above.Statement.{statement}
 use Rattle.words.proofs.candidate.rank.is_above.Tie as tie
 
 abbrev Inv-loop : tie.InvT-loop
-Inv-loop words table names numbers run at₀ i₀ at i = (i ≤ 6) × (at ≤ length run) × (order-numbers (drop at run) (spelled (drop i (sorted-renamed (renamed names numbers) words))) ≡ order-numbers run (spelled (sorted-renamed (renamed names numbers) words)))
+Inv-loop words table names numbers run at₀ i₀ at i = (i ≤ 4) × (at ≤ length run) × (order-numbers (drop at run) (spelled (drop i (sorted-renamed (renamed names numbers) words))) ≡ order-numbers run (spelled (sorted-renamed (renamed names numbers) words)))
 
 abbrev μ-loop : tie.MeasureT-loop
-μ-loop words table names numbers run at₀ i₀ at i = 6 - i
+μ-loop words table names numbers run at₀ i₀ at i = 4 - i
 
 loop-holds : tie.Need-loop-holds Inv-loop μ-loop
 loop-holds c = (omega arith, omega arith, refl)
