@@ -6,6 +6,8 @@ pub mod Numbers
 pub mod Lines
 pub mod Reading
 pub mod Sides
+pub mod Layouts
+pub mod Accepts
 -- writing
 pub mod Overlay
 pub mod Decimal
@@ -16,3 +18,10 @@ pub mod Applied
 pub mod StepTexts
 pub mod Framing
 pub mod Joining
+pub mod Measured
+pub mod WordLines
+pub mod Renaming
+pub mod Entries
+pub mod Outcomes
+pub mod Answering
+pub mod Walks

@@ -3,7 +3,7 @@ use Prim.Native.Nat.{ℕ}
 use Prim.Native.Char.{code}
 use mathlib.Core.Bool.{true, false}
 use mathlib.Core.Option.{Option, none, some, orElse, bind as _>>=_}
-use mathlib.Core.List.{List, [], _∷_, _++_, map, filterMap}
+use mathlib.Core.List.{List, [], _∷_, _++_, map}
 use lib.Dec.{eqb}
 use Rattle.terms.specs.Build.{read}
 use Rattle.search.specs.Law.{Law, Name}
@@ -11,6 +11,7 @@ use Rattle.search.specs.Law.{add-assoc, add-comm, add-zero-right, mul-assoc, mu
 use Rattle.search.specs.Line.{Line, Direction, forward, back, Side, l, r}
 use Rattle.text.specs.Bytes.{ascii, after, end, parted, pieces}
 use Rattle.text.specs.TermText.{write-term, token}
+use Rattle.text.specs.Answer.{values}
 
 unfoldable pub law-name : Name → List ℕ
 unfolding ascii
@@ -109,12 +110,7 @@ unfoldable pub read-step : List Law → List ℕ → Option Line
 unfolding pieces read-pieces
 read-step ws bs = read-pieces ws (pieces (code " ") bs)
 
--- what stands behind `step=` in the lines of a text that have that key, in order
-unfoldable pub step-values : List ℕ → List (List ℕ)
-unfolding filterMap ascii after pieces
-step-values t = filterMap (after (ascii "step=")) (pieces 10 t)
-
 -- what the `step=` lines of a text tell, in order
 unfoldable pub read-steps : List Law → List ℕ → List (Option Line)
-unfolding step-values read-step
-read-steps ws t = map (read-step ws) (step-values t)
+unfolding values read-step
+read-steps ws t = map (read-step ws) (values "step=" t)

@@ -103,7 +103,7 @@ fn put_item(out: &mut [u8], at: usize, n: u32) -> usize
 }
 
 // The byte that parts piece i from the one before it: none before the first.
-fn put_gap(out: &mut [u8], at: usize, i: usize, s: u8) -> usize
+pub fn put_gap(out: &mut [u8], at: usize, i: usize, s: u8) -> usize
     ensures { λ r. ⌜ Put (gap s i) (now (out .entry)) at r (now (out .exit)) ⌝ }
 {
     if i == 0 {
