@@ -127,7 +127,7 @@ fn word_length(run: &[u32]) -> usize
 }
 
 // Whether the words in all the slots, renamed and sorted, come after a run, if a few words of the run tell.
-// Word i of the sorted list is greater than a word if no more than i words come up to it, and equal to it if no more than i come before it.
+// Word i of the sorted list comes after a word if at most i words come up to it; otherwise it is that word, if at most i come before it.
 fn is_above(words: &[u32], table: &[u32], names: &[u32], numbers: &[u32], run: &[u32]) -> bool
     requires { ⌜ Tabled (renamed (now names) (now numbers)) (now table) ⌝ }
     ensures { λ r. ⌜ Above (renamed (now (names .entry)) (now (numbers .entry))) (now (words .entry)) (now (run .entry)) r ⌝ }
