@@ -1,19 +1,25 @@
 // FIND on standard input, with 400 slots and 32,768 output bytes.
+ghost use mathlib.Core.Path.{_≡_};
+ghost use lib.ListN.{length};
+ghost use Rattle.text.specs.Entry.{program};
+ghost use Rattle.find.specs.Prints.{Prints};
 use libc::STDIN_FILENO;
 use libc::STDOUT_FILENO;
 use text::entry;
+use text::put;
 
-fn print_refusal(number: usize) {
-    io::write_all(STDOUT_FILENO, b"answer=refused\nnumber=");
-    io::print_decimal(STDOUT_FILENO, number as u64);
-    io::write_all(STDOUT_FILENO, b"\n");
-}
-
-// The answer is at the front of the output.
-fn print_answer(output: &[u8], length: usize) {
-    if length <= output.len() {
-        io::write_all(STDOUT_FILENO, &output[..length]);
+// What the program prints, at the front of the output: the answer, or two lines with the refusal's number.
+fn respond(input: &[u8], output: &mut [u8], workspace: &mut [u32]) -> usize
+    requires { ⌜ (length (now output) ≡ 32768) × (length (now workspace) ≡ 16000) ⌝ }
+    ensures { λ r. ⌜ Prints (program (now (input .entry))) (now (output .exit)) r ⌝ }
+{
+    let number = entry::puvainy_find(input, output, workspace);
+    if 100 <= number {
+        return number - 100;
     }
+    let named = put::put_bytes(output, 0, b"answer=refused\nnumber=");
+    let numbered = put::put_number(output, named, number);
+    put::put_byte(output, numbered, b'\n')
 }
 
 // One byte more than a job may have is read, so that a longer input is seen to be too long.
@@ -22,10 +28,6 @@ fn main() {
     let n = io::read_full(STDIN_FILENO, &mut input);
     let mut output = [0u8; 32768];
     let mut workspace = [0u32; 16000];
-    let r = entry::puvainy_find(&input[..n], &mut output, &mut workspace);
-    if r < 100 {
-        print_refusal(r);
-        return;
-    }
-    print_answer(&output, r - 100);
+    let length = respond(&input[..n], &mut output, &mut workspace);
+    io::write_all(STDOUT_FILENO, &output[..length]);
 }
