@@ -5,8 +5,22 @@ pub mod Parts
 pub mod Numbers
 pub mod Lines
 pub mod Reading
+pub mod Sides
+pub mod LineOrder
+pub mod Layouts
+pub mod Accepts
 -- writing
 pub mod Overlay
 pub mod Decimal
 pub mod Items
 pub mod WordTexts
+pub mod Rendered
+pub mod Applied
+pub mod StepTexts
+pub mod Framing
+pub mod Joining
+pub mod Measured
+pub mod WordLines
+pub mod Renaming
+pub mod Entries
+pub mod Walks

@@ -8,6 +8,15 @@ ghost use Rattle.text.specs.Bytes.{digits, read-number};
 ghost use Rattle.text.specs.Marks.{mark};
 ghost use Rattle.text.specs.Reading.{Items, Keys, Lines, Values, limited};
 
+// A job accepted or refused.
+pub mod accept;
+
+// The six lines of a job.
+pub mod lines;
+
+// The sides of the equation.
+pub mod side;
+
 // The numbers of a run that are no letters.
 const ZERO: u32 = 4096;
 

@@ -13,6 +13,7 @@ ghost use Rattle.text.specs.TermText.{write-letter, write-term};
 ghost use Rattle.text.specs.Items.{sign-of, item, gap};
 ghost use Rattle.text.specs.Words.{word, word-list};
 ghost use Rattle.text.specs.Spelled.{word-size};
+ghost use Rattle.text.specs.Answer.{yes-no};
 ghost use Rattle.text.specs.Put.{Put};
 
 // In a run, the numbers below it are letters.
@@ -47,6 +48,16 @@ pub fn put_bytes(out: &mut [u8], at: usize, text: &[u8]) -> usize
         i += 1;
     }
     p
+}
+
+// A test's answer.
+pub fn put_yes_no(out: &mut [u8], at: usize, b: bool) -> usize
+    ensures { λ r. ⌜ Put (yes-no b) (now (out .entry)) at r (now (out .exit)) ⌝ }
+{
+    if b {
+        return put_bytes(out, at, b"yes");
+    }
+    put_bytes(out, at, b"no")
 }
 
 // A number in decimal.
@@ -103,7 +114,7 @@ fn put_item(out: &mut [u8], at: usize, n: u32) -> usize
 }
 
 // The byte that parts piece i from the one before it: none before the first.
-fn put_gap(out: &mut [u8], at: usize, i: usize, s: u8) -> usize
+pub fn put_gap(out: &mut [u8], at: usize, i: usize, s: u8) -> usize
     ensures { λ r. ⌜ Put (gap s i) (now (out .entry)) at r (now (out .exit)) ⌝ }
 {
     if i == 0 {

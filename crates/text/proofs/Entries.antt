@@ -1,0 +1,60 @@
+-- The entries, by what became of the job.
+use Prim.Native.Nat.{ℕ, _≤_}
+use mathlib.Core.Path.{_≡_}
+use mathlib.Core.List.{List, _++_}
+use lib.ListN.{length, take}
+use Rattle.terms.specs.Term.{Term, size}
+use Rattle.terms.specs.Letters.{letters, rising}
+use Rattle.terms.specs.Held.{IsRun}
+use Rattle.words.specs.Words.{words}
+use Rattle.words.specs.Rename.{canonical-terms}
+use Rattle.text.specs.Answer.{_>>=_, refused, accepted, fitting}
+use Rattle.text.specs.Job.{Job, read-job}
+use Rattle.text.specs.Accepting.{Accepts}
+use Rattle.text.specs.Words.{words-text, words-entry}
+use Rattle.text.specs.Rename.{term-lines, renamed-words, rename-entry}
+use Rattle.text.specs.Entry.{Call}
+use Rattle.text.specs.Theory.Jobs as jobs
+use Rattle.text.specs.declared.job.accept.Read.{Read}
+use Rattle.text.proofs.Measured.{refuses}
+
+-- what is known of an accepted job
+pub accepted-job : (bs : List ℕ) (j : Job) → read-job bs ≡ accepted j → jobs.Accepted j
+accepted-job bs j e = rw e at (jobs.job-accepted bs)
+
+-- a refused job is refused by its number, whatever was asked for
+module _ (bs out : List ℕ) {n : ℕ} (e : read-job bs ≡ refused n) where
+  pub words-refused : Call (words-entry bs (length out)) out n out
+  unfolding words-entry _>>=_
+  words-refused = rw e (refuses n out)
+
+  pub rename-refused : Call (rename-entry bs (length out)) out n out
+  unfolding rename-entry _>>=_
+  rename-refused = rw e (refuses n out)
+
+-- an accepted one is answered from the runs of its sides
+module _ (bs : List ℕ) {left right xs ys : List ℕ} {j : Read} (h : Accepts bs j left right) (e : xs ≡ take (j .left) left) (f : ys ≡ take (j .right) right) where
+  fit : jobs.Fit (h .job .left) (h .job .right)
+  fit = accepted-job bs (h .job) (h .accepted) .sides
+
+  left-run : IsRun xs (h .job .left)
+  left-run = rw e (h .left-run)
+
+  right-run : IsRun ys (h .job .right)
+  right-run = rw f (h .right-run)
+
+  module _ {r : ℕ} (out : List ℕ) {out′ : List ℕ} where
+    pub words-answered :
+        ((s t : Term) → IsRun xs s → IsRun ys t → size s ≤ 31 → size t ≤ 31 → Call (fitting (length out) (words-text (words s) (words t))) out r out′)
+        → Call (words-entry bs (length out)) out r out′
+    unfolding words-entry _>>=_
+    words-answered answer =
+        rw (h .accepted) (answer (h .job .left) (h .job .right) left-run right-run (fit .small-left) (fit .small-right))
+
+    pub rename-answered :
+        ((s t : Term) → IsRun xs s → IsRun ys t → size s ≤ 31 → size t ≤ 31 → length (rising (letters s ++ letters t)) ≤ 6
+        → Call (fitting (length out) (term-lines (canonical-terms s t) ++ renamed-words (words s) (words t))) out r out′)
+        → Call (rename-entry bs (length out)) out r out′
+    unfolding rename-entry _>>=_
+    rename-answered answer =
+        rw (h .accepted) (answer (h .job .left) (h .job .right) left-run right-run (fit .small-left) (fit .small-right) (fit .few))

@@ -1,0 +1,55 @@
+-- `put_word_lines` meets its contract: the lists agree, or both are put.
+use Rattle.text.specs.Bytes.{ascii}
+use Rattle.text.proofs.Renaming.{put-no-lists, put-word-lines}
+use borrow.Author.Needs.{needs}
+use Rattle.text.proofs.answer.rename.put_word_lines.Statement.{statement}
+use Rattle.text.proofs.answer.rename.put_word_lines.Tie as tie
+
+slice-aggregate-put-bytes : tie.Need-slice-aggregate-put-bytes
+slice-aggregate-put-bytes c = search needs
+
+put-bytes-requires : tie.Need-put-bytes-requires
+put-bytes-requires c κs = search needs
+
+same-length : tie.Need-same-length
+same-length c = search needs
+
+returns : tie.Need-returns
+unfolding ascii
+returns c = λ us vs h. put-no-lists h (c .before .before .before .before .before .if1 .taken) (c .before .before .put-bytes .ensures)
+
+slice-aggregate-put-words-line : tie.Need-slice-aggregate-put-words-line
+slice-aggregate-put-words-line c = search needs
+
+put-words-line-requires : tie.Need-put-words-line-requires
+put-words-line-requires c κs = search needs
+
+slice-aggregate-put-words-line-2 : tie.Need-slice-aggregate-put-words-line-2
+slice-aggregate-put-words-line-2 c = search needs
+
+put-words-line-requires-2 : tie.Need-put-words-line-requires-2
+put-words-line-requires-2 c κs = search needs
+
+same-length-2 : tie.Need-same-length-2
+same-length-2 c = search needs
+
+returns-2 : tie.Need-returns-2
+unfolding ascii
+returns-2 c =
+    let l = c .before .before .before .before .before .before .before in
+    λ us vs h. put-word-lines h (l .before .before .before .if1 .left) (l .put-words-line .ensures) (c .before .before .put-words-line2 .ensures)
+
+pub put-word-lines-spec : {M : Type 1} → statement M
+put-word-lines-spec =
+    tie.close
+    (tie.spec
+    slice-aggregate-put-bytes
+    put-bytes-requires
+    same-length
+    returns
+    slice-aggregate-put-words-line
+    put-words-line-requires
+    slice-aggregate-put-words-line-2
+    put-words-line-requires-2
+    same-length-2
+    returns-2)

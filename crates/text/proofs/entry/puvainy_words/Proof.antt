@@ -1,0 +1,71 @@
+-- `puvainy_words` meets its contract: the job is refused, or answered.
+use Rattle.text.proofs.Entries.{words-refused, words-answered}
+use borrow.Author.Needs.{needs}
+use Rattle.text.proofs.entry.puvainy_words.Statement.{statement}
+use Rattle.text.proofs.entry.puvainy_words.Tie as tie
+
+slice-aggregate-read-job : tie.Need-slice-aggregate-read-job
+slice-aggregate-read-job c = search needs
+
+slice-aggregate-read-job-2 : tie.Need-slice-aggregate-read-job-2
+slice-aggregate-read-job-2 c = search needs
+
+read-job-requires : tie.Need-read-job-requires
+read-job-requires c κs = search needs
+
+enum-known-n : tie.Need-enum-known-n
+enum-known-n c = search needs
+
+enum-known-j : tie.Need-enum-known-j
+enum-known-j c = search needs
+
+slice-aggregate-front : tie.Need-slice-aggregate-front
+slice-aggregate-front c = search needs
+
+front-requires : tie.Need-front-requires
+front-requires c κs = search needs
+
+slice-aggregate-front-2 : tie.Need-slice-aggregate-front-2
+slice-aggregate-front-2 c = search needs
+
+front-requires-2 : tie.Need-front-requires-2
+front-requires-2 c κs = search needs
+
+answer-words-requires : tie.Need-answer-words-requires
+answer-words-requires c κs = search needs
+
+returns : tie.Need-returns
+returns c =
+    let j = c .before .before .before .before .before in
+    let a = j .before .before .before .before .before .args in
+    words-refused (a .job .now) (a .output .now) (rw (c .before .n .given .1) at (j .read-job .ensures))
+
+same-length : tie.Need-same-length
+same-length c = search needs
+
+returns-2 : tie.Need-returns-2
+returns-2 c =
+    let f = c .before .before .before .before .before .before in
+    let told = f .before .before .before in
+    let j = told .before .before .before .before in
+    let a = j .before .before .before .before .before .args in
+    words-answered (a .job .now) (rw (told .j .given .1) at (j .read-job .ensures)) (f .front .ensures) (c .before .before .before .before .front2 .ensures) (a .output .now)
+    (c .before .before .answer-words .ensures)
+
+pub puvainy-words-spec : {M : Type 1} → statement M
+puvainy-words-spec =
+    tie.close
+    (tie.spec
+    slice-aggregate-read-job
+    slice-aggregate-read-job-2
+    read-job-requires
+    enum-known-n
+    enum-known-j
+    slice-aggregate-front
+    front-requires
+    slice-aggregate-front-2
+    front-requires-2
+    answer-words-requires
+    returns
+    same-length
+    returns-2)

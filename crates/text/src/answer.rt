@@ -1,0 +1,36 @@
+// Answers: lines of a key and a value.
+ghost use mathlib.Core.Path.{_≡_};
+ghost use mathlib.Core.List.{List, _∷_, [], _++_};
+ghost use Rattle.terms.specs.Term.{Term};
+ghost use Rattle.terms.specs.Held.{IsRun};
+ghost use Rattle.words.specs.Words.{Word};
+ghost use Rattle.words.specs.Spelled.{spelled};
+ghost use Rattle.text.specs.TermText.{write-term};
+ghost use Rattle.text.specs.Words.{word-list};
+ghost use Rattle.text.specs.Put.{Put};
+
+// WORDS' answer.
+pub mod lists;
+
+// RENAME's answer.
+pub mod rename;
+
+use crate::put;
+
+// A line whose value is the term of a run.
+pub fn put_term_line(out: &mut [u8], at: usize, key: &[u8], run: &[u32]) -> usize
+    ensures { λ r. ⌜ ((t : Term) → IsRun (now (run .entry)) t → Put (now (key .entry) ++ (write-term t ++ (10 ∷ []))) (now (out .entry)) at r (now (out .exit))) ⌝ }
+{
+    let p = put::put_bytes(out, at, key);
+    let q = put::put_term(out, p, run);
+    put::put_byte(out, q, b'\n')
+}
+
+// A line whose value is a spelled list of words.
+pub fn put_words_line(out: &mut [u8], at: usize, key: &[u8], list: &[u32]) -> usize
+    ensures { λ r. ⌜ ((ws : List Word) → now (list .entry) ≡ spelled ws → Put (now (key .entry) ++ (word-list ws ++ (10 ∷ []))) (now (out .entry)) at r (now (out .exit))) ⌝ }
+{
+    let p = put::put_bytes(out, at, key);
+    let q = put::put_words(out, p, list);
+    put::put_byte(out, q, b'\n')
+}

@@ -1,0 +1,45 @@
+// What hosts call: a job's text comes in, and the answer's bytes go out at the front of the output.
+// A number below 100 is a refusal's; otherwise it is 100 plus the answer's length.
+ghost use lib.ListN.{length};
+ghost use Rattle.text.specs.Words.{words-entry};
+ghost use Rattle.text.specs.Rename.{rename-entry};
+ghost use Rattle.text.specs.Entry.{Call};
+use crate::answer::lists::answer_words;
+use crate::answer::rename::answer_rename;
+use crate::job::accept::Reading;
+use crate::job::accept::read_job;
+use words::normal_form::front;
+
+// WORDS.
+#[no_mangle]
+pub extern "C" fn puvainy_words(job: &[u8], output: &mut [u8]) -> usize
+    ensures { λ r. ⌜ Call (words-entry (now (job .entry)) (length (now (output .entry)))) (now (output .entry)) r (now (output .exit)) ⌝ }
+{
+    let mut left = [0u32; 31];
+    let mut right = [0u32; 31];
+    match read_job(job, &mut left, &mut right) {
+        Reading::Refused(n) => n,
+        Reading::Accepted(j) => {
+            let m = j.left;
+            let n = j.right;
+            answer_words(front(&left, m), front(&right, n), output)
+        }
+    }
+}
+
+// RENAME.
+#[no_mangle]
+pub extern "C" fn puvainy_rename(job: &[u8], output: &mut [u8]) -> usize
+    ensures { λ r. ⌜ Call (rename-entry (now (job .entry)) (length (now (output .entry)))) (now (output .entry)) r (now (output .exit)) ⌝ }
+{
+    let mut left = [0u32; 31];
+    let mut right = [0u32; 31];
+    match read_job(job, &mut left, &mut right) {
+        Reading::Refused(n) => n,
+        Reading::Accepted(j) => {
+            let m = j.left;
+            let n = j.right;
+            answer_rename(front(&left, m), front(&right, n), output)
+        }
+    }
+}

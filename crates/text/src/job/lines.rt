@@ -1,0 +1,116 @@
+// The six lines of a job: where the sides stand, and the limits.
+ghost use Prim.Native.Nat.{_≤_};
+ghost use lib.ListN.{length, drop};
+ghost use Rattle.text.specs.LayoutRead.{LimitIn, LimitsIn, LaysOut};
+use super::Number;
+use super::Value;
+use super::keyed;
+use super::number_in;
+use search::bounded_search::Limits;
+
+// The largest number that any limit may be.
+const LARGEST: u32 = 4096;
+
+// What every larger number is taken for: it is out of each limit's range, too.
+const OVER: usize = 4097;
+
+// The number of a limit, and where the next line starts.
+enum Limit {
+    Is(usize, usize),
+    Malformed,
+}
+
+// The four limits, where their lines are well formed.
+enum Limited {
+    By(Limits),
+    Malformed,
+}
+
+// The first byte of a side and the byte behind it.
+pub struct Part {
+    pub from: usize,
+    pub to: usize,
+}
+
+// Where the sides are written, and the limits.
+pub struct Written {
+    pub left: Part,
+    pub right: Part,
+    pub limits: Limits,
+}
+
+// A job's lines, where they are well formed.
+pub enum Laid {
+    Lines(Written),
+    Malformed,
+}
+
+// The limit in the line that starts at a position with a key. A number too large is no reason to stop: a later line may be malformed, which is refused first.
+fn limit_line(s: &[u8], from: usize, key: &[u8]) -> Limit
+    requires { ⌜ from ≤ length (now s) ⌝ }
+    ensures { λ r. ⌜ LimitIn (now (s .entry)) from (now (key .entry)) r ⌝ }
+{
+    let Value::Between(start, end) = keyed(s, from, key) else {
+        return Limit::Malformed;
+    };
+    let next = end + 1;
+    match number_in(s, start, end, LARGEST) {
+        Number::Is(n) => Limit::Is(n as usize, next),
+        Number::TooLarge => Limit::Is(OVER, next),
+        Number::Malformed => Limit::Malformed,
+    }
+}
+
+// The limits in the four lines from a position to the end of the text.
+fn limit_lines(s: &[u8], from: usize) -> Limited
+    requires { ⌜ from ≤ length (now s) ⌝ }
+    ensures { λ r. ⌜ LimitsIn (drop from (now (s .entry))) r ⌝ }
+{
+    let Limit::Is(steps, second) = limit_line(s, from, b"steps=") else {
+        return Limited::Malformed;
+    };
+    let Limit::Is(size, third) = limit_line(s, second, b"size=") else {
+        return Limited::Malformed;
+    };
+    let Limit::Is(depth, fourth) = limit_line(s, third, b"depth=") else {
+        return Limited::Malformed;
+    };
+    let Limit::Is(nodes, end) = limit_line(s, fourth, b"nodes=") else {
+        return Limited::Malformed;
+    };
+    if end < s.len() {
+        return Limited::Malformed;
+    }
+    Limited::By(Limits {
+        steps,
+        size,
+        depth,
+        nodes,
+    })
+}
+
+// Where the sides stand in the six lines, and the limits.
+pub fn layout_of(s: &[u8]) -> Laid
+    ensures { λ r. ⌜ LaysOut (now (s .entry)) r ⌝ }
+{
+    let Value::Between(left_from, left_to) = keyed(s, 0, b"left=") else {
+        return Laid::Malformed;
+    };
+    let Value::Between(right_from, right_to) = keyed(s, left_to + 1, b"right=") else {
+        return Laid::Malformed;
+    };
+    let Limited::By(limits) = limit_lines(s, right_to + 1) else {
+        return Laid::Malformed;
+    };
+    Laid::Lines(Written {
+        left: Part {
+            from: left_from,
+            to: left_to,
+        },
+        right: Part {
+            from: right_from,
+            to: right_to,
+        },
+        limits,
+    })
+}
