@@ -23,4 +23,6 @@ pub mod Measured
 pub mod WordLines
 pub mod Renaming
 pub mod Entries
+pub mod Outcomes
+pub mod Answering
 pub mod Walks

@@ -5,9 +5,14 @@ ghost use Rattle.terms.specs.Term.{Term};
 ghost use Rattle.terms.specs.Held.{IsRun};
 ghost use Rattle.words.specs.Words.{Word};
 ghost use Rattle.words.specs.Spelled.{spelled};
+ghost use Rattle.text.specs.Bytes.{number};
 ghost use Rattle.text.specs.TermText.{write-term};
 ghost use Rattle.text.specs.Words.{word-list};
 ghost use Rattle.text.specs.Put.{Put};
+
+// FIND's answer, and the text of an outcome.
+pub mod find;
+pub mod outcome;
 
 // WORDS' answer.
 pub mod lists;
@@ -23,6 +28,15 @@ pub fn put_term_line(out: &mut [u8], at: usize, key: &[u8], run: &[u32]) -> usiz
 {
     let p = put::put_bytes(out, at, key);
     let q = put::put_term(out, p, run);
+    put::put_byte(out, q, b'\n')
+}
+
+// A line whose value is a number.
+pub fn put_number_line(out: &mut [u8], at: usize, key: &[u8], n: usize) -> usize
+    ensures { λ r. ⌜ Put (now (key .entry) ++ (number n ++ (10 ∷ []))) (now (out .entry)) at r (now (out .exit)) ⌝ }
+{
+    let p = put::put_bytes(out, at, key);
+    let q = put::put_number(out, p, n);
     put::put_byte(out, q, b'\n')
 }
 

@@ -3,12 +3,36 @@
 ghost use lib.ListN.{length};
 ghost use Rattle.text.specs.Words.{words-entry};
 ghost use Rattle.text.specs.Rename.{rename-entry};
-ghost use Rattle.text.specs.Entry.{Call};
+ghost use Rattle.text.specs.Entry.{Call, FindCall};
+use crate::answer::find::answer_find;
 use crate::answer::lists::answer_words;
 use crate::answer::rename::answer_rename;
 use crate::job::accept::Reading;
 use crate::job::accept::read_job;
 use words::normal_form::front;
+
+// FIND. The workspace holds the noted terms, 40 numbers to a slot.
+#[no_mangle]
+pub extern "C" fn puvainy_find(job: &[u8], output: &mut [u8], workspace: &mut [u32]) -> usize
+    ensures { λ r. ⌜ FindCall (now (job .entry)) (now (output .entry)) (now (workspace .entry)) r (now (output .exit)) (now (workspace .exit)) ⌝ }
+{
+    let mut left = [0u32; 31];
+    let mut right = [0u32; 31];
+    match read_job(job, &mut left, &mut right) {
+        Reading::Refused(n) => n,
+        Reading::Accepted(j) => {
+            let m = j.left;
+            let n = j.right;
+            answer_find(
+                front(&left, m),
+                front(&right, n),
+                j.limits,
+                output,
+                workspace,
+            )
+        }
+    }
+}
 
 // WORDS.
 #[no_mangle]

@@ -1,0 +1,99 @@
+-- The claims hold of every call of FIND.
+use Prim.Native.Nat.{ℕ, _-_, _≤_}
+use native.Mathlib.Omega.{arith}
+use mathlib.Core.Path.{_≡_, refl, sym, ap, _∙_}
+use mathlib.Core.Bool.{Bool, true, false, not, _&&_}
+use mathlib.Core.Option.{Option, none, some}
+use mathlib.Core.List.{List, _++_}
+use lib.Dec.{leb}
+use lib.ListN.{length, take, drop}
+use lib.Seq.{take-append-seam, drop-append-seam}
+use Rattle.terms.specs.Term.{size, same}
+use Rattle.terms.specs.Letters.{letters, rising}
+use Rattle.search.specs.Law.{semiring}
+use Rattle.search.specs.Search.{noted, search}
+use Rattle.search.specs.Searched.{slots-of}
+use Rattle.text.specs.TermText.{read-term}
+use Rattle.text.specs.Layout.{layout}
+use Rattle.text.specs.Answer.{Answer, refused, accepted, _>>=_, require, or-refuse, fitting}
+use Rattle.text.specs.Job.{in-range, read-job}
+use Rattle.text.specs.Find.{outcome-text, find}
+use Rattle.text.specs.Entry.{returned, output-after, FindCall}
+use Rattle.text.specs.Claims.{Answered, FindClaims}
+use Rattle.text.specs.Theory.Answers as answers
+
+-- a refusal's number is from 1 to 8
+abbrev Numbered : {A : Type 0} → Answer A → Type 0
+Numbered (refused n) = (1 ≤ n) × (n ≤ 8)
+Numbered (accepted x) = Unit {0}
+
+-- each refusal in a row of them has such a number
+module _ {A B : Type 0} where
+  numbered-then : (a : Answer A) (f : A → Answer B) → Numbered a → ((x : A) → Numbered (f x)) → Numbered (_>>=_ a f)
+  unfolding _>>=_
+  numbered-then (refused n) f h k = h
+  numbered-then (accepted x) f h k = k x
+
+  numbered-or : (n : ℕ) (o : Option A) (f : A → Answer B) → (1 ≤ n) × (n ≤ 8) → ((x : A) → Numbered (f x)) → Numbered (_>>=_ (or-refuse n o) f)
+  unfolding _>>=_ or-refuse
+  numbered-or n none f h k = h
+  numbered-or n (some x) f h k = k x
+
+numbered-require : {B : Type 0} (n : ℕ) (b : Bool) (f : Unit {0} → Answer B) → (1 ≤ n) × (n ≤ 8) → Numbered (f tt) → Numbered (_>>=_ (require n b) f)
+unfolding _>>=_ require
+numbered-require n true f h k = k
+numbered-require n false f h k = h
+
+read-numbered : (bs : List ℕ) → Numbered (read-job bs)
+unfolding read-job
+read-numbered bs =
+    numbered-require 1 (leb (length bs) 1024) _ (omega arith, omega arith)
+    (numbered-or 1 (layout bs) _ (omega arith, omega arith) λ j.
+    numbered-or 2 (read-term (j .left)) _ (omega arith, omega arith) λ s.
+    numbered-or 2 (read-term (j .right)) _ (omega arith, omega arith) λ t.
+    numbered-require 3 (leb (size s) 31 && leb (size t) 31) _ (omega arith, omega arith)
+    (numbered-require 4 (leb (length (rising (letters s ++ letters t))) 6) _ (omega arith, omega arith)
+    (numbered-require 5 (in-range (j .limits)) _ (omega arith, omega arith)
+    (numbered-require 6 (not (same s t)) _ (omega arith, omega arith) tt))))
+
+module _ (bs : List ℕ) (slots room : ℕ) where
+  find-numbered : Numbered (find bs slots room)
+  unfolding find fitting
+  find-numbered =
+      numbered-then (read-job bs) _ (read-numbered bs) λ j.
+      let o = search semiring (j .limits) (j .left) (j .right) in
+      numbered-require 7 (leb (noted o) slots) _ (omega arith, omega arith)
+      (numbered-require 8 (leb (length (outcome-text semiring j o)) room) _ (omega arith, omega arith) tt)
+
+module _ {job out work : List ℕ} {r : ℕ} {out′ work′ : List ℕ} (c : FindCall job out work r out′ work′) where
+  abbrev slots : ℕ
+  slots = slots-of (length work)
+
+  abbrev given : Answer (List ℕ)
+  given = find job slots (length out)
+
+  by-answer : (a : Answer (List ℕ)) → given ≡ a → Numbered a → r ≡ returned a → out′ ≡ output-after out a → FindClaims job out work r out′
+  by-answer (refused n) e (low, high) number output =
+      record {
+        refusal = (λ h. e ∙ ap refused (sym number), λ h. omega arith);
+        numbered = λ h. (omega arith, omega arith);
+        untouched = λ h. output;
+        answered = λ h. absurd (omega arith);
+        kept = λ h. absurd (omega arith);
+      }
+  by-answer (accepted t) e h number output =
+      let size : r - 100 ≡ length t = omega arith in
+      record {
+        refusal = (λ h. absurd (omega arith), λ (h : given ≡ refused r). absurd (let z : _≡_ {A = ℕ} 0 1 = cc in omega arith));
+        numbered = λ h. absurd (omega arith);
+        untouched = λ h. absurd (omega arith);
+        answered = λ h. rw (size, output, take-append-seam t (drop (length t) out)) (answers.answered job slots (length out) t e);
+        kept = λ h. rw (size, output, drop-append-seam t (drop (length t) out));
+      }
+
+  -- what the numbers mean, and demand 3 of every answer not refused
+  pub find-claims : FindClaims job out work r out′
+  find-claims = by-answer given refl (find-numbered job slots (length out)) (c .call .number) (c .call .output)
+
+  pub find-answered : 100 ≤ r → Answered job slots (length out) (take (r - 100) out′)
+  find-answered = find-claims .answered
