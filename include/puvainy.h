@@ -5,8 +5,8 @@
  * different buffers may run at the same time.
  *
  * A buffer is a pointer and its length in elements: bytes for `job` and `output`, 32-bit numbers for
- * `workspace`. Where the length is 0 the pointer is not read. The buffers of one call must not
- * overlap, and `workspace` must be aligned for uint32_t.
+ * `workspace`. The buffers of one call must not overlap, `workspace` must be aligned for uint32_t, and
+ * no pointer may be NULL, not even where the length is 0.
  *
  * A job is six lines, each ended by byte 10, nothing after; at most 1,024 bytes in all:
  *
