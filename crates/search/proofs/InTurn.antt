@@ -86,7 +86,7 @@ module _ {xs : List ℕ} {room deep parent : ℕ} {res order : List ℕ} (i : �
         few = omega (arith, A .high);
         exact = λ t m h k q e d.
             let c : i ≡ size t = omega (arith, size-of h) in
-            rw (lines-in-order semiring t, ← c) (A .exact t m [] h e d none);
+            rw (lines-in-order semiring t, ← c) (A .exact t m [] h e d (record { named = none; rising = tt }));
       }
 
 -- no more is asked where a run or a limit is too large

@@ -11,18 +11,19 @@ use Rattle.terms.specs.Numbers.{put-in}
 use Rattle.terms.proofs.Inserted.{put-in-room}
 use Rattle.search.specs.Line.{Line}
 use Rattle.search.specs.Slots.{SLOT, Writes}
-use Rattle.search.specs.Ordered.{Result, Ordered, none, more, Spotted, Keeps}
+use Rattle.search.specs.Ordered.{Result, Named, none, more, Spotted, Keeps}
 use Rattle.search.specs.declared.bounded_search.Step.{Step}
 use Rattle.search.specs.declared.bounded_search.Origin.the-variants.{From}
 use Rattle.search.specs.declared.results.Spot.{Spot}
 use Rattle.search.specs.declared.results.Spot.the-variants.{At, Already}
 use Rattle.search.proofs.Slots.{run-kept, origin-kept}
+use Rattle.search.proofs.Rising.{rising-inserted}
 
-ordered-insert : {t : Term} {from : ℕ} {res : List ℕ} {n : ℕ} {ks : List ℕ} {ys : List Line} (p k : ℕ) (x : Line) → k < n → Result t from res k x → Ordered t from res n ks ys
-    → Ordered t from res n (take p ks ++ (k ∷ drop p ks)) (take p ys ++ (x ∷ drop p ys))
-ordered-insert ℕ.zero k x h s O = more h s O
-ordered-insert (suc p) k x h s none = more h s none
-ordered-insert (suc p) k x h s (more b r O) = more b r (ordered-insert p k x h s O)
+named-insert : {t : Term} {from : ℕ} {res : List ℕ} {n : ℕ} {ks : List ℕ} {ys : List Line} (p k : ℕ) (x : Line) → k < n → Result t from res k x → Named t from res n ks ys
+    → Named t from res n (take p ks ++ (k ∷ drop p ks)) (take p ys ++ (x ∷ drop p ys))
+named-insert ℕ.zero k x h s N = more h s N
+named-insert (suc p) k x h s none = more h s none
+named-insert (suc p) k x h s (more b r N) = more b r (named-insert p k x h s N)
 
 -- the slots before a new one keep what they have
 module _ {t : Term} {from : ℕ} {res : List ℕ} {n : ℕ} (res′ : List ℕ) (m : ℕ) (h : n ≤ m) (e : take (SLOT * n) res′ ≡ take (SLOT * n) res) where
@@ -36,9 +37,9 @@ module _ {t : Term} {from : ℕ} {res : List ℕ} {n : ℕ} (res′ : List ℕ) 
         marks = s .marks;
       }
 
-  ordered-kept : {ks : List ℕ} {ys : List Line} → Ordered t from res n ks ys → Ordered t from res′ m ks ys
-  ordered-kept none = none
-  ordered-kept (more {k} {x = x} b s O) = more {k = k} (omega arith) (result-kept k x b s) (ordered-kept O)
+  named-kept : {ks : List ℕ} {ys : List Line} → Named t from res n ks ys → Named t from res′ m ks ys
+  named-kept none = none
+  named-kept (more {k} {x = x} b s N) = more {k = k} (omega arith) (result-kept k x b s) (named-kept N)
 
 module _ (xs : List ℕ) (s : Step) (res order : List ℕ) (count : ℕ) (r : Spot) (S : Spotted res (take count order) xs r) where
   pub keeps-already : r ≡ Already → Keeps xs s res order res order count count
@@ -62,8 +63,11 @@ module _ (xs : List ℕ) (s : Step) (res order : List ℕ) (count : ℕ) (r : Sp
           low = omega arith;
           high = omega arith;
           sorts = λ t ys x h m O.
-              rw ((rw e at (S .goes t (s .parent) count ys x O h)) .1, named)
-              (ordered-insert p count x (omega arith)
-              (record { run = W .run (x .result) h; step = s; origin = W .origin; parent = refl; marks = m })
-              (ordered-kept res′ (count + 1) (omega arith) (W .kept) O));
+              record {
+                named = rw ((rw e at (S .goes t (s .parent) count ys x O h)) .1, named)
+                    (named-insert p count x (omega arith)
+                    (record { run = W .run (x .result) h; step = s; origin = W .origin; parent = refl; marks = m })
+                    (named-kept res′ (count + 1) (omega arith) (W .kept) (O .named)));
+                rising = rising-inserted x ys (O .rising);
+              };
         }

@@ -15,7 +15,10 @@ pub mod Trying
 pub mod Directing
 pub mod Origins
 pub mod Slots
+pub mod Indexing
+pub mod Hashing
 pub mod Noting
+pub mod Rising
 pub mod Sorting
 pub mod Keeping
 pub mod Tracing

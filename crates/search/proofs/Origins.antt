@@ -6,7 +6,7 @@ use mathlib.Core.Path.{_≡_, refl, sym, ap, _∙_}
 use mathlib.Core.List.{List, [], _∷_, _++_, append-assoc}
 use borrow.Author.Tests.{ne-eqb}
 use lib.ListN.{length, take, drop, getD, set, List·getD-append}
-use lib.Seq.{sets, sets-eq, length-take-le, take-set-le, getD-append-add}
+use lib.Seq.{sets, sets-eq, length-take-le, take-set-le, getD-set-other, getD-append-add}
 use Rattle.terms.proofs.Positions.{front-getD}
 use Rattle.search.specs.Coded.{law-number}
 use Rattle.search.specs.Origins.{numbers, origin-at}
@@ -34,6 +34,13 @@ getD-sets xs i vs k h hk =
     ∙ ap (λ n. getD (take i xs ++ (vs ++ drop (i + length vs) xs)) (n + k) 0) (sym e)
     ∙ getD-append-add (take i xs) (vs ++ drop (i + length vs) xs) k 0
     ∙ List·getD-append vs (drop (i + length vs) xs) 0 k hk
+
+-- and elsewhere
+pub getD-sets-other : (xs : List ℕ) (i : ℕ) (vs : List ℕ) (p : ℕ) → (i ≤ p → i + length vs ≤ p) → getD (sets xs i vs) p 0 ≡ getD xs p 0
+getD-sets-other xs i [] p h = refl
+getD-sets-other xs i (v ∷ vs) p h =
+    getD-sets-other (set xs i v) (suc i) vs p (λ q. let z = h (omega arith) in omega arith)
+    ∙ getD-set-other xs i p v 0 (λ e. let z = h (omega arith) in omega arith)
 
 pub take-sets : (n : ℕ) (xs : List ℕ) (i : ℕ) (vs : List ℕ) → n ≤ i → take n (sets xs i vs) ≡ take n xs
 take-sets n xs i [] h = refl

@@ -7,21 +7,19 @@ use mathlib.Core.Path.{_≡_, refl, sym, ap, _∙_}
 use mathlib.Core.Logic.{_⊎_, inl, inr}
 use mathlib.Core.List.{List, [], _∷_, _++_}
 use lib.ListN.{length, take, drop, getD, set, length-append, List·getD-append}
-use lib.Seq.{sets, length-sets, take-take, take-at, getD-at, length-take-le}
+use lib.Seq.{sets, sets-eq, length-sets, take-take, take-at, getD-at, length-take-le}
 use Rattle.terms.specs.Term.{Term, zero, size}
 use Rattle.terms.specs.Held.{IsRun}
 use Rattle.terms.specs.Theory.Held.{size-of}
 use Rattle.terms.proofs.Positions.{front-getD}
 use Rattle.terms.proofs.Held.{held-part, holds-part, front-holds}
-use Rattle.search.specs.Line.{Line}
-use Rattle.search.specs.Search.{Noted, entry}
+use Rattle.search.specs.Search.{Noted}
 use Rattle.search.specs.Origins.{numbers}
-use Rattle.search.specs.Slots.{SLOT, Spells, origin-of, Marks, noted-at, Comes, Slot, Slots, Writes, Starts, Notes}
-use Rattle.search.specs.declared.bounded_search.Step.{Step}
+use Rattle.search.specs.Slots.{SLOT, Spells, origin-of, noted-at, Comes, Slot, Writes}
 use Rattle.search.specs.declared.bounded_search.Origin.{Origin}
 use Rattle.search.specs.declared.bounded_search.Origin.the-variants.{Start, From}
 use Rattle.search.proofs.Front.{front-part}
-use Rattle.search.proofs.Origins.{four, getD-sets, take-sets, origin-back, origin-front}
+use Rattle.search.proofs.Origins.{four, getD-sets, getD-sets-other, take-sets, origin-back, origin-front}
 
 -- the run in slot k, as a part of the list from number 8 of the slot on
 abbrev run-length : List ℕ → ℕ → ℕ
@@ -45,20 +43,34 @@ header-stores ws a n Start d = simp towards-suc
 header-stores ws a n (From s) d = simp towards-suc
 
 -- what the stores of `write_slot` leave: ws₂ with the origin, ws′ with the run
-module _ (ws ws₂ ws′ : List ℕ) (k m : ℕ) (xs : List ℕ) (o : Origin) (d : ℕ) (room : SLOT * k + SLOT ≤ length ws) (short : length xs ≤ 31)
-    (e : ws₂ ≡ sets (set ws (SLOT * k) (length xs)) (SLOT * k + 1) (numbers o)) (c : m ≡ SLOT * k + 8 + length xs)
-    (f : take m ws′ ≡ take (SLOT * k + 8) (set ws₂ (SLOT * k + 5) d) ++ xs) (l : length ws′ ≡ length ws) where
+module _ (ws ws₂ ws′ : List ℕ) (k : ℕ) (xs : List ℕ) (o : Origin) (d : ℕ) (room : SLOT * k + SLOT ≤ length ws) (short : length xs ≤ 31)
+    (e : ws₂ ≡ sets (set ws (SLOT * k) (length xs)) (SLOT * k + 1) (numbers o)) (f : ws′ ≡ sets (set ws₂ (SLOT * k + 5) d) (SLOT * k + 8) xs) where
   abbrev a : ℕ
   a = SLOT * k
 
   abbrev written : List ℕ
   written = sets ws a (header (length xs) o d)
 
-  whole : take m ws′ ≡ take (a + 8) written ++ xs
-  whole = rw (e, header-stores ws a (length xs) o d) at f
+  abbrev m : ℕ
+  m = a + 8 + length xs
+
+  stored : ws′ ≡ sets written (a + 8) xs
+  stored = rw (e, header-stores ws a (length xs) o d) at f
+
+  long : length written ≡ length ws
+  long = length-sets ws a (header (length xs) o d)
+
+  size-kept : length ws′ ≡ length ws
+  size-kept = rw stored (length-sets written (a + 8) xs ∙ long)
 
   front-length : length (take (a + 8) written) ≡ a + 8
-  front-length = length-take-le (a + 8) written (omega (arith, length-sets ws a (header (length xs) o d)))
+  front-length = length-take-le (a + 8) written (omega (arith, long))
+
+  whole : take m ws′ ≡ take (a + 8) written ++ xs
+  whole =
+      rw (stored, sets-eq xs written (a + 8) (omega (arith, long)))
+      (take-at (take (a + 8) written ++ xs) (drop (a + 8 + length xs) written) (a + 8 + length xs)
+      (length-append (take (a + 8) written) xs ∙ ap (λ n. n + length xs) front-length))
 
   front : take (a + 8) ws′ ≡ take (a + 8) written
   front = sym (take-take (a + 8) m ws′ (omega arith)) ∙ ap (take (a + 8)) whole ∙ take-at (take (a + 8) written) xs (a + 8) front-length
@@ -80,7 +92,7 @@ module _ (ws ws₂ ws′ : List ℕ) (k m : ℕ) (xs : List ℕ) (o : Origin) (d
         small = omega (arith, size-of h);
         held =
             let j : m - (a + 8) ≡ size t = omega (arith, size-of h) in
-            holds-part (h .fine) (rw j at (front-part ws′ (take (a + 8) written) xs (a + 8) m whole front-length (omega arith) (omega arith)) ∙ h .whole);
+            holds-part (h .fine) (rw j at (front-part ws′ (take (a + 8) written) xs (a + 8) m whole front-length (omega arith) (omega (arith, size-kept))) ∙ h .whole);
       }
 
   new-origin : origin-of ws′ k ≡ o
@@ -91,8 +103,23 @@ module _ (ws ws₂ ws′ : List ℕ) (k m : ℕ) (xs : List ℕ) (o : Origin) (d
       let n : i < length (numbers o) = omega (arith, four o) in
       rw e (number (suc i) (omega arith) ∙ List·getD-append (numbers o) (d ∷ []) 0 i n))
 
+  -- the stores leave numbers 6 and 7 of each slot
+  apart : (j i : ℕ) → 6 ≤ i → i ≤ 7 → getD ws′ (SLOT * j + i) 0 ≡ getD ws (SLOT * j + i) 0
+  apart j i low high =
+      rw stored
+      (getD-sets-other written (a + 8) xs (SLOT * j + i) (λ h. omega arith)
+      ∙ getD-sets-other ws a (header (length xs) o d) (SLOT * j + i) (λ h. omega (arith, header-length (length xs) o d)))
+
   pub writes : Writes ws ws′ k xs o d
-  writes = record { kept = old; run = new-run; origin = new-origin; distance = number 5 (omega arith) ∙ getD-at (numbers o) d [] 0 4 (four o) }
+  writes =
+      record {
+        size = size-kept;
+        kept = old;
+        index = apart;
+        run = new-run;
+        origin = new-origin;
+        distance = number 5 (omega arith) ∙ getD-at (numbers o) d [] 0 4 (four o);
+      }
 
 -- the slots before a new one keep what they have
 
@@ -135,33 +162,10 @@ module _ (ns : List Noted) (n : Noted) where
       }
 
   -- the slots and one more
-  slots-more : (ws ws′ : List ℕ) → take (SLOT * length ns) ws′ ≡ take (SLOT * length ns) ws → Slots ws ns → Slot ws′ (ns ++ (n ∷ [])) (length ns) n → Slots ws′ (ns ++ (n ∷ []))
-  slots-more ws ws′ e S new = record { slot = λ k h. go k (eq-or-lt-of-le (le-of-suc-le-suc (omega (arith, h, length-append ns (n ∷ []))))) }
+  pub slot-more : (ws ws′ : List ℕ) → take (SLOT * length ns) ws′ ≡ take (SLOT * length ns) ws → ((k : ℕ) → k < length ns → Slot ws ns k (noted-at ns k))
+      → Slot ws′ (ns ++ (n ∷ [])) (length ns) n → (k : ℕ) → k < length (ns ++ (n ∷ [])) → Slot ws′ (ns ++ (n ∷ [])) k (noted-at (ns ++ (n ∷ [])) k)
+  slot-more ws ws′ e S new k h = go (eq-or-lt-of-le (le-of-suc-le-suc (omega (arith, h, length-append ns (n ∷ [])))))
     where
-      go : (k : ℕ) → (k ≡ length ns) ⊎ (k < length ns) → Slot ws′ (ns ++ (n ∷ [])) k (noted-at (ns ++ (n ∷ [])) k)
-      go k (inl q) = rw (q, noted-last) new
-      go k (inr q) = rw (noted-before k q) (slot-still ws ws′ k e q (S .slot k q))
-
-pub starts : {ws ws′ xs : List ℕ} → Writes ws ws′ 0 xs Start 0 → Starts ws′ xs
-starts {ws} {ws′} {xs} w =
-    record { slots = λ t h. slots-more [] (record { term = t; trail = [] }) ws ws′ refl (record { slot = λ k q. absurd (omega arith) }) (first t h) }
-  where
-    first : (t : Term) → IsRun xs t → Slot ws′ (record { term = t; trail = [] } ∷ []) 0 (record { term = t; trail = [] })
-    first t h = record { run = w .run t h; origin = rw (w .origin) (refl, refl); distance = w .distance }
-
-pub notes : {ws ws′ : List ℕ} {count : ℕ} {xs : List ℕ} {s : Step} {d : ℕ} → Writes ws ws′ count xs (From s) d → Notes ws ws′ count xs s d
-notes {ws} {ws′} {count} {xs} {s} {d} w = record { kept = w .kept; slots = slots }
-  where
-    slots : (ns : List Noted) (x : Line) → Slots ws ns → length ns ≡ count → s .parent < count
-        → Marks s (noted-at ns (s .parent) .term) x → IsRun xs (x .result) → d ≡ length (noted-at ns (s .parent) .trail) + 1
-        → Slots ws′ (ns ++ (entry (noted-at ns (s .parent) .trail) x ∷ []))
-    slots ns x S c p m h e =
-        let n : Noted = entry (noted-at ns (s .parent) .trail) x in
-        let q : s .parent < length ns = omega arith in
-        slots-more ns n ws ws′ (rw c (w .kept)) S
-        (record {
-          run = rw c (w .run (x .result) h);
-          origin = rw (c, w .origin)
-              (record { before = p; line = x; marks = rw (noted-before ns n (s .parent) q) m; is = rw (noted-before ns n (s .parent) q) });
-          distance = rw c (w .distance ∙ e ∙ sym (length-append (noted-at ns (s .parent) .trail) (x ∷ [])));
-        })
+      go : (k ≡ length ns) ⊎ (k < length ns) → Slot ws′ (ns ++ (n ∷ [])) k (noted-at (ns ++ (n ∷ [])) k)
+      go (inl q) = rw (q, noted-last) new
+      go (inr q) = rw (noted-before k q) (slot-still ws ws′ k e q (S k q))

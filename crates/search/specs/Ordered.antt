@@ -5,7 +5,7 @@ use mathlib.Core.List.{List, [], _∷_, _++_}
 use lib.ListN.{length, take, drop}
 use Rattle.terms.specs.Term.{Term}
 use Rattle.terms.specs.Held.{IsRun}
-use Rattle.terms.specs.Sort.{lost, insert}
+use Rattle.terms.specs.Sort.{lost, insert, Sorted}
 use Rattle.search.specs.Line.{Line, by-result}
 use Rattle.search.specs.Slots.{Spells, origin-of, Marks}
 use Rattle.search.specs.declared.bounded_search.Step.{Step}
@@ -22,9 +22,14 @@ pub record Result (t : Term) (from : ℕ) (res : List ℕ) (k : ℕ) (x : Line) 
   pub marks : Marks step t x
 
 -- each number names the slot of the line at its place, one of the first n slots
-pub data Ordered (t : Term) (from : ℕ) (res : List ℕ) (n : ℕ) : List ℕ → List Line → Type 0 where
-  none : Ordered t from res n [] []
-  more : {k : ℕ} {ks : List ℕ} {x : Line} {xs : List Line} → k < n → Result t from res k x → Ordered t from res n ks xs → Ordered t from res n (k ∷ ks) (x ∷ xs)
+pub data Named (t : Term) (from : ℕ) (res : List ℕ) (n : ℕ) : List ℕ → List Line → Type 0 where
+  none : Named t from res n [] []
+  more : {k : ℕ} {ks : List ℕ} {x : Line} {xs : List Line} → k < n → Result t from res k x → Named t from res n ks xs → Named t from res n (k ∷ ks) (x ∷ xs)
+
+-- and the lines are in term order
+pub record Ordered (t : Term) (from : ℕ) (res : List ℕ) (n : ℕ) (ks : List ℕ) (xs : List Line) : Type 0 where
+  pub named : Named t from res n ks xs
+  pub rising : Sorted lost by-result xs
 
 abbrev pub inserted : Line → List Line → List Line
 inserted = insert lost by-result

@@ -1,5 +1,5 @@
 -- What the search answers, with the noted terms in a workspace.
-use Prim.Native.Nat.{ℕ, _+_, _-_, _/_, _≤_, _<_, min}
+use Prim.Native.Nat.{ℕ, _+_, _-_, _≤_, _<_}
 use mathlib.Core.Path.{_≡_}
 use mathlib.Core.Bool.{true, false}
 use mathlib.Core.List.{List, [], _∷_, _++_}
@@ -12,7 +12,8 @@ use Rattle.search.specs.Line.{Line, forward, results}
 use Rattle.search.specs.Search as search
 use Rattle.search.specs.Search.{Noted, is-noted, entry, proved, unproved, run}
 use Rattle.search.specs.Coded.{name-of}
-use Rattle.search.specs.Slots.{SLOT, Spells, noted-at, Slots}
+use Rattle.search.specs.Slots.{Spells, noted-at, Slots}
+pub use Rattle.search.specs.Index.{slots-of}
 use Rattle.search.specs.Ordered.{Result, Ordered}
 use Rattle.search.specs.declared.bounded_search.Limits.{Limits}
 use Rattle.search.specs.declared.bounded_search.Taken.{Taken}
@@ -22,10 +23,6 @@ use Rattle.search.specs.declared.bounded_search.Outcome.the-variants.{Di
 
 abbrev pub limits-of : Limits → line.Limits
 limits-of m = record { steps = m .steps; size = m .size; depth = m .depth; nodes = m .nodes }
-
--- how many slots a workspace of n numbers has; those past 65,535 are not used
-abbrev pub slots-of : ℕ → ℕ
-slots-of n = min 65535 (n / SLOT)
 
 -- the search from s to t where no law matches the whole equation
 abbrev pub begun : line.Limits → Term → Term → search.Outcome

@@ -1,23 +1,23 @@
 -- The noted terms in a workspace, 40 numbers to a slot: number 0 is the length of the term's run, 1 to 4 are its origin, 5 is its
--- distance, and the run stands from 8 on.
+-- distance, 6 and 7 are of the index, and the run stands from 8 on.
 use Prim.Native.Nat.{ℕ, _+_, _*_, _≤_, _<_}
 use mathlib.Core.Path.{_≡_}
 use mathlib.Core.Bool.{Bool}
 use mathlib.Core.List.{List, [], _∷_, _++_}
-use lib.ListN.{length, take, getD}
+use lib.ListN.{length, take, getD, set}
 use Rattle.terms.specs.Term.{Term, zero, size}
+use Rattle.terms.specs.Run.{run}
 use Rattle.terms.specs.Held.{IsRun, Holds}
 use Rattle.search.specs.Line.{Line}
 use Rattle.search.specs.Search.{Noted, is-noted, entry}
 use Rattle.search.specs.Coded.{name-of, direction-of}
 use Rattle.search.specs.Place.{place-at}
 use Rattle.search.specs.Origins.{origin-at}
+use Rattle.search.specs.Index.{slots-of, bucket, head-of, next-of, Newest}
+pub use Rattle.search.specs.Index.{SLOT}
 use Rattle.search.specs.declared.bounded_search.Step.{Step}
 use Rattle.search.specs.declared.bounded_search.Origin.{Origin}
 use Rattle.search.specs.declared.bounded_search.Origin.the-variants.{Start, From}
-
-abbrev pub SLOT : ℕ
-SLOT = 40
 
 -- slot k has the run of t
 pub record Spells (ws : List ℕ) (k : ℕ) (t : Term) : Type 0 where
@@ -60,9 +60,20 @@ pub record Slot (ws : List ℕ) (ns : List Noted) (k : ℕ) (n : Noted) : Type 0
   pub origin : Comes (origin-of ws k) ns k n
   pub distance : distance-of ws k ≡ length (n .trail)
 
--- the first slots have the noted terms, in noting order; nothing is said of the other numbers
+-- the bucket of the term noted in slot k
+abbrev pub home : List ℕ → List Noted → ℕ → ℕ
+home ws ns k = bucket (slots-of (length ws)) (run (noted-at ns k .term))
+
+-- the head of a noted term's bucket is the newest slot in it, and each slot leads to the next older one in its bucket; nothing is said of
+-- the head of a bucket that no noted term has
+pub record Indexed (ws : List ℕ) (ns : List Noted) : Type 0 where
+  pub head : (k : ℕ) → k < length ns → Newest (home ws ns) (home ws ns k) (length ns) (head-of ws (home ws ns k))
+  pub next : (k : ℕ) → k < length ns → Newest (home ws ns) (home ws ns k) k (next-of ws k)
+
+-- the first slots have the noted terms, in noting order; nothing is said of the other numbers but for the index
 pub record Slots (ws : List ℕ) (ns : List Noted) : Type 0 where
   pub slot : (k : ℕ) → k < length ns → Slot ws ns k (noted-at ns k)
+  pub index : Indexed ws ns
 
 -- what the functions promise
 
@@ -70,12 +81,27 @@ pub record Slots (ws : List ℕ) (ns : List Noted) : Type 0 where
 pub record Finds (ws : List ℕ) (count : ℕ) (xs : List ℕ) (r : Bool) : Type 0 where
   pub exact : (ns : List Noted) (t : Term) → Slots ws ns → length ns ≡ count → IsRun xs t → r ≡ is-noted t ns
 
--- of `write_slot`: slot k is written, and those before it stay
+-- of `newest`: the newest of the first `count` slots in bucket b
+pub record Heads (ws : List ℕ) (count b r : ℕ) : Type 0 where
+  pub exact : (ns : List Noted) → Slots ws ns → length ns ≡ count → Newest (home ws ns) b count r
+
+-- of `write_slot`: slot k is written, those before it stay, and so do numbers 6 and 7 of all
 pub record Writes (before after : List ℕ) (k : ℕ) (xs : List ℕ) (o : Origin) (d : ℕ) : Type 0 where
+  pub size : length after ≡ length before
   pub kept : take (SLOT * k) after ≡ take (SLOT * k) before
+  pub index : (j i : ℕ) → 6 ≤ i → i ≤ 7 → getD after (SLOT * j + i) 0 ≡ getD before (SLOT * j + i) 0
   pub run : (t : Term) → IsRun xs t → Spells after k t
   pub origin : origin-of after k ≡ o
   pub distance : distance-of after k ≡ d
+
+-- of `note_slot`: slot k is written, leads to the newest older one in its bucket, and is the head now
+pub record Enters (before after : List ℕ) (k : ℕ) (xs : List ℕ) (o : Origin) (d : ℕ) : Type 0 where
+  pub room : SLOT * k + SLOT ≤ length before
+  pub written : List ℕ
+  pub writes : Writes before written k xs o d
+  pub older : ℕ
+  pub newest : Heads before k (bucket (slots-of (length before)) xs) older
+  pub links : after ≡ set (set written (SLOT * k + 7) older) (SLOT * bucket (slots-of (length before)) xs + 6) k
 
 -- of `note_start`
 pub record Starts (after xs : List ℕ) : Type 0 where
@@ -83,7 +109,6 @@ pub record Starts (after xs : List ℕ) : Type 0 where
 
 -- of `note`: a line on a noted term leads to one more
 pub record Notes (before after : List ℕ) (count : ℕ) (xs : List ℕ) (s : Step) (d : ℕ) : Type 0 where
-  pub kept : take (SLOT * count) after ≡ take (SLOT * count) before
   pub slots : (ns : List Noted) (x : Line) → Slots before ns → length ns ≡ count → s .parent < count
       → Marks s (noted-at ns (s .parent) .term) x → IsRun xs (x .result) → d ≡ length (noted-at ns (s .parent) .trail) + 1
       → Slots after (ns ++ (entry (noted-at ns (s .parent) .trail) x ∷ []))

@@ -1,12 +1,14 @@
 // The bounded search, with the noted terms in slots of 40 numbers.
-// Of a slot, number 0 is the length of a run, 1 to 4 are its origin, 5 is its distance, and the run stands from number 8 on.
+// Of a slot, number 0 is the length of a run, 1 to 4 are its origin, 5 is its distance, 6 and 7 are of the index, and the run stands from
+// number 8 on.
 ghost use mathlib.Core.Path.{_≡_};
 ghost use Prim.Native.Nat.{_+_, _*_, _≤_, _<_};
 ghost use lib.ListN.{length};
 ghost use lib.Seq.{sets};
 ghost use Rattle.search.specs.Origins.{numbers, origin-at};
-ghost use Rattle.search.specs.Slots.{SLOT, Finds, Writes, Starts, Notes};
-ghost use Rattle.search.specs.Searched.{slots-of, Opens, Takes, Explores, Searches};
+ghost use Rattle.search.specs.Slots.{SLOT, Finds, Writes, Enters, Starts, Notes};
+ghost use Rattle.search.specs.Searched.{Opens, Takes, Explores, Searches};
+use crate::index;
 use crate::path;
 use crate::results;
 use crate::search;
@@ -14,6 +16,7 @@ use crate::search::Direct;
 use crate::search::Direction;
 use crate::search::Law;
 use terms::term;
+use words::normal_form;
 
 pub const SLOT: usize = 40;
 
@@ -73,22 +76,24 @@ pub fn read_origin(ws: &[u32], at: usize) -> Origin
     })
 }
 
-// Whether a run is among the first `count` noted ones, from the last of them on.
+// Whether a run is among the first `count` noted ones: of those in its bucket, the newest first.
 pub fn listed(ws: &[u32], count: usize, s: &[u32]) -> bool
-    requires { ⌜ SLOT * count ≤ length (now ws) ⌝ }
+    requires { ⌜ (SLOT * count ≤ length (now ws)) × (count ≤ 65535) ⌝ }
     ensures { λ r. ⌜ Finds (now (ws .entry)) count (now (s .entry)) r ⌝ }
 {
-    let mut k = count;
-    while 0 < k {
-        k -= 1;
-        let a = SLOT * k;
-        let n = ws[a] as usize;
-        if n <= 31 {
-            let b = a + 8;
-            if term::equal(s, &ws[b..b + n]) {
-                return true;
-            }
+    let buckets = index::slots_of(ws.len());
+    if buckets == 0 {
+        return false;
+    }
+    let mut end = count as u32;
+    let mut k = index::newest(ws, end, index::bucket_of(s, buckets));
+    while k < end {
+        let run = path::run_of(ws, k);
+        if term::equal(s, run) {
+            return true;
         }
+        end = k;
+        k = ws[SLOT * (k as usize) + 7];
     }
     false
 }
@@ -102,7 +107,20 @@ pub fn write_slot(ws: &mut [u32], k: usize, s: &[u32], o: Origin, distance: u32)
     ws[a] = s.len() as u32;
     write_origin(ws, a + 1, o);
     ws[a + 5] = distance;
-    search::append(ws, a + 8, s);
+    normal_form::copy(ws, a + 8, s);
+}
+
+// Notes a run in slot `k`: the slot leads to the newest older one in its bucket, and is the head of the bucket from now on.
+fn note_slot(ws: &mut [u32], k: usize, s: &[u32], o: Origin, distance: u32)
+    requires { ⌜ (SLOT * k + SLOT ≤ length (now ws)) × (length (now s) ≤ 31) × (k < 65535) ⌝ }
+    ensures { λ _. ⌜ Enters (now (ws .entry)) (now (ws .exit)) k (now (s .entry)) o distance ⌝ }
+{
+    let b = index::bucket_of(s, index::slots_of(ws.len()));
+    let new = k as u32;
+    let older = index::newest(ws, new, b);
+    write_slot(ws, k, s, o, distance);
+    ws[SLOT * k + 7] = older;
+    ws[SLOT * b + 6] = new;
 }
 
 // Notes the term that the search starts with.
@@ -110,15 +128,15 @@ pub fn note_start(ws: &mut [u32], s: &[u32])
     requires { ⌜ (SLOT ≤ length (now ws)) × (length (now s) ≤ 31) ⌝ }
     ensures { λ _. ⌜ Starts (now (ws .exit)) (now (s .entry)) ⌝ }
 {
-    write_slot(ws, 0, s, Origin::Start, 0);
+    note_slot(ws, 0, s, Origin::Start, 0);
 }
 
 // Notes the result of a step in the slot with number `count`.
 pub fn note(ws: &mut [u32], count: usize, s: &[u32], step: Step, distance: u32)
-    requires { ⌜ (SLOT * count + SLOT ≤ length (now ws)) × (length (now s) ≤ 31) ⌝ }
+    requires { ⌜ (SLOT * count + SLOT ≤ length (now ws)) × (length (now s) ≤ 31) × (count < 65535) ⌝ }
     ensures { λ _. ⌜ Notes (now (ws .entry)) (now (ws .exit)) count (now (s .entry)) step distance ⌝ }
 {
-    write_slot(ws, count, s, Origin::From(step), distance);
+    note_slot(ws, count, s, Origin::From(step), distance);
 }
 
 // How far a search goes: lines in a path, size and depth of a result, terms that are opened.
@@ -157,7 +175,7 @@ fn take_result(
     distance: u32,
     right: &[u32],
 ) -> Taken
-    requires { ⌜ (noted ≤ slots) × (SLOT * slots ≤ length (now ws)) × (distance < 4294967295) ⌝ }
+    requires { ⌜ (noted ≤ slots) × (slots ≤ 65535) × (SLOT * slots ≤ length (now ws)) × (distance < 4294967295) ⌝ }
     ensures { λ r. ⌜ Takes (now (ws .entry)) noted slots (now (res .entry)) k distance (now (right .entry)) r (now (ws .exit)) ⌝ }
 {
     let s = path::run_of(res, k);
@@ -238,17 +256,6 @@ fn explore(
     outcome
 }
 
-// How many slots of a workspace of `n` numbers are used.
-fn slots_of(n: usize) -> usize
-    ensures { λ r. ⌜ r ≡ slots-of n ⌝ }
-{
-    let all = n / SLOT;
-    if 65535 < all {
-        return 65535;
-    }
-    all
-}
-
 // Searches for a path from left to right. A direct match needs no slot; otherwise left is noted first. Results of more than 31 nodes
 // have no room in a slot: the promise is for limits whose size is at most that.
 pub fn search_bounded_rewrite(
@@ -264,7 +271,7 @@ pub fn search_bounded_rewrite(
     if let Direct::By(law) = direct {
         return Outcome::Direct(law);
     }
-    let slots = slots_of(ws.len());
+    let slots = index::slots_of(ws.len());
     if slots == 0 {
         return Outcome::Full;
     }

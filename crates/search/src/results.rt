@@ -15,6 +15,7 @@ use crate::bounded_search::SLOT;
 use crate::bounded_search::Step;
 use crate::line;
 use crate::line::Filled;
+use crate::path;
 use crate::search;
 use crate::search::Binding;
 use crate::search::Spans;
@@ -27,28 +28,22 @@ pub enum Spot {
     Already,
 }
 
-// The place of a run among the results in the slots that `order` names.
+// The place of a run among the results in the slots that `order` names, by halving the part where it may go.
 fn spot_of(res: &[u32], order: &[u32], s: &[u32]) -> Spot
     ensures { λ r. ⌜ Spotted (now (res .entry)) (now (order .entry)) (now (s .entry)) r ⌝ }
 {
-    let mut p = 0;
-    while p < order.len() {
-        let a = SLOT * (order[p] as usize);
-        if res.len() <= a {
-            return Spot::Already;
-        }
-        let n = res[a] as usize;
-        if res.len() - a < 8 + n {
-            return Spot::Already;
-        }
-        let b = a + 8;
-        match term::compare(s, &res[b..b + n]) {
-            Comparison::Less => return Spot::At(p),
+    let mut low = 0;
+    let mut high = order.len();
+    while low < high {
+        let p = low + (high - low) / 2;
+        let run = path::run_of(res, order[p]);
+        match term::compare(s, run) {
+            Comparison::Less => high = p,
             Comparison::Equal => return Spot::Already,
-            Comparison::Greater => p += 1,
+            Comparison::Greater => low = p + 1,
         }
     }
-    Spot::At(p)
+    Spot::At(low)
 }
 
 // Puts a result among the first `count`, which are in term order, unless it is there already.

@@ -1,8 +1,8 @@
 -- The texts of outcomes, put line by line.
 use Prim.Native.Nat.{ℕ}
 use Prim.Native.Char.{code}
-use mathlib.Core.Path.{_≡_, refl, sym, ap, _∙_}
-use mathlib.Core.List.{List, [], _++_, append-assoc, append-nil}
+use mathlib.Core.Path.{_≡_, refl, ap, _∙_}
+use mathlib.Core.List.{List, _++_, append-assoc}
 use lib.ListN.{length}
 use Rattle.terms.specs.Term.{Term}
 use Rattle.search.specs.Law.{semiring}
@@ -25,10 +25,6 @@ figures-then e xs {t} p q =
     let opened : List ℕ = field "expanded=" (number e) in
     let laws : List ℕ = field "uses=" (parted (code ",") (uses semiring xs)) in
     put-as (append-assoc steps (opened ++ laws) t ∙ ap (λ l. steps ++ l) (append-assoc opened laws t)) (then p q)
-
--- nothing follows
-pub put-last : {t o o′ : List ℕ} {a r : ℕ} → Put t o a r o′ → Put (t ++ []) o a r o′
-put-last {t} p = put-as (sym (append-nil t)) p
 
 traced-count : {ws : List ℕ} {ns : List Noted} {k : ℕ} {ks : List ℕ} {xs : List Line} → Traced ws ns k ks xs → length ks ≡ length xs
 traced-count none = refl

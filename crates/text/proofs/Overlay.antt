@@ -1,6 +1,6 @@
 -- Texts put one after the other.
 use mathlib.Core.Path.{_≡_, refl, sym, ap, subst, _∙_}
-use mathlib.Core.List.{List, [], _∷_, _++_}
+use mathlib.Core.List.{List, [], _∷_, _++_, append-nil}
 use Prim.Native.Nat.{ℕ, suc, _+_, _≤_, _<_, min}
 use native.Mathlib.Nat.{add-zero, add-suc, suc-add}
 use native.Mathlib.Numerals.{add-one}
@@ -81,6 +81,10 @@ then {ys} {zs} {o} {o₁} {o₂} {a} {b} {c} p q =
 -- the same text, said another way
 pub put-as : {ys zs o o₁ : List ℕ} {a b : ℕ} → ys ≡ zs → Put ys o a b o₁ → Put zs o a b o₁
 put-as {o = o} {o₁} {a} {b} e p = subst (λ (t : List ℕ). Put t o a b o₁) e p
+
+-- nothing follows
+pub put-last : {t o o′ : List ℕ} {a r : ℕ} → Put t o a r o′ → Put (t ++ []) o a r o′
+put-last {t} p = put-as (sym (append-nil t)) p
 
 -- nothing put
 pub put-none : (o : List ℕ) (a : ℕ) → length o < top → a ≤ top → Put [] o a a o

@@ -97,9 +97,10 @@ unfolding term-lines field
 put-term-lines e p q = then p q
 
 module _ {o : List ℕ} {a : ℕ} {same : Bool} {us vs : List Word} {xs ys : List ℕ} (h : Renamed us vs same xs ys) where
-  pub put-no-lists : {o₁ : List ℕ} {b : ℕ} → same ≡ true → Put (ascii "wleft=-\nwright=-\n") o a b o₁ → Put (renamed-words us vs) o a b o₁
+  pub put-no-lists : {o₁ o₂ : List ℕ} {b c : ℕ} → same ≡ true
+      → Put (ascii "wleft=" ++ (ascii "-" ++ (10 ∷ []))) o a b o₁ → Put (ascii "wright=" ++ (ascii "-" ++ (10 ∷ []))) o₁ b c o₂ → Put (renamed-words us vs) o a c o₂
   unfolding renamed-words word-lines field ascii
-  put-no-lists e p = put-as (rw (← h .agree, e, renamed-words)) p
+  put-no-lists e p q = put-as (rw (← h .agree, e, renamed-words)) (then p q)
 
   pub put-word-lines : {o₁ o₂ : List ℕ} {b c : ℕ} → same ≡ false
       → ((ws : List Word) → xs ≡ spelled ws → Put (ascii "wleft=" ++ (word-list ws ++ (10 ∷ []))) o a b o₁)

@@ -2,7 +2,7 @@
 use Prim.Native.Nat.{ℕ}
 use mathlib.Core.Path.{_≡_, sym, ap, _∙_}
 use mathlib.Core.Bool.{Bool, true, false}
-use mathlib.Core.List.{List, [], _∷_, _++_, flatten, append-assoc, append-nil}
+use mathlib.Core.List.{List, [], _∷_, _++_, flatten, append-assoc}
 use lib.Dec.{isEq}
 use Rattle.terms.specs.Equation.{orient}
 use Rattle.terms.specs.Promises.{ordering-of}
@@ -15,7 +15,7 @@ use Rattle.text.specs.Bytes.{ascii}
 use Rattle.text.specs.Answer.{field, yes-no}
 use Rattle.text.specs.Words.{word-list, lists-text, words-text}
 use Rattle.text.specs.Put.{Put}
-use Rattle.text.proofs.Overlay.{then, put-as}
+use Rattle.text.proofs.Overlay.{then, put-as, put-last}
 
 -- a key, a value and the byte 10
 pub put-line : {key value o o₁ o₂ o₃ : List ℕ} {a b c d : ℕ} → Put key o a b o₁ → Put value o₁ b c o₂ → Put (10 ∷ []) o₂ c d o₃
@@ -24,15 +24,12 @@ put-line {key} {value} p q r = put-as (append-assoc key value (10 ∷ [])) (then
 
 -- ---- WORDS
 
-pub put-lists : {o o₁ o₂ o₃ o₄ : List ℕ} {a b c d e : ℕ} (same : Bool) (us vs : List Word)
-    → Put (ascii "same=") o a b o₁ → Put (yes-no same) o₁ b c o₂
-    → Put (ascii "\nleft=" ++ (word-list us ++ (10 ∷ []))) o₂ c d o₃ → Put (ascii "right=" ++ (word-list vs ++ (10 ∷ []))) o₃ d e o₄
-    → Put (lists-text same us vs) o a e o₄
-unfolding lists-text flatten field ascii
-put-lists same us vs p q r s = put-as whole (then (then (then p q) r) s)
-  where
-    whole : ((ascii "same=" ++ yes-no same) ++ (ascii "\nleft=" ++ (word-list us ++ (10 ∷ [])))) ++ (ascii "right=" ++ (word-list vs ++ (10 ∷ []))) ≡ lists-text same us vs
-    whole = simp (append-assoc, append-nil)
+pub put-lists : {o o₁ o₂ o₃ : List ℕ} {a b c d : ℕ} (same : Bool) (us vs : List Word)
+    → Put (ascii "same=" ++ (yes-no same ++ (10 ∷ []))) o a b o₁
+    → Put (ascii "left=" ++ (word-list us ++ (10 ∷ []))) o₁ b c o₂ → Put (ascii "right=" ++ (word-list vs ++ (10 ∷ []))) o₂ c d o₃
+    → Put (lists-text same us vs) o a d o₃
+unfolding lists-text flatten field
+put-lists same us vs p q r = then p (then q (put-last r))
 
 -- the arms of the comparison
 module _ {xs ys : List ℕ} {r : Comparison} (compared : ComparesLists xs ys r) (us vs : List Word) (u : xs ≡ spelled us) (v : ys ≡ spelled vs) where

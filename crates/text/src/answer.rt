@@ -7,6 +7,7 @@ ghost use Rattle.words.specs.Words.{Word};
 ghost use Rattle.words.specs.Spelled.{spelled};
 ghost use Rattle.text.specs.Bytes.{number};
 ghost use Rattle.text.specs.TermText.{write-term};
+ghost use Rattle.text.specs.Answer.{yes-no};
 ghost use Rattle.text.specs.Words.{word-list};
 ghost use Rattle.text.specs.Put.{Put};
 
@@ -21,6 +22,7 @@ pub mod lists;
 pub mod rename;
 
 use crate::put;
+use crate::writer::write_line;
 
 // A line whose value is the term of a run.
 pub fn put_term_line(out: &mut [u8], at: usize, key: &[u8], run: &[u32]) -> usize
@@ -29,6 +31,16 @@ pub fn put_term_line(out: &mut [u8], at: usize, key: &[u8], run: &[u32]) -> usiz
     let p = put::put_bytes(out, at, key);
     let q = put::put_term(out, p, run);
     put::put_byte(out, q, b'\n')
+}
+
+// A line whose value is a test's answer.
+pub fn put_yes_no_line(out: &mut [u8], at: usize, key: &[u8], yes: bool) -> usize
+    ensures { λ r. ⌜ Put (now (key .entry) ++ (yes-no yes ++ (10 ∷ []))) (now (out .entry)) at r (now (out .exit)) ⌝ }
+{
+    if yes {
+        return write_line(out, at, key, b"yes");
+    }
+    write_line(out, at, key, b"no")
 }
 
 // A line whose value is a number.

@@ -13,7 +13,6 @@ ghost use Rattle.text.specs.TermText.{write-letter, write-term};
 ghost use Rattle.text.specs.Items.{sign-of, item, gap};
 ghost use Rattle.text.specs.Words.{word, word-list};
 ghost use Rattle.text.specs.Spelled.{word-size};
-ghost use Rattle.text.specs.Answer.{yes-no};
 ghost use Rattle.text.specs.Put.{Put};
 
 // In a run, the numbers below it are letters.
@@ -48,16 +47,6 @@ pub fn put_bytes(out: &mut [u8], at: usize, text: &[u8]) -> usize
         i += 1;
     }
     p
-}
-
-// A test's answer.
-pub fn put_yes_no(out: &mut [u8], at: usize, b: bool) -> usize
-    ensures { λ r. ⌜ Put (yes-no b) (now (out .entry)) at r (now (out .exit)) ⌝ }
-{
-    if b {
-        return put_bytes(out, at, b"yes");
-    }
-    put_bytes(out, at, b"no")
 }
 
 // A number in decimal.

@@ -12,7 +12,7 @@ ghost use Rattle.text.specs.Words.{words-text, lists-text};
 ghost use Rattle.text.specs.Entry.{Call};
 ghost use Rattle.text.specs.Put.{Put};
 use super::put_words_line;
-use crate::put;
+use super::put_yes_no_line;
 use terms::term::Comparison;
 use words::normal_form::ROOM;
 use words::normal_form::compare_lists;
@@ -23,9 +23,8 @@ use words::normal_form::words_of;
 fn put_lists(out: &mut [u8], at: usize, same: bool, a: &[u32], b: &[u32]) -> usize
     ensures { λ r. ⌜ ((us vs : List Word) → now (a .entry) ≡ spelled us → now (b .entry) ≡ spelled vs → Put (lists-text same us vs) (now (out .entry)) at r (now (out .exit))) ⌝ }
 {
-    let p = put::put_bytes(out, at, b"same=");
-    let q = put::put_yes_no(out, p, same);
-    let p = put_words_line(out, q, b"\nleft=", a);
+    let p = put_yes_no_line(out, at, b"same=", same);
+    let p = put_words_line(out, p, b"left=", a);
     put_words_line(out, p, b"right=", b)
 }
 

@@ -16,9 +16,11 @@ ghost use Rattle.text.specs.Walk.{Walk};
 ghost use Rattle.text.specs.Put.{Put};
 use crate::answer::put_number_line;
 use crate::answer::put_term_line;
+use crate::answer::put_yes_no_line;
 use crate::kernel_bridge::path::put_proof;
 use crate::put;
 use crate::step;
+use crate::writer::write_line;
 
 // The text where no path is found.
 pub fn put_none(
@@ -31,13 +33,11 @@ pub fn put_none(
 ) -> usize
     ensures { λ r. ⌜ ((j : Job) (n : ℕ) → IsRun (now (left .entry)) (j .left) → IsRun (now (right .entry)) (j .right) → cut ≡ eqb expanded (j .limits .nodes) → Put (outcome-text semiring j (unproved expanded n)) (now (out .entry)) at r (now (out .exit))) ⌝ }
 {
-    let p = put::put_bytes(out, at, b"answer=none\n");
+    let p = write_line(out, at, b"answer=", b"none");
     let p = put_term_line(out, p, b"left=", left);
     let p = put_term_line(out, p, b"right=", right);
     let p = put_number_line(out, p, b"expanded=", expanded);
-    let p = put::put_bytes(out, p, b"cut=");
-    let p = put::put_yes_no(out, p, cut);
-    put::put_byte(out, p, b'\n')
+    put_yes_no_line(out, p, b"cut=", cut)
 }
 
 // How many lines a path has, how many terms were opened, and the laws used.
@@ -73,7 +73,7 @@ pub fn put_proved(
 ) -> usize
     ensures { λ r. ⌜ ((j : Job) (xs : List Line) (n : ℕ) → IsRun (now (left .entry)) (j .left) → IsRun (now (right .entry)) (j .right) → Walk (now (ws .entry)) (now (path .entry)) (j .left) xs → now (names .entry) ≡ rising (letters (j .left) ++ letters (j .right)) → Put (outcome-text semiring j (proved xs expanded n)) (now (out .entry)) at r (now (out .exit))) ⌝ }
 {
-    let p = put::put_bytes(out, at, b"answer=proved\n");
+    let p = write_line(out, at, b"answer=", b"proved");
     let p = put_term_line(out, p, b"left=", left);
     let p = put_term_line(out, p, b"right=", right);
     let p = put_figures(out, p, expanded, ws, path);

@@ -19,7 +19,7 @@ ghost use Rattle.text.specs.Entry.{Call};
 ghost use Rattle.text.specs.Put.{Put};
 use super::put_term_line;
 use super::put_words_line;
-use crate::put;
+use crate::writer::write_line;
 use terms::term::Comparison;
 use words::candidate::Lengths;
 use words::candidate::canonical_terms;
@@ -42,7 +42,8 @@ fn put_word_lines(out: &mut [u8], at: usize, same: bool, u: &[u32], v: &[u32]) -
     ensures { λ r. ⌜ ((us vs : List Word) → Renamed us vs same (now (u .entry)) (now (v .entry)) → Put (renamed-words us vs) (now (out .entry)) at r (now (out .exit))) ⌝ }
 {
     if same {
-        return put::put_bytes(out, at, b"wleft=-\nwright=-\n");
+        let p = write_line(out, at, b"wleft=", b"-");
+        return write_line(out, p, b"wright=", b"-");
     }
     let p = put_words_line(out, at, b"wleft=", u);
     put_words_line(out, p, b"wright=", v)

@@ -1,87 +1,87 @@
--- `listed` meets its contract. The loop's invariant: the first `k` slots decide.
-use Prim.Native.Nat.{_≤_, _-_, _*_}
+-- `listed` meets its contract. The loop's invariant: the first `end` slots decide, and slot `k` is the newest of them in the run's bucket.
+use Prim.Native.Nat.{_≤_}
 use native.Mathlib.Omega.{arith}
-use Rattle.search.specs.Slots.{SLOT}
-use Rattle.search.proofs.Noting.{Going, going-starts, Tells, tells, too-long, found-nowhere}
+use Rattle.search.proofs.Noting.{Going, Leading, Tells, going-starts, leading-starts, leading-next, none-noted, tells, found-nowhere}
 use borrow.Author.Needs.{needs}
 use Rattle.search.proofs.bounded_search.listed.Statement.{statement}
 use Rattle.search.proofs.bounded_search.listed.Tie as tie
 
 abbrev Inv-loop : tie.InvT-loop
-Inv-loop ws count s k₀ k = (k ≤ count) × Going ws count s k
+Inv-loop ws count s buckets end₀ k₀ end k = (end ≤ count) × Going ws count s end × Leading ws count s end k
 
 abbrev μ-loop : tie.MeasureT-loop
-μ-loop ws count s k₀ k = k
+μ-loop ws count s buckets end₀ k₀ end k = end
+
+slots-of-requires : tie.Need-slots-of-requires Inv-loop μ-loop
+slots-of-requires c κs = search needs
+
+returns : tie.Need-returns Inv-loop μ-loop
+returns c =
+    let a = c .before .before .before .before .args in
+    none-noted (a .ws .now) (a .count) (a .s .now) (omega (arith, c .before .slots-of .ensures))
+
+cast-end : tie.Need-cast-end Inv-loop μ-loop
+cast-end c = search needs
+
+bucket-of-requires : tie.Need-bucket-of-requires Inv-loop μ-loop
+bucket-of-requires c κs = search needs
+
+newest-requires : tie.Need-newest-requires Inv-loop μ-loop
+newest-requires c κs = search needs
 
 loop-holds : tie.Need-loop-holds Inv-loop μ-loop
-loop-holds c = search (going-starts, needs)
+loop-holds c =
+    let b = c .before in
+    let d = b .before .before in
+    let a = d .before .before .before .args in
+    (omega arith, going-starts (a .ws .now) (a .count) (a .s .now), leading-starts (a .s .now) (rw (d .slots-of .ensures) at (b .bucket-of .ensures .0)) (c .newest .ensures))
 
-sub-k : tie.Need-sub-k Inv-loop μ-loop
-sub-k c = search needs
-
-mul-a : tie.Need-mul-a Inv-loop μ-loop
-mul-a c = search needs
-
-mul-n : tie.Need-mul-n Inv-loop μ-loop
-mul-n c = search needs
-
-shared-slice-read-n : tie.Need-shared-slice-read-n Inv-loop μ-loop
-shared-slice-read-n c = search needs
-
-cast-n : tie.Need-cast-n Inv-loop μ-loop
-cast-n c = omega (arith, c .shared-slice-known3 .given (SLOT * (c .before .before .loop .k - 1)))
-
-add-b : tie.Need-add-b Inv-loop μ-loop
-add-b c = search needs
-
-add-equal : tie.Need-add-equal Inv-loop μ-loop
-add-equal c = search needs
-
-mul-equal : tie.Need-mul-equal Inv-loop μ-loop
-mul-equal c = search needs
-
-sub-equal : tie.Need-sub-equal Inv-loop μ-loop
-sub-equal c = search needs
-
-part-equal-start : tie.Need-part-equal-start Inv-loop μ-loop
-part-equal-start c = search needs
-
-part-equal-end : tie.Need-part-equal-end Inv-loop μ-loop
-part-equal-end c = search needs
+run-of-requires : tie.Need-run-of-requires Inv-loop μ-loop
+run-of-requires c κs = search needs
 
 equal-requires : tie.Need-equal-requires Inv-loop μ-loop
 equal-requires c κs = search needs
 
 -- what the comparison says
 told : (c : tie.After-equal Inv-loop μ-loop) →
-    let l = c .before .before .before .before .before in
-    let a = l .before .before .before .args in
+    let l = c .before .before .before in
+    let a = l .before .before .before .before .before .before .before .args in
     Tells (a .ws .now) (a .count) (a .s .now) (l .loop .k) (c .equal .result)
 told c =
-    let l = c .before .before .before .before .before in
-    let a = l .before .before .before .args in
-    tells (a .ws .now) (a .count) (a .s .now) (l .loop .k) (l .loop .inv .1) (omega arith) (l .loop .inv .0) (c .equal .result) (c .equal .ensures)
+    let l = c .before .before .before in
+    let v = l .loop .inv in
+    tells (v .1) (v .2) (v .0) (c .before .before .loop-test .taken) (c .before .run-of .ensures) (c .equal .result) (c .equal .ensures)
 
-returns : tie.Need-returns Inv-loop μ-loop
-returns c = rw (c .if2 .taken) at (told (c .before))
+returns-2 : tie.Need-returns-2 Inv-loop μ-loop
+returns-2 c = rw (c .if2 .taken) at (told (c .before))
+
+cast-k : tie.Need-cast-k Inv-loop μ-loop
+cast-k c = search needs
+
+mul-k : tie.Need-mul-k Inv-loop μ-loop
+mul-k c = search needs
+
+add-k : tie.Need-add-k Inv-loop μ-loop
+add-k c = search needs
+
+mul-k-2 : tie.Need-mul-k-2 Inv-loop μ-loop
+mul-k-2 c = search needs
+
+shared-slice-read-k : tie.Need-shared-slice-read-k Inv-loop μ-loop
+shared-slice-read-k c = search needs
 
 loop-less : tie.Need-loop-less Inv-loop μ-loop
 loop-less c = search needs
 
 loop-again : tie.Need-loop-again Inv-loop μ-loop
-loop-again c = (omega arith, rw (c .if2 .left) at (told (c .before)))
+loop-again c =
+    let e = c .before in
+    let l = e .before .before .before in
+    let v = l .before .loop .inv in
+    (omega arith, rw (e .if2 .left) at (told (e .before)), leading-next (v .1) (v .2) (v .0) (l .loop-test .taken))
 
-loop-less-2 : tie.Need-loop-less-2 Inv-loop μ-loop
-loop-less-2 c = search needs
-
-loop-again-2 : tie.Need-loop-again-2 Inv-loop μ-loop
-loop-again-2 c =
-    let l = c .before .before .before in
-    let a = l .before .before .before .args in
-    (omega arith, too-long (a .ws .now) (a .count) (a .s .now) (l .loop .k) (l .loop .inv .1) (omega arith) (l .loop .inv .0) (c .if1 .left))
-
-returns-2 : tie.Need-returns-2 Inv-loop μ-loop
-returns-2 c = search (found-nowhere, needs)
+returns-3 : tie.Need-returns-3 Inv-loop μ-loop
+returns-3 c = let v = c .before .loop .inv in found-nowhere (v .1) (v .2) (v .0) (omega arith)
 
 pub listed-spec : {M : Type 1} → statement M
 listed-spec =
@@ -89,22 +89,20 @@ listed-spec =
     (tie.spec
     Inv-loop
     μ-loop
-    loop-holds
-    sub-k
-    mul-a
-    mul-n
-    shared-slice-read-n
-    cast-n
-    add-b
-    add-equal
-    mul-equal
-    sub-equal
-    part-equal-start
-    part-equal-end
-    equal-requires
+    slots-of-requires
     returns
+    cast-end
+    bucket-of-requires
+    newest-requires
+    loop-holds
+    run-of-requires
+    equal-requires
+    returns-2
+    cast-k
+    mul-k
+    add-k
+    mul-k-2
+    shared-slice-read-k
     loop-less
     loop-again
-    loop-less-2
-    loop-again-2
-    returns-2)
+    returns-3)

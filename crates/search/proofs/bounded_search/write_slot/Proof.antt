@@ -34,22 +34,22 @@ mul-ws-2 c = search needs
 slice-write-ws-2 : tie.Need-slice-write-ws-2
 slice-write-ws-2 c = omega (arith, simp length-set at (c .before .before .write-origin .kept .0))
 
-add-append : tie.Need-add-append
-add-append c = search needs
+add-copy : tie.Need-add-copy
+add-copy c = search needs
 
-append-requires : tie.Need-append-requires
-append-requires c κs = simp length-set (omega (arith, simp length-set at (c .before .before .before .write-origin .kept .0)))
+copy-requires : tie.Need-copy-requires
+copy-requires c κs = search needs
 
 same-length : tie.Need-same-length
-same-length c = simp length-set at (c .before .before .append .kept .0) ∙ simp length-set at (c .before .before .before .before .before .before .write-origin .kept .0)
+same-length c = simp length-set at (c .before .before .copy .kept .0) ∙ simp length-set at (c .before .before .before .before .before .before .write-origin .kept .0)
 
 returns : tie.Need-returns
 returns c =
     let p = c .before .before in
     let q = p .before .before .before .before in
     let b = q .before .before .before .before in
-    writes (b .args .ws .now) (q .write-origin .last .0) (p .append .last .0) (b .args .k) (p .append .result) (b .args .s .now) (b .args .o) (b .args .distance)
-    (b .pre .0) (b .pre .1) (q .write-origin .ensures) (p .append .ensures .0) (p .append .ensures .1) (same-length c)
+    writes (b .args .ws .now) (q .write-origin .last .0) (p .copy .last .0) (b .args .k) (b .args .s .now) (b .args .o) (b .args .distance)
+    (b .pre .0) (b .pre .1) (q .write-origin .ensures) (p .copy .ensures)
 
 pub write-slot-spec : {M : Type 1} → statement M
 write-slot-spec =
@@ -64,7 +64,7 @@ write-slot-spec =
     add-ws
     mul-ws-2
     slice-write-ws-2
-    add-append
-    append-requires
+    add-copy
+    copy-requires
     same-length
     returns)

@@ -5,14 +5,11 @@ use borrow.Author.Needs.{needs}
 use Rattle.text.proofs.answer.lists.put_lists.Statement.{statement}
 use Rattle.text.proofs.answer.lists.put_lists.Tie as tie
 
-slice-aggregate-put-bytes : tie.Need-slice-aggregate-put-bytes
-slice-aggregate-put-bytes c = search needs
+slice-aggregate-put-yes-no-line : tie.Need-slice-aggregate-put-yes-no-line
+slice-aggregate-put-yes-no-line c = search needs
 
-put-bytes-requires : tie.Need-put-bytes-requires
-put-bytes-requires c κs = search needs
-
-put-yes-no-requires : tie.Need-put-yes-no-requires
-put-yes-no-requires c κs = search needs
+put-yes-no-line-requires : tie.Need-put-yes-no-line-requires
+put-yes-no-line-requires c κs = search needs
 
 slice-aggregate-put-words-line : tie.Need-slice-aggregate-put-words-line
 slice-aggregate-put-words-line c = search needs
@@ -34,18 +31,15 @@ unfolding ascii
 returns c =
     let l = c .before .before .before .before .before .before .before in
     let y = l .before .before .before .before .before in
-    let k = y .before .before .before .before in
     λ us vs u v.
-    put-lists (k .before .before .before .before .before .before .args .same) us vs (k .put-bytes .ensures) (y .put-yes-no .ensures)
-    (l .put-words-line .ensures us u) (c .before .before .put-words-line2 .ensures vs v)
+    put-lists (y .before .before .before .before .before .before .args .same) us vs (y .put-yes-no-line .ensures) (l .put-words-line .ensures us u) (c .before .before .put-words-line2 .ensures vs v)
 
 pub put-lists-spec : {M : Type 1} → statement M
 put-lists-spec =
     tie.close
     (tie.spec
-    slice-aggregate-put-bytes
-    put-bytes-requires
-    put-yes-no-requires
+    slice-aggregate-put-yes-no-line
+    put-yes-no-line-requires
     slice-aggregate-put-words-line
     put-words-line-requires
     slice-aggregate-put-words-line-2

@@ -3,17 +3,20 @@ use mathlib.Core.List.{flatten}
 use Rattle.text.specs.Bytes.{ascii}
 use Rattle.text.specs.Answer.{field}
 use Rattle.text.specs.Find.{outcome-lines, outcome-text}
-use Rattle.text.proofs.Overlay.{then}
-use Rattle.text.proofs.Outcomes.{figures-then, put-last}
+use Rattle.text.proofs.Overlay.{then, put-last}
+use Rattle.text.proofs.Outcomes.{figures-then}
 use borrow.Author.Needs.{needs}
 use Rattle.text.proofs.answer.outcome.put_proved.Statement.{statement}
 use Rattle.text.proofs.answer.outcome.put_proved.Tie as tie
 
-slice-aggregate-put-bytes : tie.Need-slice-aggregate-put-bytes
-slice-aggregate-put-bytes c = search needs
+slice-aggregate-write-line : tie.Need-slice-aggregate-write-line
+slice-aggregate-write-line c = search needs
 
-put-bytes-requires : tie.Need-put-bytes-requires
-put-bytes-requires c κs = search needs
+slice-aggregate-write-line-2 : tie.Need-slice-aggregate-write-line-2
+slice-aggregate-write-line-2 c = search needs
+
+write-line-requires : tie.Need-write-line-requires
+write-line-requires c κs = search needs
 
 slice-aggregate-put-term-line : tie.Need-slice-aggregate-put-term-line
 slice-aggregate-put-term-line c = search needs
@@ -48,9 +51,9 @@ returns c =
     let p3 = p4 .before .before .before .before in
     let p2 = p3 .before .before .before .before .before in
     let p1 = p2 .before .before .before .before .before in
-    let a = p1 .before .before .before .before .before .before .before .before .before in
+    let a = p1 .before .before .before .before .before .before .before .before .before .before in
     λ j xs n left right walk names.
-    then (p1 .put-bytes .ensures)
+    then (p1 .write-line .ensures)
     (then (p2 .put-term-line .ensures (j .left) left)
     (then (p3 .put-term-line2 .ensures (j .right) right)
     (figures-then (a .args .expanded) xs (p4 .put-figures .ensures (j .left) xs walk)
@@ -60,8 +63,9 @@ pub put-proved-spec : {M : Type 1} → statement M
 put-proved-spec =
     tie.close
     (tie.spec
-    slice-aggregate-put-bytes
-    put-bytes-requires
+    slice-aggregate-write-line
+    slice-aggregate-write-line-2
+    write-line-requires
     slice-aggregate-put-term-line
     put-term-line-requires
     slice-aggregate-put-term-line-2

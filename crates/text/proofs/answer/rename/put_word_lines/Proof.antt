@@ -5,18 +5,32 @@ use borrow.Author.Needs.{needs}
 use Rattle.text.proofs.answer.rename.put_word_lines.Statement.{statement}
 use Rattle.text.proofs.answer.rename.put_word_lines.Tie as tie
 
-slice-aggregate-put-bytes : tie.Need-slice-aggregate-put-bytes
-slice-aggregate-put-bytes c = search needs
+slice-aggregate-write-line : tie.Need-slice-aggregate-write-line
+slice-aggregate-write-line c = search needs
 
-put-bytes-requires : tie.Need-put-bytes-requires
-put-bytes-requires c κs = search needs
+slice-aggregate-write-line-2 : tie.Need-slice-aggregate-write-line-2
+slice-aggregate-write-line-2 c = search needs
+
+write-line-requires : tie.Need-write-line-requires
+write-line-requires c κs = search needs
+
+slice-aggregate-write-line-3 : tie.Need-slice-aggregate-write-line-3
+slice-aggregate-write-line-3 c = search needs
+
+slice-aggregate-write-line-4 : tie.Need-slice-aggregate-write-line-4
+slice-aggregate-write-line-4 c = search needs
+
+write-line-requires-2 : tie.Need-write-line-requires-2
+write-line-requires-2 c κs = search needs
 
 same-length : tie.Need-same-length
 same-length c = search needs
 
 returns : tie.Need-returns
 unfolding ascii
-returns c = λ us vs h. put-no-lists h (c .before .before .before .before .before .if1 .taken) (c .before .before .put-bytes .ensures)
+returns c =
+    let l = c .before .before .before .before .before .before .before .before in
+    λ us vs h. put-no-lists h (l .before .before .before .before .if1 .taken) (l .write-line .ensures) (c .before .before .write-line2 .ensures)
 
 slice-aggregate-put-words-line : tie.Need-slice-aggregate-put-words-line
 slice-aggregate-put-words-line c = search needs
@@ -43,8 +57,12 @@ pub put-word-lines-spec : {M : Type 1} → statement M
 put-word-lines-spec =
     tie.close
     (tie.spec
-    slice-aggregate-put-bytes
-    put-bytes-requires
+    slice-aggregate-write-line
+    slice-aggregate-write-line-2
+    write-line-requires
+    slice-aggregate-write-line-3
+    slice-aggregate-write-line-4
+    write-line-requires-2
     same-length
     returns
     slice-aggregate-put-words-line

@@ -1,0 +1,60 @@
+-- The hash of a run, a number at a time, and what the head of a bucket says.
+use Prim.Native.Nat.{ℕ, _+_, _*_, _%_, _≤_, _<_}
+use native.Mathlib.Omega.{arith}
+use mathlib.Core.Path.{_≡_, sym, ap, _∙_}
+use mathlib.Core.List.{List}
+use lib.ListN.{length, drop, getD, drop-of-length-le}
+use Rattle.terms.proofs.Positions.{drop-one}
+use Rattle.terms.specs.Run.{run}
+use Rattle.search.specs.Search.{Noted}
+use Rattle.search.specs.Index.{slots-of, hash, bucket, head-of}
+use Rattle.search.specs.Slots.{noted-at, home, Slots, Heads}
+use Rattle.search.specs.Traced.{Shows}
+
+module _ (xs : List ℕ) (i h : ℕ) where
+  pub hash-next : i < length xs → hash (drop i xs) h ≡ hash (drop (i + 1) xs) ((h * 4101 + getD xs i 0) % 4294967291)
+  unfolding hash
+  hash-next p = rw (drop-one xs i p)
+
+  pub hash-ends : length xs ≤ i → hash (drop i xs) h ≡ h
+  unfolding hash
+  hash-ends p = rw (drop-of-length-le xs p)
+
+-- what the head of bucket b says
+module _ (ws : List ℕ) (count b : ℕ) where
+  -- no noted term is in the bucket
+  heads-none : ((ns : List Noted) (k : ℕ) → Slots ws ns → length ns ≡ count → k < count → home ws ns k ≡ b → ⊥) → Heads ws count b count
+  heads-none h = record { exact = λ ns S c. record { within = omega arith; own = λ p. absurd (omega arith); last = λ k p e. absurd (h ns k S c p e) } }
+
+  -- the head leads to no noted slot
+  pub heads-past : count ≤ head-of ws b → Heads ws count b count
+  heads-past h =
+      heads-none (λ ns k S c p e.
+      let q : k < length ns = omega arith in
+      let l = (rw e at (S .index .head k q)) .last k q e .1 in
+      omega arith)
+
+  module _ (h : head-of ws b < count) (xs : List ℕ) (Sh : Shows ws (head-of ws b) xs) where
+    -- the run in the slot is that of the noted term
+    home-shown : (ns : List Noted) → Slots ws ns → length ns ≡ count → home ws ns (head-of ws b) ≡ bucket (slots-of (length ws)) xs
+    home-shown ns S c =
+        let t = noted-at ns (head-of ws b) .term in
+        ap (bucket (slots-of (length ws))) (sym (Sh .exact t (S .slot (head-of ws b) (omega arith) .run) .whole))
+
+    pub heads-foreign : (bucket (slots-of (length ws)) xs ≡ b → ⊥) → Heads ws count b count
+    heads-foreign f =
+        heads-none (λ ns k S c p e.
+        let q : k < length ns = omega arith in
+        let N = rw e at (S .index .head k q) in
+        f (sym (home-shown ns S c) ∙ N .own (omega arith)))
+
+    pub heads-here : bucket (slots-of (length ws)) xs ≡ b → Heads ws count b (head-of ws b)
+    heads-here f =
+        record {
+          exact = λ ns S c.
+              record {
+                within = omega arith;
+                own = λ p. home-shown ns S c ∙ f;
+                last = λ k p e. let q : k < length ns = omega arith in rw c at ((rw e at (S .index .head k q)) .last k q e);
+              };
+        }

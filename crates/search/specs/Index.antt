@@ -1,0 +1,34 @@
+-- The index of a workspace with 40 numbers to a slot: as many buckets as slots, a bucket for each run. Number 6 of slot b leads to the
+-- newest slot whose run is in bucket b, and number 7 of a slot to the next older one in the same bucket.
+use Prim.Native.Nat.{ℕ, _+_, _*_, _/_, _%_, _≤_, _<_, min}
+use mathlib.Core.Path.{_≡_}
+use mathlib.Core.List.{List, [], _∷_}
+use lib.ListN.{getD}
+
+abbrev pub SLOT : ℕ
+SLOT = 40
+
+-- how many slots a workspace of n numbers has; those past 65,535 are not used
+abbrev pub slots-of : ℕ → ℕ
+slots-of n = min 65535 (n / SLOT)
+
+-- the numbers of a list, one after the other, taken into h
+unfoldable pub hash : List ℕ → ℕ → ℕ
+hash [] h = h
+hash (x ∷ xs) h = hash xs ((h * 4101 + x) % 4294967291)
+
+-- the bucket of a run among n
+abbrev pub bucket : ℕ → List ℕ → ℕ
+bucket n xs = hash xs 0 % n
+
+abbrev pub head-of : List ℕ → ℕ → ℕ
+head-of ws b = getD ws (SLOT * b + 6) 0
+
+abbrev pub next-of : List ℕ → ℕ → ℕ
+next-of ws k = getD ws (SLOT * k + 7) 0
+
+-- k is the newest slot below n whose bucket is b, or n if there is none
+pub record Newest (home : ℕ → ℕ) (b n k : ℕ) : Type 0 where
+  pub within : k ≤ n
+  pub own : k < n → home k ≡ b
+  pub last : (j : ℕ) → j < n → home j ≡ b → (j ≤ k) × (k < n)
