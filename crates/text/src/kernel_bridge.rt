@@ -23,6 +23,10 @@ use search::search::Span;
 use search::search::Spans;
 use terms::term;
 
+// The whole proof.
+pub mod lambdas;
+
+// The lines of a path.
 pub mod path;
 
 // In a run, the numbers below it are letters.

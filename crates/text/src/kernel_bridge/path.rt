@@ -1,11 +1,9 @@
-// The lines of a path and the whole proof in the proof text.
-ghost use mathlib.Core.Path.{_≡_};
-ghost use mathlib.Core.List.{List, _++_};
+// The lines of a path in the proof text, joined.
+ghost use mathlib.Core.List.{List};
 ghost use Prim.Native.Nat.{ℕ, _-_, _≤_, _<_};
 ghost use lib.ListN.{length, take};
 ghost use Rattle.terms.specs.Term.{Term, size};
 ghost use Rattle.terms.specs.Held.{Holds};
-ghost use Rattle.terms.specs.Letters.{letters, rising};
 ghost use Rattle.search.specs.Law.{semiring};
 ghost use Rattle.search.specs.Line.{Line, back};
 ghost use Rattle.search.specs.Search.{Noted};
@@ -13,10 +11,10 @@ ghost use Rattle.search.specs.Place.{place-at};
 ghost use Rattle.search.specs.Coded.{name-of, direction-of};
 ghost use Rattle.search.specs.Slots.{Spells, noted-at, Slots};
 ghost use Rattle.search.specs.Traced.{Linked};
-ghost use Rattle.text.specs.Proof.{part, context, at-place, one-line, chain, proof};
+ghost use Rattle.text.specs.Proof.{part, context, at-place, one-line, chain};
 ghost use Rattle.text.specs.Put.{Put};
 ghost use Rattle.text.specs.Walk.{Walk};
-ghost use Rattle.text.specs.Framed.{side-of, frame, ends, opens, closes, Encloses};
+ghost use Rattle.text.specs.Framed.{side-of, frame, ends, Encloses};
 use crate::kernel_bridge;
 use crate::put;
 use search::bounded_search::Origin;
@@ -282,41 +280,4 @@ pub fn render_path(out: &mut [u8], at: usize, ws: &[u32], path: &[u32], names: &
     ensures { λ r. ⌜ ((s : Term) (xs : List Line) → Walk (now (ws .entry)) (now (path .entry)) s xs → Put (chain (now (names .entry)) semiring s xs) (now (out .entry)) at r (now (out .exit))) ⌝ }
 {
     render_lines(out, at, ws, path, path.len(), names)
-}
-
-// The binders of n variables, x0 first.
-fn open_lambdas(out: &mut [u8], at: usize, n: usize) -> usize
-    ensures { λ r. ⌜ Put (opens n) (now (out .entry)) at r (now (out .exit)) ⌝ }
-{
-    let mut p = at;
-    let mut i = 0;
-    while i < n {
-        let a = put::put_bytes(out, p, b"(lam ");
-        let b = kernel_bridge::put_variable(out, a, i);
-        p = put::put_byte(out, b, b' ');
-        i += 1;
-    }
-    p
-}
-
-// The ends of n binders.
-fn close_lambdas(out: &mut [u8], at: usize, n: usize) -> usize
-    ensures { λ r. ⌜ Put (closes n) (now (out .entry)) at r (now (out .exit)) ⌝ }
-{
-    let mut p = at;
-    let mut i = 0;
-    while i < n {
-        p = put::put_byte(out, p, b')');
-        i += 1;
-    }
-    p
-}
-
-// The proof of an equation whose letters are `names`, from a path between its sides.
-pub fn put_proof(out: &mut [u8], at: usize, ws: &[u32], path: &[u32], names: &[u32]) -> usize
-    ensures { λ r. ⌜ ((s t : Term) (xs : List Line) → Walk (now (ws .entry)) (now (path .entry)) s xs → now (names .entry) ≡ rising (letters s ++ letters t) → Put (proof semiring s t xs) (now (out .entry)) at r (now (out .exit))) ⌝ }
-{
-    let p = open_lambdas(out, at, names.len());
-    let q = render_path(out, p, ws, path, names);
-    close_lambdas(out, q, names.len())
 }
