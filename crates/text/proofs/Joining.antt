@@ -113,7 +113,7 @@ module _ {ws : List ℕ} {ns : List Noted} where
   traced-term none (suc i) q = absurd (omega arith)
   traced-term (more {xs = xs} h T) (suc i) q = traced-term T i (omega arith) ∙ ap (λ n. source (n .term) xs i) (h .is)
 
--- what `render_step` promises of slot k
+-- what `render_slot` promises of slot k
 abbrev StepPut : List ℕ → List ℕ → ℕ → List ℕ → ℕ → ℕ → List ℕ → Type 0
 StepPut names ws k o a b o′ = (ns : List Noted) (j : ℕ) (x : Line) → Slots ws ns → Linked ws ns j k x → Put (line-text names x (noted-at ns j .term)) o a b o′
 

@@ -41,7 +41,7 @@ fn close_lambdas(out: &mut [u8], at: usize, n: usize) -> usize
     p
 }
 
-// The proof of an equation whose letters are `names`, from a path between its sides.
+// The proof of an equation whose letters are `names`, from a path between its sides: the Rust's `render_path`.
 pub fn put_proof(out: &mut [u8], at: usize, ws: &[u32], path: &[u32], names: &[u32]) -> usize
     ensures { λ r. ⌜ ((s t : Term) (xs : List Line) → Walk (now (ws .entry)) (now (path .entry)) s xs → now (names .entry) ≡ rising (letters s ++ letters t) → Put (proof semiring s t xs) (now (out .entry)) at r (now (out .exit))) ⌝ }
 {

@@ -87,13 +87,13 @@ fn render_context(
     if n < ADD {
         return at;
     }
-    let opened = kernel_bridge::put_operator(out, at, n);
+    let begun = kernel_bridge::put_operator(out, at, n);
     if right {
-        let p = kernel_bridge::render_term(out, opened, run, from + 1, names);
+        let p = kernel_bridge::render_term(out, begun, run, from + 1, names);
         return put::put_bytes(out, p, b") (ref hole))");
     }
     let other = part_at(run, from, true);
-    let p = put::put_bytes(out, opened, b"(ref hole)) ");
+    let p = put::put_bytes(out, begun, b"(ref hole)) ");
     let q = kernel_bridge::render_term(out, p, run, other, names);
     put::put_bytes(out, q, b")")
 }
@@ -149,8 +149,9 @@ fn render_law(
     }
 }
 
-// What stands before the proof of a part in the proof of the whole: the context, and the part of s and of t.
-fn render_frame(
+// What stands before the proof of a part in the proof of the whole: the context, and the part of s and of t. The Rust's puts that proof and
+// the end too.
+fn render_congruence(
     out: &mut [u8],
     at: usize,
     right: bool,
@@ -175,7 +176,7 @@ fn render_frame(
 
 // One line, from s to t, with its law at `place` of s. It calls itself for the part that has the place: its calls nest once for
 // each sum or product around the place.
-pub fn render_congruence(
+pub fn render_step(
     out: &mut [u8],
     at: usize,
     law: Law,
@@ -195,13 +196,13 @@ pub fn render_congruence(
     let part = part_of(s, i, place);
     let right = part.right;
     let m = part_at(t, j, right);
-    let p = render_frame(out, at, right, s, i, t, j, names);
-    let q = render_congruence(out, p, law, direction, s, part.from, place, t, m, names);
+    let p = render_congruence(out, at, right, s, i, t, j, names);
+    let q = render_step(out, p, law, direction, s, part.from, place, t, m, names);
     put::put_byte(out, q, b')')
 }
 
 // The line that leads to the term in slot k: nothing for the start.
-pub fn render_step(out: &mut [u8], at: usize, ws: &[u32], k: u32, names: &[u32]) -> usize
+pub fn render_slot(out: &mut [u8], at: usize, ws: &[u32], k: u32, names: &[u32]) -> usize
     ensures { λ r. ⌜ ((ns : List Noted) (j : ℕ) (x : Line) → Slots (now (ws .entry)) ns → Linked (now (ws .entry)) ns j k x → Put (one-line (now (names .entry)) semiring (x .place) (x .direction) (x .law) (noted-at ns j .term) (x .result)) (now (out .entry)) at r (now (out .exit))) ⌝ }
 {
     let Origin::From(step) = path::origin_of(ws, k) else {
@@ -211,7 +212,7 @@ pub fn render_step(out: &mut [u8], at: usize, ws: &[u32], k: u32, names: &[u32])
     let direction = step.direction;
     let s = path::run_of(ws, step.parent);
     let t = path::run_of(ws, k);
-    render_congruence(
+    render_step(
         out,
         at,
         law,
@@ -225,7 +226,7 @@ pub fn render_step(out: &mut [u8], at: usize, ws: &[u32], k: u32, names: &[u32])
     )
 }
 
-// What stands before the two proofs that are joined: the terms in slot 0, in slot m and in slot k.
+// What stands before the two proofs that are joined: the terms in slot 0, in slot m and in slot k. The Rust's puts the proofs and the end too.
 fn render_transitivity(
     out: &mut [u8],
     at: usize,
@@ -265,17 +266,17 @@ fn render_lines(
     let before = n - 1;
     let k = path[before];
     if before == 0 {
-        return render_step(out, at, ws, k, names);
+        return render_slot(out, at, ws, k, names);
     }
     let m = path[before - 1];
     let a = render_transitivity(out, at, ws, m, k, names);
     let b = render_lines(out, a, ws, path, before, names);
     let c = put::put_bytes(out, b, b") ");
-    let d = render_step(out, c, ws, k, names);
+    let d = render_slot(out, c, ws, k, names);
     put::put_byte(out, d, b')')
 }
 
-// The lines of a path, joined.
+// The lines of a path, joined. The Rust's puts the binders around them too: ours is `put_proof`.
 pub fn render_path(out: &mut [u8], at: usize, ws: &[u32], path: &[u32], names: &[u32]) -> usize
     ensures { λ r. ⌜ ((s : Term) (xs : List Line) → Walk (now (ws .entry)) (now (path .entry)) s xs → Put (chain (now (names .entry)) semiring s xs) (now (out .entry)) at r (now (out .exit))) ⌝ }
 {
