@@ -79,7 +79,7 @@ unfolding token
 one-byte b m e = signs b ∙ ap told e
 
 -- the item that a number behind `v` makes
-abbrev pub lettered : Number → Item
+abbrev lettered : Number → Item
 lettered (Is n) = item.Is n
 lettered TooLarge = item.Foul
 lettered Malformed = item.Foul

@@ -95,7 +95,7 @@ onto-build [] = refl
 onto-build (x ∷ xs) = ap (next (numbers.token x)) (onto-build xs)
 
 -- the terms that the items of a side make
-abbrev pub built : List ℕ → Option (List Term)
+abbrev built : List ℕ → Option (List Term)
 built bs = build token (pieces (code " ") bs)
 
 built-first : (bs p : List ℕ) (ps : List (List ℕ)) → pieces (code " ") bs ≡ p ∷ ps → built bs ≡ next (token p) (build token ps)

@@ -121,7 +121,7 @@ pub fn number_in(s: &[u8], from: usize, to: usize, most: u32) -> Number
 }
 
 // Where the line that starts at a position ends: the next byte 10.
-pub fn line_end(s: &[u8], from: usize) -> Found
+fn line_end(s: &[u8], from: usize) -> Found
     requires { ⌜ from ≤ length (now s) ⌝ }
     ensures { λ r. ⌜ Lines (now (s .entry)) from r ⌝ }
 {
@@ -136,7 +136,7 @@ pub fn line_end(s: &[u8], from: usize) -> Found
 }
 
 // Whether a key stands at a position.
-pub fn has_key(s: &[u8], from: usize, key: &[u8]) -> bool
+fn has_key(s: &[u8], from: usize, key: &[u8]) -> bool
     requires { ⌜ from ≤ length (now s) ⌝ }
     ensures { λ r. ⌜ Keys (now (s .entry)) from (now (key .entry)) r ⌝ }
 {

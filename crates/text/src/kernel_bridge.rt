@@ -36,7 +36,7 @@ const ZERO: u32 = 4096;
 const ADD: u32 = 4098;
 
 // The place of a letter among the equation's letters: how many they are, if it is none of them.
-pub fn index_of(names: &[u32], n: u32) -> usize
+fn index_of(names: &[u32], n: u32) -> usize
     ensures { λ r. ⌜ r ≡ index-of n (now (names .entry)) ⌝ }
 {
     let mut i = 0;

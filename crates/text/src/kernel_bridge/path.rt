@@ -27,7 +27,7 @@ use terms::term;
 const ADD: u32 = 4098;
 
 // Where the part of a sum or product on one side starts: an atom is its own part.
-pub fn part_at(run: &[u32], from: usize, right: bool) -> usize
+fn part_at(run: &[u32], from: usize, right: bool) -> usize
     ensures { λ r. ⌜ ((t : Term) → Holds (now (run .entry)) from t → Holds (now (run .entry)) r (part (side-of right) t)) ⌝ }
 {
     if run.len() <= from {
@@ -176,7 +176,7 @@ fn render_congruence(
 
 // One line, from s to t, with its law at `place` of s. It calls itself for the part that has the place: its calls nest once for
 // each sum or product around the place.
-pub fn render_step(
+fn render_step(
     out: &mut [u8],
     at: usize,
     law: Law,
@@ -202,7 +202,7 @@ pub fn render_step(
 }
 
 // The line that leads to the term in slot k: nothing for the start.
-pub fn render_slot(out: &mut [u8], at: usize, ws: &[u32], k: u32, names: &[u32]) -> usize
+fn render_slot(out: &mut [u8], at: usize, ws: &[u32], k: u32, names: &[u32]) -> usize
     ensures { λ r. ⌜ ((ns : List Noted) (j : ℕ) (x : Line) → Slots (now (ws .entry)) ns → Linked (now (ws .entry)) ns j k x → Put (one-line (now (names .entry)) semiring (x .place) (x .direction) (x .law) (noted-at ns j .term) (x .result)) (now (out .entry)) at r (now (out .exit))) ⌝ }
 {
     let Origin::From(step) = path::origin_of(ws, k) else {

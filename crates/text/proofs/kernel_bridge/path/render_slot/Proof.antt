@@ -1,5 +1,6 @@
 -- `render_slot` meets its contract: the line by the step in slot k, from the term in the slot that it names.
-use Rattle.text.proofs.Joining.{no-start, step-put}
+use Rattle.text.proofs.Walks.{no-start}
+use Rattle.text.proofs.Joining.{step-put}
 use borrow.Author.Needs.{needs}
 use Rattle.text.proofs.kernel_bridge.path.render_slot.Statement.{statement}
 use Rattle.text.proofs.kernel_bridge.path.render_slot.Tie as tie
@@ -14,7 +15,7 @@ enum-told : tie.Need-enum-told
 enum-told c = search needs
 
 returns : tie.Need-returns
-returns c = λ ns j x S L. absurd (no-start L (c .before .before .origin-of .ensures) (c .enum-told .given .1))
+returns c = λ ns j x S L. absurd (no-start (c .before .before .origin-of .ensures) L (c .enum-told .given .1))
 
 run-of-requires : tie.Need-run-of-requires
 run-of-requires c κs = search needs
