@@ -9,8 +9,7 @@ use Rattle.search.specs.Law.{Name}
 use Rattle.search.specs.Line.{Line, forward}
 use Rattle.search.specs.Search.{Noted}
 use Rattle.search.specs.Slots.{noted-at, Slots}
-use Rattle.text.specs.Job.{Job}
-use Rattle.text.specs.Theory.Jobs.{Accepted}
+use Rattle.text.specs.Job.{Job, Accepted}
 
 -- the runs of an accepted job's sides
 pub record Sides (left right : List ℕ) (j : Job) : Type 0 where

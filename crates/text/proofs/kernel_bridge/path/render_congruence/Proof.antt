@@ -1,11 +1,11 @@
--- `render_frame` meets its contract.
+-- `render_congruence` meets its contract.
 use Rattle.text.specs.Bytes.{ascii}
 use Rattle.text.specs.Proof.{part}
 use Rattle.text.specs.Framed.{side-of, frame}
 use Rattle.text.proofs.Overlay.{then}
 use borrow.Author.Needs.{needs}
-use Rattle.text.proofs.kernel_bridge.path.render_frame.Statement.{statement}
-use Rattle.text.proofs.kernel_bridge.path.render_frame.Tie as tie
+use Rattle.text.proofs.kernel_bridge.path.render_congruence.Statement.{statement}
+use Rattle.text.proofs.kernel_bridge.path.render_congruence.Tie as tie
 
 part-at-requires : tie.Need-part-at-requires
 part-at-requires c κs = search needs
@@ -69,8 +69,8 @@ returns c =
     (then (d4 .render-term .ensures (part d u) (d9 .part-at .ensures u h))
     (then (d3 .put-bytes3 .ensures) (then (d2 .render-term2 .ensures (part d v) (d8 .part-at2 .ensures v k)) (d1 .put-bytes4 .ensures))))))
 
-pub render-frame-spec : {M : Type 1} → statement M
-render-frame-spec =
+pub render-congruence-spec : {M : Type 1} → statement M
+render-congruence-spec =
     tie.close
     (tie.spec
     part-at-requires

@@ -1,8 +1,9 @@
--- `render_step` meets its contract: the line by the step in slot k, from the term in the slot that it names.
-use Rattle.text.proofs.Joining.{no-start, step-put}
+-- `render_slot` meets its contract: the line by the step in slot k, from the term in the slot that it names.
+use Rattle.text.proofs.Walks.{no-start}
+use Rattle.text.proofs.Joining.{step-put}
 use borrow.Author.Needs.{needs}
-use Rattle.text.proofs.kernel_bridge.path.render_step.Statement.{statement}
-use Rattle.text.proofs.kernel_bridge.path.render_step.Tie as tie
+use Rattle.text.proofs.kernel_bridge.path.render_slot.Statement.{statement}
+use Rattle.text.proofs.kernel_bridge.path.render_slot.Tie as tie
 
 origin-of-requires : tie.Need-origin-of-requires
 origin-of-requires c κs = search needs
@@ -14,7 +15,7 @@ enum-told : tie.Need-enum-told
 enum-told c = search needs
 
 returns : tie.Need-returns
-returns c = λ ns j x S L. absurd (no-start L (c .before .before .origin-of .ensures) (c .enum-told .given .1))
+returns c = λ ns j x S L. absurd (no-start (c .before .before .origin-of .ensures) L (c .enum-told .given .1))
 
 run-of-requires : tie.Need-run-of-requires
 run-of-requires c κs = search needs
@@ -22,11 +23,11 @@ run-of-requires c κs = search needs
 run-of-requires-2 : tie.Need-run-of-requires-2
 run-of-requires-2 c κs = search needs
 
-cast-render-congruence : tie.Need-cast-render-congruence
-cast-render-congruence c = search needs
+cast-render-step : tie.Need-cast-render-step
+cast-render-step c = search needs
 
-render-congruence-requires : tie.Need-render-congruence-requires
-render-congruence-requires c κs = search needs
+render-step-requires : tie.Need-render-step-requires
+render-step-requires c κs = search needs
 
 same-length : tie.Need-same-length
 same-length c = search needs
@@ -40,10 +41,10 @@ returns-2 c =
     let d5 = d4 .before .before in
     λ ns j x S L.
     step-put S L (d5 .before .before .before .before .args .names .now) (d4 .step .given .0 .0) (d5 .origin-of .ensures) (d4 .step .given .1) (d3 .run-of .ensures)
-    (d2 .run-of2 .ensures) (d1 .render-congruence .ensures)
+    (d2 .run-of2 .ensures) (d1 .render-step .ensures)
 
-pub render-step-spec : {M : Type 1} → statement M
-render-step-spec =
+pub render-slot-spec : {M : Type 1} → statement M
+render-slot-spec =
     tie.close
     (tie.spec
     origin-of-requires
@@ -52,7 +53,7 @@ render-step-spec =
     returns
     run-of-requires
     run-of-requires-2
-    cast-render-congruence
-    render-congruence-requires
+    cast-render-step
+    render-step-requires
     same-length
     returns-2)

@@ -1,8 +1,8 @@
 -- `put_proof` meets its contract: the path inside the binders.
 use Rattle.text.proofs.Joining.{proof-put}
 use borrow.Author.Needs.{needs}
-use Rattle.text.proofs.kernel_bridge.path.put_proof.Statement.{statement}
-use Rattle.text.proofs.kernel_bridge.path.put_proof.Tie as tie
+use Rattle.text.proofs.kernel_bridge.lambdas.put_proof.Statement.{statement}
+use Rattle.text.proofs.kernel_bridge.lambdas.put_proof.Tie as tie
 
 open-lambdas-requires : tie.Need-open-lambdas-requires
 open-lambdas-requires c κs = search needs

@@ -9,8 +9,8 @@ use Rattle.text.specs.Put.{Put}
 use Rattle.text.specs.Framed.{closes}
 use Rattle.text.proofs.Overlay.{then, put-as, put-none}
 use borrow.Author.Needs.{needs}
-use Rattle.text.proofs.kernel_bridge.path.close_lambdas.Statement.{statement}
-use Rattle.text.proofs.kernel_bridge.path.close_lambdas.Tie as tie
+use Rattle.text.proofs.kernel_bridge.lambdas.close_lambdas.Statement.{statement}
+use Rattle.text.proofs.kernel_bridge.lambdas.close_lambdas.Tie as tie
 
 abbrev Inv-loop : tie.InvT-loop
 Inv-loop out₀ at n p₀ i₀ out p i = (i ≤ n) × (length out ≡ length out₀) × Put (closes i) out₀ at p out
