@@ -5,14 +5,14 @@ use native.Mathlib.Numerals.{add-one}
 use mathlib.Core.Path.{_≡_, refl, ap, _∙_}
 use mathlib.Core.Logic.{⊎-elim}
 use mathlib.Core.Bool.{Bool, true, _&&_}
-use mathlib.Core.List.{[], _∷_, map}
+use mathlib.Core.List.{[], _∷_}
 use lib.Dec.{T, eqb, eqb→eq}
 use lib.ListN.{drop, drop-of-length-le}
 use lib.Seq.{drop-cons}
 use Rattle.terms.specs.Theory.Reflects.{both}
 use Rattle.terms.specs.Theory.Order.{below?}
 use Rattle.search.specs.Law.{rank, semiring}
-use Rattle.search.specs.Coded.{name-of, laws, law-number, numbered-law, law-at, law-of, direction-number, numbered-direction}
+use Rattle.search.specs.Coded.{name-of, law-number, numbered-law, law-at, law-of, direction-number, numbered-direction}
 use Rattle.search.specs.declared.search.Law.{Law}
 use Rattle.search.specs.declared.search.Law.the-variants.{AddAssoc, AddComm, AddZeroRight, MulAssoc, MulOneLeft, MulOneRight, LeftDistrib, RightDistrib, ZeroMul, MulZero}
 use Rattle.search.specs.declared.search.Direction.{Direction}
@@ -44,11 +44,6 @@ number-below = each-law (λ w. law-number w < 10) (omega arith, omega arith, ome
 pub direction-read-back : (d : Direction) → numbered-direction (direction-number d) ≡ d
 direction-read-back Forward = refl
 direction-read-back Back = refl
-
--- the laws of the code, in order, are the law list
-pub laws-are : map law-of laws ≡ semiring
-unfolding law-at semiring
-laws-are = refl
 
 -- each stands for the law of its name
 pub law-named : (w : Law) → law-of w .name ≡ name-of w

@@ -5,7 +5,6 @@ use mathlib.Core.Path.{_≡_, sym, ap, _∙_}
 use mathlib.Core.List.{List}
 use lib.ListN.{length, drop, getD, drop-of-length-le}
 use Rattle.terms.proofs.Positions.{drop-one}
-use Rattle.terms.specs.Run.{run}
 use Rattle.search.specs.Search.{Noted}
 use Rattle.search.specs.Index.{slots-of, hash, bucket, head-of}
 use Rattle.search.specs.Slots.{noted-at, home, Slots, Heads}

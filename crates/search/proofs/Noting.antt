@@ -8,7 +8,6 @@ use mathlib.Core.List.{List, [], _∷_, _++_}
 use lib.ListN.{length, take}
 use lib.Seq.{take-suc, take-all}
 use Rattle.terms.specs.Term.{Term, zero, same}
-use Rattle.terms.specs.Run.{run}
 use Rattle.terms.specs.Held.{IsRun}
 use Rattle.terms.specs.Promises.{Equals}
 use Rattle.terms.specs.Theory.Reflects.{Reflects}

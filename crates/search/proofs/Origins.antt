@@ -49,6 +49,3 @@ take-sets n xs i (v ∷ vs) h = take-sets n (set xs i v) (suc i) vs (omega arith
 pub four : (o : Origin) → length (numbers o) ≡ 4
 four Start = refl
 four (From s) = refl
-
-pub round-trip : (ws : List ℕ) (at : ℕ) (o : Origin) → at + 4 ≤ length ws → origin-at (sets ws at (numbers o)) at ≡ o
-round-trip ws at o h = origin-back (sets ws at (numbers o)) at o (λ k q. getD-sets ws at (numbers o) k (omega (arith, four o)) (omega (arith, four o)))

@@ -13,10 +13,9 @@ use lib.Seq.{drop-cons}
 use Rattle.terms.specs.Term.{Term, zero, same}
 use Rattle.terms.specs.Theory.Order.{below?}
 use Rattle.search.specs.Law.{Name, semiring}
-use Rattle.search.specs.Line.{Line, Limits, forward}
-use Rattle.search.specs.Search.{Noted, is-noted, entry, Turn, ended, goes-on, note, Outcome, proved, unproved, noted, run, direct, search}
+use Rattle.search.specs.Line.{Line, Limits}
+use Rattle.search.specs.Search.{Noted, is-noted, entry, Turn, ended, goes-on, note, Outcome, proved, unproved, noted, run, direct, whole-line, begun, search}
 use Rattle.search.specs.Slots.{noted-at}
-use Rattle.search.specs.Searched.{begun}
 use Rattle.search.specs.Theory.Note.{note-cases}
 
 -- the results of one term, one after another
@@ -124,10 +123,10 @@ module _ (next : Term → List Line) (steps : ℕ) (right : Term) where
 -- the search: a direct match, or the noted terms in turn
 
 module _ (m : Limits) (s t : Term) where
-  pub search-direct : (n : Name) → direct semiring s t ≡ some n → search semiring m s t ≡ proved (record { law = n; direction = forward; place = []; result = t } ∷ []) 0 0
+  pub search-direct : (n : Name) → direct semiring s t ≡ some n → search semiring m s t ≡ proved (whole-line n t ∷ []) 0 0
   unfolding search
   search-direct n e = rw (e, search)
 
-  pub search-begun : direct semiring s t ≡ none → search semiring m s t ≡ begun m s t
+  pub search-begun : direct semiring s t ≡ none → search semiring m s t ≡ begun semiring m s t
   unfolding search
   search-begun e = rw (e, search)

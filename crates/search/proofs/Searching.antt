@@ -12,10 +12,10 @@ use Rattle.terms.specs.Held.{IsRun}
 use Rattle.search.specs.Law.{semiring}
 use Rattle.search.specs.Line.{Line, results}
 use Rattle.search.specs.Search as search
-use Rattle.search.specs.Search.{Noted, entry, note, unproved, run}
+use Rattle.search.specs.Search.{Noted, entry, note, unproved, run, begun}
 use Rattle.search.specs.Slots.{distance-of, noted-at, Slots}
 use Rattle.search.specs.Ordered.{Ordered}
-use Rattle.search.specs.Searched.{limits-of, begun, Opens, Became, Takes, Arrives, Explores}
+use Rattle.search.specs.Searched.{limits-of, Opens, Became, Takes, Arrives, Explores}
 use Rattle.search.specs.declared.bounded_search.Limits.{Limits}
 use Rattle.search.specs.declared.bounded_search.Taken.{Taken}
 use Rattle.search.specs.declared.bounded_search.Taken.the-variants as taken
@@ -48,7 +48,7 @@ pub record Midway (o : search.Outcome) (m : Limits) (s t : Term) (ws : List ℕ)
 
 -- what holds of every search that starts with what a workspace has, ws₀
 abbrev pub Always : List ℕ → Limits → List ℕ → (search.Outcome → Term → Term → Type 0) → Type 0
-Always right m ws₀ P = (s t : Term) → Slots ws₀ (record { term = s; trail = [] } ∷ []) → IsRun right t → m .size ≤ 31 → P (begun (limits-of m) s t) s t
+Always right m ws₀ P = (s t : Term) → Slots ws₀ (record { term = s; trail = [] } ∷ []) → IsRun right t → m .size ≤ 31 → P (begun semiring (limits-of m) s t) s t
 
 -- the loops' invariants, of which the second tells how the results were taken since the term was opened
 
@@ -212,10 +212,10 @@ module _ {right : List ℕ} {m : Limits} {slots : ℕ} {ws : List ℕ} {count i 
 
     module _ {ws₀ : List ℕ} (O : Opened right m ws₀ ws₁ count₁ i d res order n) where
       pub ends-proved : r ≡ taken.Right → Explores right m slots ws₀ ws′ (Proved (i + 1) (count + 1))
-      ends-proved e = record { exact = λ s t S ht k. let o = begun (limits-of m) s t in met o s t ht (Tu o s t ht (O s t S ht k)) e }
+      ends-proved e = record { exact = λ s t S ht k. let o = begun semiring (limits-of m) s t in met o s t ht (Tu o s t ht (O s t S ht k)) e }
 
       pub ends-full : r ≡ taken.Full → Explores right m slots ws₀ ws′ Full
-      ends-full e = record { exact = λ s t S ht k. let o = begun (limits-of m) s t in full o s t ht (Tu o s t ht (O s t S ht k)) e }
+      ends-full e = record { exact = λ s t S ht k. let o = begun semiring (limits-of m) s t in full o s t ht (Tu o s t ht (O s t S ht k)) e }
 
 -- all results are taken
 pub all-taken : {right : List ℕ} {m : Limits} {i d : ℕ} {res order : List ℕ} {n : ℕ} {ws₁ : List ℕ} {count₁ : ℕ} {ws : List ℕ} {count j : ℕ}
@@ -223,6 +223,6 @@ pub all-taken : {right : List ℕ} {m : Limits} {i d : ℕ} {res order : List �
     → Standing right m ws₀ ws count (i + 1)
 unfolding note
 all-taken {m = m} {order = order} {n = n} {j = j} Tu O h room s t S ht k =
-    let g = Tu (begun (limits-of m) s t) s t ht (O s t S ht k) in
+    let g = Tu (begun semiring (limits-of m) s t) s t ht (O s t S ht k) in
     let e : length (g .lines) ≤ j = omega (arith, ordered-length (g .ordered), length-take-le n order room) in
     record { ns = g .ns; slots = g .slots; counted = g .counted; start = g .start; is = g .is ∙ rw (drop-of-length-le (g .lines) e) }

@@ -69,13 +69,6 @@ module _ {ws : List ℕ} {ns : List Noted} (S : Slots ws ns) (k : ℕ) (h : k < 
       go Start e = from-start e
       go (From s) e = absurd (omega (arith, longer s e))
 
-pub start-trail : {ws : List ℕ} {ns : List Noted} → Slots ws ns → 0 < length ns → noted-at ns 0 .trail ≡ []
-start-trail {ws} {ns} S h = go (origin-of ws 0) refl
-  where
-    go : (o : Origin) → o ≡ origin-of ws 0 → noted-at ns 0 .trail ≡ []
-    go Start e = from-start S 0 h e .1
-    go (From s) e = absurd (omega (arith, leads S 0 h s e .before))
-
 -- slot k is `at` lines from the start, and the slots ks lead on from it to the last slot
 pub record Reaches (ws : List ℕ) (ns : List Noted) (last k at : ℕ) (ks : List ℕ) : Type 0 where
   pub within : k < length ns

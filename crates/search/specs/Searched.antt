@@ -8,9 +8,9 @@ use Rattle.terms.specs.Term.{Term, size, same}
 use Rattle.terms.specs.Held.{IsRun}
 use Rattle.search.specs.Law.{semiring}
 use Rattle.search.specs.Line as line
-use Rattle.search.specs.Line.{Line, forward, results}
+use Rattle.search.specs.Line.{Line, results}
 use Rattle.search.specs.Search as search
-use Rattle.search.specs.Search.{Noted, is-noted, entry, proved, unproved, run}
+use Rattle.search.specs.Search.{Noted, is-noted, entry, proved, unproved, whole-line, begun}
 use Rattle.search.specs.Coded.{name-of}
 use Rattle.search.specs.Slots.{Spells, noted-at, Slots}
 pub use Rattle.search.specs.Index.{slots-of}
@@ -23,10 +23,6 @@ use Rattle.search.specs.declared.bounded_search.Outcome.the-variants.{Di
 
 abbrev pub limits-of : Limits → line.Limits
 limits-of m = record { steps = m .steps; size = m .size; depth = m .depth; nodes = m .nodes }
-
--- the search from s to t where no law matches the whole equation
-abbrev pub begun : line.Limits → Term → Term → search.Outcome
-begun m s t = run (results semiring m) (m .steps) t (m .nodes) 0 (record { term = s; trail = [] } ∷ [])
 
 -- what the functions promise
 
@@ -67,7 +63,7 @@ pub record Arrives (slots : ℕ) (ws : List ℕ) (s : Term) (e n : ℕ) (o : sea
 
 -- an answer in a search from s to t, with so many slots, against the outcome
 abbrev pub Answers : Outcome → ℕ → List ℕ → Term → Term → search.Outcome → Type 0
-Answers (Direct w) slots ws s t o = o ≡ proved (record { law = name-of w; direction = forward; place = []; result = t } ∷ []) 0 0
+Answers (Direct w) slots ws s t o = o ≡ proved (whole-line (name-of w) t ∷ []) 0 0
 Answers (Proved e n) slots ws s t o = Arrives slots ws s e n o
 Answers (Unproved e) slots ws s t o = (n : ℕ) × (n ≤ slots) × (o ≡ unproved e n)
 Answers Full slots ws s t o = slots < search.noted o
@@ -75,7 +71,7 @@ Answers Full slots ws s t o = slots < search.noted o
 -- of `explore`
 pub record Explores (right : List ℕ) (m : Limits) (slots : ℕ) (ws ws′ : List ℕ) (r : Outcome) : Type 0 where
   pub exact : (s t : Term) → Slots ws (record { term = s; trail = [] } ∷ []) → IsRun right t → m .size ≤ 31
-      → Answers r slots ws′ s t (begun (limits-of m) s t)
+      → Answers r slots ws′ s t (begun semiring (limits-of m) s t)
 
 -- of `search_bounded_rewrite`
 pub record Searches (left right : List ℕ) (m : Limits) (ws ws′ : List ℕ) (r : Outcome) : Type 0 where

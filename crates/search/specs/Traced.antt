@@ -1,5 +1,5 @@
 -- The path to a noted term as it stands in the slots, and a place read one side after another.
-use Prim.Native.Nat.{ℕ, _+_, _-_, _*_, _≤_, _<_}
+use Prim.Native.Nat.{ℕ, _-_, _≤_, _<_}
 use mathlib.Core.Path.{_≡_}
 use mathlib.Core.List.{List, [], _∷_}
 use lib.ListN.{length, take}
@@ -7,12 +7,9 @@ use Rattle.terms.specs.Term.{Term, size}
 use Rattle.terms.specs.Held.{IsRun, Holds}
 use Rattle.search.specs.Line.{Line, Side, l, r}
 use Rattle.search.specs.Search.{Noted, entry}
-use Rattle.search.specs.Coded.{name-of, direction-of}
 use Rattle.search.specs.Place.{place-at}
-use Rattle.search.specs.Origins.{step-at}
-use Rattle.search.specs.Slots.{SLOT, Spells, origin-of, noted-at, Slots}
+use Rattle.search.specs.Slots.{Spells, origin-of, noted-at, Slots}
 use Rattle.search.specs.Ordered.{Result}
-use Rattle.search.specs.declared.bounded_search.Step.{Step}
 use Rattle.search.specs.declared.bounded_search.Origin.{Origin}
 use Rattle.search.specs.declared.path.Turn.{Turn}
 use Rattle.search.specs.declared.path.Turn.the-variants.{Here, Left, Right}
@@ -28,20 +25,6 @@ pub record Linked (ws : List ℕ) (ns : List Noted) (j k : ℕ) (x : Line) : Typ
 pub data Traced (ws : List ℕ) (ns : List Noted) : ℕ → List ℕ → List Line → Type 0 where
   none : {j : ℕ} → Traced ws ns j [] []
   more : {j k : ℕ} {ks : List ℕ} {x : Line} {xs : List Line} → Linked ws ns j k x → Traced ws ns k ks xs → Traced ws ns j (k ∷ ks) (x ∷ xs)
-
--- the line that a step to the term u stands for
-abbrev pub line-by : Step → List Noted → Term → Line
-line-by s ns u =
-    record {
-      law = name-of (s .law);
-      direction = direction-of (s .direction);
-      place = place-at (noted-at ns (s .parent) .term) (s .place);
-      result = u;
-    }
-
--- the line read from slot k
-abbrev pub line-of : List ℕ → List Noted → ℕ → Line
-line-of ws ns k = line-by (step-at ws (SLOT * k + 1)) ns (noted-at ns k .term)
 
 -- what the functions promise
 

@@ -12,7 +12,6 @@ use Rattle.terms.specs.Held.{Fine, IsRun, Holds}
 use Rattle.terms.specs.Theory.Held.{length-run}
 use Rattle.terms.specs.Theory.ReadRun.{run-read}
 use Rattle.terms.proofs.Positions.{drop-head, drop-past, drop-take}
-use Rattle.terms.proofs.Skipped.{skip-held}
 
 pub size-pos : (t : Term) → 0 < size t
 unfolding size
@@ -36,9 +35,6 @@ held-part {xs} {i} {t} n h e = record { fine = h .fine; whole = rw (h .here) (ta
 
 pub run-one : {xs : List ℕ} {s t : Term} → IsRun xs s → IsRun xs t → s ≡ t
 run-one {s = s} {t = t} p q = let e : some s ≡ some t = sym (run-read p) ∙ run-read q in cc
-
-pub holds-one : {xs : List ℕ} {i : ℕ} {s t : Term} → Holds xs i s → Holds xs i t → s ≡ t
-holds-one {s = s} {t = t} p q = let e : size s ≡ size t = sym (skip-held p) ∙ skip-held q in run-one (held-part (size s) p refl) (held-part (size s) q e)
 
 -- where the parts of a sum or product start
 

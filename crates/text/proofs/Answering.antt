@@ -17,7 +17,7 @@ use Rattle.terms.proofs.Gathered.{fills-front}
 use Rattle.terms.proofs.Held.{size-pos}
 use Rattle.search.specs.Law.{semiring}
 use Rattle.search.specs.Line.{Line}
-use Rattle.search.specs.Search.{Noted, proved, unproved, entry, noted, search}
+use Rattle.search.specs.Search.{Noted, proved, unproved, entry, noted, whole-line, search}
 use Rattle.search.specs.Coded.{name-of}
 use Rattle.search.specs.Place.{place-at}
 use Rattle.search.specs.Slots.{noted-at, Starts, Notes}
@@ -34,7 +34,7 @@ use Rattle.text.specs.Job.{Job, read-job}
 use Rattle.text.specs.Find.{find, searched, told}
 use Rattle.text.specs.Entry.{Call}
 use Rattle.text.specs.Walk.{Walk}
-use Rattle.text.specs.Answering.{Sides, Led, whole-line}
+use Rattle.text.specs.Answering.{Sides, Led}
 use Rattle.text.proofs.Measured.{refuses}
 use Rattle.text.proofs.Entries.{accepted-job}
 

@@ -1,12 +1,11 @@
 -- What the functions that answer FIND go by.
 use Prim.Native.Nat.{ℕ, _<_}
 use mathlib.Core.Path.{_≡_}
-use mathlib.Core.List.{List, []}
+use mathlib.Core.List.{List}
 use lib.ListN.{length}
 use Rattle.terms.specs.Term.{Term}
 use Rattle.terms.specs.Held.{IsRun}
-use Rattle.search.specs.Law.{Name}
-use Rattle.search.specs.Line.{Line, forward}
+use Rattle.search.specs.Line.{Line}
 use Rattle.search.specs.Search.{Noted}
 use Rattle.search.specs.Slots.{noted-at, Slots}
 use Rattle.text.specs.Job.{Job, Accepted}
@@ -24,7 +23,3 @@ pub record Led (ws : List ℕ) (s : Term) (k : ℕ) (xs : List Line) : Type 0 wh
   pub start : noted-at noted 0 .term ≡ s
   pub within : k < length noted
   pub trail : noted-at noted k .trail ≡ xs
-
--- the line of a law that matches the whole equation
-abbrev pub whole-line : Name → Term → Line
-whole-line n t = record { law = n; direction = forward; place = []; result = t }

@@ -2,7 +2,7 @@
 use Prim.Native.Nat.{ℕ}
 use mathlib.Core.Path.{refl}
 use mathlib.Core.Logic.{⊎-elim}
-use mathlib.Core.List.{List, [], _∷_}
+use mathlib.Core.List.{List}
 use Rattle.terms.specs.Lists.{_∈_, here, not-in-nil, only-one, cons-cases, append-cases, in-left, in-right}
 use Rattle.terms.specs.Term.{Term, letter, zero, one, add, mul, subst}
 use Rattle.terms.specs.Letters.{letters}

@@ -2,10 +2,10 @@
 use Prim.Native.Nat.{ℕ, _<_}
 use native.Mathlib.Omega.{arith}
 use mathlib.Core.Path.{_≡_, refl, _∙_, ap}
-use mathlib.Core.Logic.{_↔_, ⊎-elim}
+use mathlib.Core.Logic.{⊎-elim}
 use mathlib.Core.List.{List}
 use lib.ListN.{length, length-append}
-use Rattle.terms.specs.Lists.{here, not-in-nil, only-one, append-cases, in-left, in-right}
+use Rattle.terms.specs.Lists.{not-in-nil, only-one, append-cases}
 use Rattle.terms.specs.Compare.{order-numbers}
 use Rattle.terms.specs.Term.{Term, letter, zero, one, add, mul, size, order}
 use Rattle.terms.specs.Letters.{letters, EachLetter}
@@ -21,17 +21,6 @@ fine-letters zero f n i = absurd (not-in-nil i)
 fine-letters one f n i = absurd (not-in-nil i)
 fine-letters (add s t) f n i = ⊎-elim (fine-letters s (f .0) n) (fine-letters t (f .1) n) (append-cases (letters s) i)
 fine-letters (mul s t) f n i = ⊎-elim (fine-letters s (f .0) n) (fine-letters t (f .1) n) (append-cases (letters s) i)
-
-pub letters-fine : (t : Term) → EachLetter (λ n. n < ZERO) t → Fine t
-unfolding Fine letters
-letters-fine (letter m) h = h m (here refl)
-letters-fine zero h = tt
-letters-fine one h = tt
-letters-fine (add s t) h = (letters-fine s (λ n i. h n (in-left (letters t) i)), letters-fine t (λ n i. h n (in-right (letters s) i)))
-letters-fine (mul s t) h = (letters-fine s (λ n i. h n (in-left (letters t) i)), letters-fine t (λ n i. h n (in-right (letters s) i)))
-
-pub fine-each : (t : Term) → Fine t ↔ EachLetter (λ n. n < ZERO) t
-fine-each t = (fine-letters t, letters-fine t)
 
 pub length-run : (t : Term) → length (run t) ≡ size t
 unfolding run size
