@@ -1,17 +1,17 @@
-//! Links the static library of the crate `bench`, which `rt staticlib bench` writes.
+//! Links the static library of the crate `text`, which `rt staticlib text` writes.
 
 use std::path::PathBuf;
 
 fn main() {
     let package = PathBuf::from(std::env::var("CARGO_MANIFEST_DIR").expect("cargo sets it"));
     let folder = package.join("../target/staticlib");
-    let library = folder.join("libbench.a");
+    let library = folder.join("libtext.a");
     assert!(
         library.exists(),
-        "\n\nNo {}: run `rt staticlib bench` first.\n\n",
+        "\n\nNo {}: run `rt staticlib text` first.\n\n",
         library.display()
     );
     println!("cargo::rerun-if-changed={}", library.display());
     println!("cargo::rustc-link-search=native={}", folder.display());
-    println!("cargo::rustc-link-lib=static=bench");
+    println!("cargo::rustc-link-lib=static=text");
 }

@@ -1,13 +1,22 @@
-//! The proved functions beside the Rust, in one process, on the same inputs. Each pair's results are compared first.
+//! The three entries beside the Rust, in one process, on the same jobs. Each pair's answers are compared first.
+//!
+//! With the argument `ours`, the search at the largest limits alone, on our side alone, for a profiler.
 
+mod find;
+mod job;
+mod lists;
+mod noted;
 mod ours;
-mod search;
 mod table;
-mod term;
-mod words;
 
 fn main() {
+    let mut workspace = ours::Workspace::new();
+    if std::env::args().nth(1).as_deref() == Some("ours") {
+        find::ours_alone(&mut workspace);
+        return;
+    }
     table::head();
-    words::rows();
-    search::rows();
+    find::rows(&mut workspace);
+    lists::rows(&mut workspace);
+    noted::rows(&mut workspace);
 }

@@ -1,109 +1,70 @@
-//! The proved functions, called over slices.
+//! The three entries, called as a host calls them.
+
+use oracle::{Entry, Given};
 
 unsafe extern "C" {
-    fn bench_words(run: *const u32, run_len: usize, out: *mut u32, out_len: usize) -> usize;
-    fn bench_canonical_terms(
-        a: *const u32,
-        a_len: usize,
-        b: *const u32,
-        b_len: usize,
-        left: *mut u32,
-        left_len: usize,
-        right: *mut u32,
-        right_len: usize,
+    fn puvainy_find(
+        job: *const u8,
+        job_len: usize,
+        output: *mut u8,
+        output_len: usize,
+        workspace: *mut u32,
+        workspace_len: usize,
     ) -> usize;
-    fn bench_canonical_words(
-        a: *const u32,
-        a_len: usize,
-        b: *const u32,
-        b_len: usize,
-        left: *mut u32,
-        left_len: usize,
-        right: *mut u32,
-        right_len: usize,
-    ) -> usize;
-    fn bench_search(
-        left: *const u32,
-        left_len: usize,
-        right: *const u32,
-        right_len: usize,
-        steps: u32,
-        size: u32,
-        depth: u32,
-        nodes: u32,
-        ws: *mut u32,
-        ws_len: usize,
-    ) -> usize;
+    fn puvainy_words(job: *const u8, job_len: usize, output: *mut u8, output_len: usize) -> usize;
+    fn puvainy_rename(job: *const u8, job_len: usize, output: *mut u8, output_len: usize) -> usize;
 }
 
-/// What a search came to, and how many terms it opened.
-#[derive(Debug, Eq, PartialEq)]
-pub enum Outcome {
-    Full,
-    Direct,
-    Proved(usize),
-    Unproved(usize),
+const SLOT: usize = 40;
+
+/// The most slots that are used.
+pub const MOST_SLOTS: usize = 65_535;
+
+/// Room for any answer of the bench.
+const ROOM: usize = 1 << 20;
+
+/// The slots and the output that every call shares: each leaves them as it likes for the next.
+pub struct Workspace {
+    numbers: Vec<u32>,
+    output: Vec<u8>,
 }
 
-/// The bounded search, with limits steps, size, depth and nodes.
-pub fn search(left: &[u32], right: &[u32], limits: [u32; 4], ws: &mut [u32]) -> Outcome {
-    let [steps, size, depth, nodes] = limits;
-    let told = unsafe {
-        bench_search(
-            left.as_ptr(),
-            left.len(),
-            right.as_ptr(),
-            right.len(),
-            steps,
-            size,
-            depth,
-            nodes,
-            ws.as_mut_ptr(),
-            ws.len(),
-        )
-    };
-    match told % 4 {
-        0 => Outcome::Full,
-        1 => Outcome::Direct,
-        2 => Outcome::Proved(told / 4),
-        _ => Outcome::Unproved(told / 4),
+impl Workspace {
+    pub fn new() -> Workspace {
+        Workspace {
+            numbers: vec![0xdead_beef; MOST_SLOTS * SLOT],
+            output: vec![0; ROOM],
+        }
     }
-}
 
-/// The words of a run, as one run; answers its length.
-pub fn words(run: &[u32], out: &mut [u32]) -> usize {
-    // The function is proved for every slice, and keeps none.
-    unsafe { bench_words(run.as_ptr(), run.len(), out.as_mut_ptr(), out.len()) }
-}
-
-/// The least equation of two terms, in two buffers; answers the left side's length.
-pub fn canonical_terms(a: &[u32], b: &[u32], left: &mut [u32], right: &mut [u32]) -> usize {
-    unsafe {
-        bench_canonical_terms(
-            a.as_ptr(),
-            a.len(),
-            b.as_ptr(),
-            b.len(),
-            left.as_mut_ptr(),
-            left.len(),
-            right.as_mut_ptr(),
-            right.len(),
-        )
+    /// One call with so many slots and bytes of room: what it returns.
+    pub fn call(&mut self, entry: Entry, job: &[u8], slots: usize, room: usize) -> usize {
+        let output = &mut self.output[..room];
+        let numbers = &mut self.numbers[..slots * SLOT];
+        let (text, text_len) = (job.as_ptr(), job.len());
+        let (out, out_len) = (output.as_mut_ptr(), output.len());
+        // The entries are proved for every slice, and keep none.
+        unsafe {
+            match entry {
+                Entry::Find => puvainy_find(
+                    text,
+                    text_len,
+                    out,
+                    out_len,
+                    numbers.as_mut_ptr(),
+                    numbers.len(),
+                ),
+                Entry::Words => puvainy_words(text, text_len, out, out_len),
+                Entry::Rename => puvainy_rename(text, text_len, out, out_len),
+            }
+        }
     }
-}
 
-/// The least equation of the words of two terms, in two buffers; answers the left list's length.
-pub fn canonical_words(a: &[u32], b: &[u32], left: &mut [u32], right: &mut [u32]) -> usize {
-    unsafe {
-        bench_canonical_words(
-            a.as_ptr(),
-            a.len(),
-            b.as_ptr(),
-            b.len(),
-            left.as_mut_ptr(),
-            left.len(),
-            right.as_mut_ptr(),
-            right.len(),
-        )
+    /// The answer of one call.
+    pub fn answer(&mut self, entry: Entry, job: &[u8], slots: usize, room: usize) -> Given {
+        match self.call(entry, job, slots, room) {
+            refused @ 0..100 => Err(refused as u8),
+            told => Ok(self.output[..told - 100].to_vec()),
+        }
     }
 }

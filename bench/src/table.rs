@@ -1,11 +1,12 @@
-//! The table of times: the Rust, ours, and how many times faster ours is.
+//! The table of times: the Rust, ours, and how many times faster ours is. Times are this thread's on the processor, so that other work
+//! on the machine counts for less.
 
 use std::hint::black_box;
-use std::time::{Duration, Instant};
+use std::time::Duration;
 
 pub fn head() {
     let (rust, ours, ratio) = ("Rust µs", "ours µs", "ratio");
-    println!("{:<44} {rust:>12} {ours:>12} {ratio:>8}", "");
+    println!("{:<52} {rust:>14} {ours:>12} {ratio:>8}", "");
 }
 
 /// One line of the table: the best of several rounds of each, turn by turn.
@@ -15,20 +16,59 @@ pub fn row<R, O>(
     mut rust: impl FnMut() -> R,
     mut ours: impl FnMut() -> O,
 ) {
+    let (many, often) = (batch(&mut rust), batch(&mut ours));
     let (mut theirs, mut own) = (Duration::MAX, Duration::MAX);
     for _ in 0..rounds {
-        theirs = theirs.min(time(&mut rust));
-        own = own.min(time(&mut ours));
+        theirs = theirs.min(time(many, &mut rust));
+        own = own.min(time(often, &mut ours));
     }
-    let (theirs, own) = (theirs.as_secs_f64() * 1e6, own.as_secs_f64() * 1e6);
+    let theirs = theirs.as_secs_f64() * 1e6 / f64::from(many);
+    let own = own.as_secs_f64() * 1e6 / f64::from(often);
     println!(
-        "{what:<44} {theirs:>12.1} {own:>12.1} {:>8.1}",
+        "{what:<52} {theirs:>14.1} {own:>12.1} {:>8.1}",
         theirs / own
     );
 }
 
-fn time<T>(call: &mut impl FnMut() -> T) -> Duration {
-    let start = Instant::now();
-    black_box(call());
-    start.elapsed()
+/// The best of several rounds of one call, in seconds.
+pub fn best<T>(rounds: usize, mut call: impl FnMut() -> T) -> f64 {
+    let many = batch(&mut call);
+    let least = (0..rounds).map(|_| time(many, &mut call)).min();
+    least.expect("there is a round").as_secs_f64() / f64::from(many)
+}
+
+/// How many calls take about half a millisecond, so that reading the clock counts for nothing.
+fn batch<T>(call: &mut impl FnMut() -> T) -> u32 {
+    let once = time(1, call).as_nanos().max(1);
+    u32::try_from(500_000 / once).unwrap_or(1).max(1)
+}
+
+fn time<T>(many: u32, call: &mut impl FnMut() -> T) -> Duration {
+    let start = now();
+    for _ in 0..many {
+        black_box(call());
+    }
+    now() - start
+}
+
+#[repr(C)]
+struct Timespec {
+    seconds: i64,
+    nanoseconds: i64,
+}
+
+unsafe extern "C" {
+    fn clock_gettime(clock: i32, time: *mut Timespec) -> i32;
+}
+
+/// Linux's clock of the time that this thread has had.
+const THREAD: i32 = 3;
+
+fn now() -> Duration {
+    let mut time = Timespec {
+        seconds: 0,
+        nanoseconds: 0,
+    };
+    assert_eq!(unsafe { clock_gettime(THREAD, &mut time) }, 0);
+    Duration::new(time.seconds as u64, time.nanoseconds as u32)
 }

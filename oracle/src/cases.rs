@@ -1,7 +1,7 @@
 //! Document 01's cases, each with the answer that is due.
 
 use crate::plain::job;
-use crate::{Call, Entry, PROGRAM_ROOM, PROGRAM_SLOTS, checked};
+use crate::{Call, Entry, Given, PROGRAM_ROOM, PROGRAM_SLOTS, checked};
 
 pub struct Case {
     pub name: &'static str,
@@ -10,12 +10,17 @@ pub struct Case {
 }
 
 impl Case {
+    /// What is due.
+    pub fn given(&self) -> Given {
+        self.due.map(|text| text.as_bytes().to_vec())
+    }
+
     /// Nothing if the case holds, else what came instead.
     pub fn fault(&self) -> Option<String> {
         match checked::answer(&self.call) {
             Err(difference) => Some(difference.to_string()),
             Ok(given) => {
-                let due = self.due.map(|text| text.as_bytes().to_vec());
+                let due = self.given();
                 (given != due).then(|| {
                     let (given, due) = (checked::show(&given), checked::show(&due));
                     format!("--- given\n{given}--- due\n{due}")

@@ -4,6 +4,7 @@ pub mod cases;
 pub mod checked;
 pub mod generate;
 pub mod list;
+pub mod options;
 pub mod plain;
 pub mod rust;
 pub mod tally;

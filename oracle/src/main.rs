@@ -5,6 +5,7 @@ use std::process::ExitCode;
 use std::time::Instant;
 
 use oracle::generate::{KINDS, Plan};
+use oracle::options::{self, Failure, unknown, value};
 use oracle::tally::Tally;
 use oracle::{Call, Entry, PROGRAM_ROOM, PROGRAM_SLOTS, cases::cases, checked, list};
 
@@ -13,8 +14,8 @@ oracle answer ENTRY [--slots N] [--room N] [--number]
     Reads one job on standard input and prints what the call gives, or the refusal.
     ENTRY is find, words or rename. 400 slots and 32768 bytes of room unless said.
     --number prints the number that the call returns instead.
-oracle cases
-    Runs document 01's cases.
+oracle cases [--list]
+    Runs document 01's cases; or writes them as `oracle list` does.
 oracle generate OPTIONS
     Writes calls: a line `entry slots room job_length`, then the job's bytes.
 oracle list OPTIONS
@@ -24,13 +25,12 @@ oracle check OPTIONS
     Makes the same calls, compares both implementations and prints counts.
 
 OPTIONS: --seed S (default 1), --count N (default 1000), --kind K (default all, mixed),
-    --light (no heavy calls), --max-slots N, --max-room N (larger buffers are drawn as this).
+    --light (no heavy calls), --max-slots N, --max-room N (larger buffers are drawn as this),
+    --max-job N (longer texts are cut).
 Entries in records: 1 find, 2 words, 3 rename. Number: 0, or the refusal's.
 
 Kinds, with their share in a thousand:
 ";
-
-type Failure = Box<dyn std::error::Error>;
 
 fn main() -> ExitCode {
     let words: Vec<String> = std::env::args().skip(1).collect();
@@ -50,6 +50,7 @@ fn run(words: &[String]) -> Result<bool, Failure> {
     match words[..] {
         ["answer", entry, ref options @ ..] => answer(entry, options),
         ["cases"] => Ok(run_cases()),
+        ["cases", "--list"] => list_cases(),
         ["generate", ref options @ ..] => generate(&plan(options)?),
         ["list", ref options @ ..] => write_list(&plan(options)?),
         ["check", ref options @ ..] => check(&plan(options)?),
@@ -68,7 +69,7 @@ fn help() -> String {
     HELP.to_owned() + &kinds.collect::<String>()
 }
 
-fn answer(entry: &str, options: &[&str]) -> Result<bool, Failure> {
+fn answer(entry: &str, words: &[&str]) -> Result<bool, Failure> {
     let entry = Entry::named(entry).ok_or("ENTRY is find, words or rename")?;
     let mut call = Call {
         entry,
@@ -77,11 +78,11 @@ fn answer(entry: &str, options: &[&str]) -> Result<bool, Failure> {
         job: Vec::new(),
     };
     let mut number = false;
-    let mut options = options.iter();
-    while let Some(&option) = options.next() {
+    let mut rest = words.iter();
+    while let Some(&option) = rest.next() {
         match option {
-            "--slots" => call.slots = value(option, options.next())?,
-            "--room" => call.room = value(option, options.next())?,
+            "--slots" => call.slots = value(option, &mut rest)?,
+            "--room" => call.room = value(option, &mut rest)?,
             "--number" => number = true,
             _ => return Err(unknown(option)),
         }
@@ -115,34 +116,24 @@ fn run_cases() -> bool {
     failed == 0
 }
 
-fn plan(options: &[&str]) -> Result<Plan, Failure> {
+fn list_cases() -> Result<bool, Failure> {
+    let mut out = BufWriter::new(io::stdout().lock());
+    for case in cases() {
+        list::write_record(&mut out, &case.call, &case.given())?;
+    }
+    out.flush()?;
+    Ok(true)
+}
+
+fn plan(words: &[&str]) -> Result<Plan, Failure> {
     let mut plan = Plan::default();
-    let mut options = options.iter();
-    while let Some(&option) = options.next() {
-        match option {
-            "--seed" => plan.seed = value(option, options.next())?,
-            "--count" => plan.count = value(option, options.next())?,
-            "--light" => plan.light = true,
-            "--max-slots" => plan.most_slots = value(option, options.next())?,
-            "--max-room" => plan.most_room = value(option, options.next())?,
-            "--kind" => {
-                let name: String = value(option, options.next())?;
-                let kind = KINDS.iter().position(|kind| kind.name == name);
-                plan.kind = Some(kind.ok_or_else(|| format!("there is no kind {name}"))?);
-            }
-            _ => return Err(unknown(option)),
+    let mut rest = words.iter();
+    while let Some(&option) = rest.next() {
+        if !options::take(&mut plan, option, &mut rest)? {
+            return Err(unknown(option));
         }
     }
     Ok(plan)
-}
-
-fn value<T: std::str::FromStr>(option: &str, word: Option<&&str>) -> Result<T, Failure> {
-    let parsed = word.and_then(|word| word.parse().ok());
-    parsed.ok_or_else(|| format!("{option} needs a value").into())
-}
-
-fn unknown(option: &str) -> Failure {
-    format!("there is no option {option}").into()
 }
 
 fn generate(plan: &Plan) -> Result<bool, Failure> {

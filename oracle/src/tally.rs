@@ -30,6 +30,24 @@ impl Tally {
             *self.paths.entry(steps).or_default() += 1;
         }
     }
+
+    /// Adds what another one counted.
+    pub fn add(&mut self, other: Tally) {
+        self.calls += other.calls;
+        for (kind, counts) in other.kinds {
+            add(self.kinds.entry(kind).or_default(), counts);
+        }
+        for (entry, counts) in other.entries {
+            add(self.entries.entry(entry).or_default(), counts);
+        }
+        add(&mut self.paths, other.paths);
+    }
+}
+
+fn add<K: Ord>(counts: &mut BTreeMap<K, usize>, others: BTreeMap<K, usize>) {
+    for (key, count) in others {
+        *counts.entry(key).or_default() += count;
+    }
 }
 
 /// `refused N`, `proved`, `none`, or `answered` for WORDS and RENAME.

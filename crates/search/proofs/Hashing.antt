@@ -11,7 +11,7 @@ use Rattle.search.specs.Slots.{noted-at, home, Slots, Heads}
 use Rattle.search.specs.Traced.{Shows}
 
 module _ (xs : List ℕ) (i h : ℕ) where
-  pub hash-next : i < length xs → hash (drop i xs) h ≡ hash (drop (i + 1) xs) ((h * 4101 + getD xs i 0) % 4294967291)
+  pub hash-next : i < length xs → hash (drop i xs) h ≡ hash (drop (i + 1) xs) ((h * 4101 + getD xs i 0) % 4294967296)
   unfolding hash
   hash-next p = rw (drop-one xs i p)
 

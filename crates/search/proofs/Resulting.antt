@@ -1,17 +1,17 @@
 -- The results of an opened term, in term order after each line that is tried.
-use Prim.Native.Nat.{ℕ, _+_, _≤_, _<_}
+use Prim.Native.Nat.{ℕ, _+_, _*_, _/_, _≤_, _<_}
 use native.Mathlib.Omega.{arith}
 use mathlib.Core.Path.{_≡_, refl, sym, ap, _∙_}
 use mathlib.Core.Logic.{⊎-elim}
 use mathlib.Core.Bool.{Bool, true, false, cond, _&&_}
 use mathlib.Core.Option.{Option, none, some}
 use mathlib.Core.List.{List, [], _∷_, _++_, foldl-append}
-use borrow.Author.Tests.{le-leb, lt-leb}
-use lib.Dec.{leb}
+use borrow.Author.Tests.{le-leb, lt-leb, le-ltb, ltb-true, ltb-false}
+use lib.Dec.{leb, ltb}
 use lib.ListN.{length, take}
 use lib.Seq.{length-take-le}
 use Rattle.terms.specs.Lists.{_∈_, here, there, not-in-nil, cons-cases, of-map, only-one}
-use Rattle.terms.specs.Term.{Term, size, depth, same}
+use Rattle.terms.specs.Term.{Term, letter, zero, one, add, mul, size, depth, same}
 use Rattle.terms.specs.Held.{IsRun}
 use Rattle.terms.specs.Sort.{lost, insert, insert-all}
 use Rattle.terms.specs.Promises.{Deep}
@@ -24,7 +24,7 @@ use Rattle.search.specs.Coded.{law-of, direction-of}
 use Rattle.search.specs.Spliced.{kept, tried, Gives, Tries}
 use Rattle.search.specs.Slots.{Marks}
 use Rattle.search.specs.Ordered.{Ordered, Keeps}
-use Rattle.search.specs.Resulted.{tried-by, Adds}
+use Rattle.search.specs.Resulted.{tried-by, TooDeep, Adds}
 use Rattle.search.specs.declared.search.Law.{Law}
 use Rattle.search.specs.declared.search.Direction.{Direction}
 use Rattle.search.specs.declared.bounded_search.Step.{Step}
@@ -191,16 +191,38 @@ module _ (s : Step) (xs : List ℕ) (room deep : ℕ) (out res order : List ℕ)
         go t m ys q d O (x ∷ []) G M = g t m ys x d O (omega (arith, size-of G, length-take-le k out (omega (arith, tries-within T e)), tries-within T e)) G (M x (here refl))
         go t m ys q d O (x ∷ y ∷ zs) G M = absurd G
 
-    module _ (v : ℕ) (D : Deep (take k out) v) where
-      pub adds-too-deep : deep < v → Adds xs room deep (s .parent) (tried-by s) 1 res order count res order count
+    module _ (b : Bool) (D : TooDeep (take k out) deep b) where
+      pub adds-too-deep : b ≡ true → Adds xs room deep (s .parent) (tried-by s) 1 res order count res order count
       unfolding allowed
       adds-too-deep h =
           by-line res order count (omega arith) (omega arith)
-          (λ t m ys x d O z H M. rw (allowed-out m x [] (within-deep m (x .result) (omega (arith, D .terms (x .result) H)))) O)
+          (λ t m ys x d O z H M.
+          let g = ltb-true deep (depth (x .result)) (sym (D .exact (x .result) H) ∙ h) in
+          rw (allowed-out m x [] (within-deep m (x .result) (omega (arith, g, d)))) O)
 
-      pub adds-kept : v ≤ deep → (res′ order′ : List ℕ) (r : ℕ) → Keeps (take k out) s res order res′ order′ count r
+      pub adds-kept : b ≡ false → (res′ order′ : List ℕ) (r : ℕ) → Keeps (take k out) s res order res′ order′ count r
           → Adds xs room deep (s .parent) (tried-by s) 1 res order count res′ order′ r
       unfolding allowed
       adds-kept h res′ order′ r K =
           by-line res′ order′ r (K .low) (K .high)
-          (λ t m ys x d O z H M. rw (allowed-in m x [] (within-both m (x .result) z (omega (arith, D .terms (x .result) H)))) (K .sorts t ys x H M O))
+          (λ t m ys x d O z H M.
+          let g = ltb-false deep (depth (x .result)) (sym (D .exact (x .result) H) ∙ h) in
+          rw (allowed-in m x [] (within-both m (x .result) z (omega (arith, g, d)))) (K .sorts t ys x H M O))
+
+-- whether a result is too deep
+
+-- a term of n nodes is at most half of n deep
+half-deep : (t : Term) → 2 * depth t + 1 ≤ size t
+unfolding depth size
+half-deep (letter n) = omega arith
+half-deep zero = omega arith
+half-deep one = omega arith
+half-deep (add s t) = omega (arith, half-deep s, half-deep t)
+half-deep (mul s t) = omega (arith, half-deep s, half-deep t)
+
+module _ (xs : List ℕ) (limit : ℕ) where
+  pub flat : length xs / 2 ≤ limit → TooDeep xs limit false
+  flat h = record { exact = λ t k. sym (le-ltb limit (depth t) (omega (arith, half-deep t, size-of k))) }
+
+  pub walked : (d : ℕ) → Deep xs d → TooDeep xs limit (ltb limit d)
+  walked d D = record { exact = λ t k. ap (ltb limit) (D .terms t k) }

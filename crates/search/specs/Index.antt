@@ -15,7 +15,7 @@ slots-of n = min 65535 (n / SLOT)
 -- the numbers of a list, one after the other, taken into h
 unfoldable pub hash : List ℕ → ℕ → ℕ
 hash [] h = h
-hash (x ∷ xs) h = hash xs ((h * 4101 + x) % 4294967291)
+hash (x ∷ xs) h = hash xs ((h * 4101 + x) % 4294967296)
 
 -- the bucket of a run among n
 abbrev pub bucket : ℕ → List ℕ → ℕ

@@ -1,9 +1,11 @@
 -- The results of an opened term: its lines are tried place by place and law by law, and each result is put among those in term order.
 use Prim.Native.Nat.{ℕ, _+_, _≤_}
 use mathlib.Core.Path.{_≡_}
+use mathlib.Core.Bool.{Bool}
 use mathlib.Core.List.{List, map}
+use lib.Dec.{ltb}
 use lib.ListN.{take}
-use Rattle.terms.specs.Term.{Term, size}
+use Rattle.terms.specs.Term.{Term, size, depth}
 use Rattle.terms.specs.Held.{IsRun}
 use Rattle.terms.specs.Sort.{lost, insert-all}
 use Rattle.search.specs.Law.{semiring}
@@ -18,6 +20,10 @@ abbrev pub tried-by : Step → Term → List Line
 tried-by s t = map (placed t (s .place)) (at-root (subterm-at t (s .place)) (law-of (s .law)) (direction-of (s .direction)))
 
 -- what the functions promise
+
+-- of `too_deep`
+pub record TooDeep (xs : List ℕ) (limit : ℕ) (r : Bool) : Type 0 where
+  pub exact : (t : Term) → IsRun xs t → r ≡ ltb limit (depth t)
 
 -- of `keep_line` and `lines_at`: the lines `new`, at most `most`, are tried after others, and the first r slots have all the results, in term order
 pub record Adds (xs : List ℕ) (room deep from : ℕ) (new : Term → List Line) (most : ℕ) (res order : List ℕ) (count : ℕ) (res′ order′ : List ℕ) (r : ℕ) : Type 0 where

@@ -28,7 +28,7 @@ fn hash(s: &[u32]) -> usize
     let mut i = 0;
     while i < s.len() {
         let x = s[i] as usize;
-        h = (h * 4101 + x) % 4294967291;
+        h = (h * 4101 + x) % 4294967296;
         i += 1;
     }
     h

@@ -7,7 +7,7 @@ ghost use Rattle.search.specs.Place.{lines-at};
 ghost use Rattle.search.specs.Bound.{BindsLaw};
 ghost use Rattle.search.specs.Slots.{SLOT};
 ghost use Rattle.search.specs.Ordered.{Spotted, Keeps};
-ghost use Rattle.search.specs.Resulted.{tried-by, Adds, Resulted};
+ghost use Rattle.search.specs.Resulted.{tried-by, TooDeep, Adds, Resulted};
 ghost use Rattle.search.specs.declared.search.Binding.the-variants.{Bound};
 use crate::bounded_search;
 use crate::bounded_search::Origin;
@@ -60,6 +60,16 @@ fn keep(s: &[u32], step: Step, res: &mut [u32], order: &mut [u32], count: usize)
     end
 }
 
+// Whether the term of a run is deeper than a limit. A term of n nodes is at most half of n deep, so that most runs are not walked.
+fn too_deep(s: &[u32], limit: usize) -> bool
+    ensures { λ r. ⌜ TooDeep (now (s .entry)) limit r ⌝ }
+{
+    if s.len() / 2 <= limit {
+        return false;
+    }
+    limit < term::depth(s)
+}
+
 // Keeps the line of a step whose law is bound: its result goes among the first `count`, which are in term order, if the buffer has
 // room for it and it keeps the depth.
 fn keep_line(
@@ -81,7 +91,7 @@ fn keep_line(
     let Filled::To(m) = line::put_line(law, direction, s, at, z, out) else {
         return count;
     };
-    if depth < term::depth(&out[..m]) {
+    if too_deep(&out[..m], depth) {
         return count;
     }
     keep(&out[..m], step, res, order, count)

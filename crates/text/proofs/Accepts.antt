@@ -117,7 +117,7 @@ capped-small m e =
 -- refusals 3 to 6
 
 module _ {xs ys : List ℕ} {s t : Term} (m : Limits) (u : IsRun xs s) (v : IsRun ys t) where
-  pub left-large : 31 < length xs → accept s t m ≡ refused 3
+  left-large : 31 < length xs → accept s t m ≡ refused 3
   unfolding accept _>>=_ require
   left-large h = let l : 31 < size s = omega (arith, size-of u) in rw (lt-leb (size s) 31 l)
 
@@ -125,7 +125,7 @@ module _ {xs ys : List ℕ} {s t : Term} (m : Limits) (u : IsRun xs s) (v : IsRu
     left-small : leb (size s) 31 ≡ true
     left-small = le-leb (size s) 31 (omega (arith, size-of u))
 
-    pub right-large : 31 < length ys → accept s t m ≡ refused 3
+    right-large : 31 < length ys → accept s t m ≡ refused 3
     unfolding accept _>>=_ require
     right-large h = let l : 31 < size t = omega (arith, size-of v) in rw (left-small, lt-leb (size t) 31 l)
 
@@ -133,21 +133,21 @@ module _ {xs ys : List ℕ} {s t : Term} (m : Limits) (u : IsRun xs s) (v : IsRu
       right-small : leb (size t) 31 ≡ true
       right-small = le-leb (size t) 31 (omega (arith, size-of v))
 
-      pub letters-many : FewLetters xs ys false → accept s t m ≡ refused 4
+      letters-many : FewLetters xs ys false → accept s t m ≡ refused 4
       unfolding accept _>>=_ require
       letters-many f = rw (left-small, right-small) (rw (← f .exact s t u v))
 
       module _ (f : FewLetters xs ys true) where
-        pub limits-over : in-range m ≡ false → accept s t m ≡ refused 5
+        limits-over : in-range m ≡ false → accept s t m ≡ refused 5
         unfolding accept _>>=_ require
         limits-over e = rw (left-small, right-small) (rw (← f .exact s t u v) (rw e))
 
         module _ (e : in-range m ≡ true) where
-          pub sides-same : same s t ≡ true → accept s t m ≡ refused 6
+          sides-same : same s t ≡ true → accept s t m ≡ refused 6
           unfolding accept _>>=_ require
           sides-same d = rw (left-small, right-small) (rw (← f .exact s t u v) (rw e (rw d)))
 
-          pub sides-differ : same s t ≡ false → accept s t m ≡ accepted (oriented s t m)
+          sides-differ : same s t ≡ false → accept s t m ≡ accepted (oriented s t m)
           unfolding accept _>>=_ require
           sides-differ d = rw (left-small, right-small) (rw (← f .exact s t u v) (rw e (rw d)))
 
@@ -230,16 +230,16 @@ module _ (bs : List ℕ) where
     no-layout h = rw (short-enough) (rw h)
 
     module _ {j : Layout} (lines : layout bs ≡ some j) where
-      pub no-left-term : read-term (j .left) ≡ none → read-job bs ≡ refused 2
+      no-left-term : read-term (j .left) ≡ none → read-job bs ≡ refused 2
       unfolding read-job _>>=_ require or-refuse
       no-left-term h = rw (short-enough) (rw lines (rw h))
 
       module _ {s : Term} (first : read-term (j .left) ≡ some s) where
-        pub no-right-term : read-term (j .right) ≡ none → read-job bs ≡ refused 2
+        no-right-term : read-term (j .right) ≡ none → read-job bs ≡ refused 2
         unfolding read-job _>>=_ require or-refuse
         no-right-term h = rw (short-enough) (rw lines (rw first (rw h)))
 
-        pub both-terms : {t : Term} → read-term (j .right) ≡ some t → read-job bs ≡ accept s t (j .limits)
+        both-terms : {t : Term} → read-term (j .right) ≡ some t → read-job bs ≡ accept s t (j .limits)
         unfolding read-job _>>=_ require or-refuse
         both-terms h = rw (short-enough) (rw lines (rw first (rw h)))
 

@@ -25,7 +25,7 @@ use Rattle.search.proofs.Coded.{each-law}
 use Rattle.text.specs.Bytes.{ascii}
 use Rattle.text.specs.StepText.{law-name}
 use Rattle.text.specs.Proof.{ref, app, call, term, bound, applied}
-use Rattle.text.specs.Applied.{opened, argument, all-opened, arguments, Copies}
+use Rattle.text.specs.Applied.{application, argument, applications, arguments, Copies}
 use Rattle.text.specs.Put.{Put, top}
 use Rattle.text.proofs.Overlay.{then, put-as, put-none}
 use Rattle.text.proofs.Rendered.{held-past}
@@ -33,15 +33,15 @@ use Rattle.text.proofs.Rendered.{held-past}
 -- ---- one letter of a law
 
 module _ (xs : List ℕ) (v : Span) where
-  pub put-not-opened : (o : List ℕ) (a : ℕ) (p : Option Term) → v .len ≡ 0 → length o < top → a ≤ top → Meant xs v p → Put (opened p) o a a o
-  unfolding opened
-  put-not-opened o a none e h k m = put-none o a h k
-  put-not-opened o a (some t) e h k m = absurd (omega (arith, m .1, size-pos t))
+  pub put-no-application : (o : List ℕ) (a : ℕ) (p : Option Term) → v .len ≡ 0 → length o < top → a ≤ top → Meant xs v p → Put (application p) o a a o
+  unfolding application
+  put-no-application o a none e h k m = put-none o a h k
+  put-no-application o a (some t) e h k m = absurd (omega (arith, m .1, size-pos t))
 
-  pub put-opened : {o o₁ : List ℕ} {a r : ℕ} (p : Option Term) → (v .len ≡ 0 → ⊥) → Put (ascii "(app ") o a r o₁ → Meant xs v p → Put (opened p) o a r o₁
-  unfolding opened
-  put-opened none h q m = absurd (h m)
-  put-opened (some t) h q m = q
+  pub put-application : {o o₁ : List ℕ} {a r : ℕ} (p : Option Term) → (v .len ≡ 0 → ⊥) → Put (ascii "(app ") o a r o₁ → Meant xs v p → Put (application p) o a r o₁
+  unfolding application
+  put-application none h q m = absurd (h m)
+  put-application (some t) h q m = q
 
   pub put-no-argument : (names o : List ℕ) (a : ℕ) (p : Option Term) → v .len ≡ 0 → length o < top → a ≤ top → Meant xs v p → Put (argument names p) o a a o
   unfolding argument
@@ -64,8 +64,8 @@ abbrev apply : List ℕ → List ℕ → Option Term → List ℕ
 apply names f none = f
 apply names f (some t) = app f (term names t)
 
-apply-text : (names f : List ℕ) (p : Option Term) → opened p ++ (f ++ argument names p) ≡ apply names f p
-unfolding opened argument app
+apply-text : (names f : List ℕ) (p : Option Term) → application p ++ (f ++ argument names p) ≡ apply names f p
+unfolding application argument app
 apply-text names f none = append-nil f
 apply-text names f (some t) = refl
 
@@ -77,8 +77,8 @@ apply-more names n ns σ f = go (σ n)
     go none = refl
     go (some t) = refl
 
-call-text : (names name : List ℕ) (σ : Bindings) → (all-opened σ ++ ref name) ++ arguments names σ ≡ call name (bound names (0 ∷ 1 ∷ 2 ∷ []) σ)
-unfolding all-opened arguments call bound
+call-text : (names name : List ℕ) (σ : Bindings) → (applications σ ++ ref name) ++ arguments names σ ≡ call name (bound names (0 ∷ 1 ∷ 2 ∷ []) σ)
+unfolding applications arguments call bound
 call-text names name σ =
     simp append-assoc
     (sym
@@ -88,7 +88,7 @@ call-text names name σ =
     ∙ simp (← apply-text, append-assoc)))
 
 pub put-call : {o o₁ o₂ o₃ : List ℕ} {a b c d : ℕ} (names name : List ℕ) (σ : Bindings)
-    → Put (all-opened σ) o a b o₁ → Put (ref name) o₁ b c o₂ → Put (arguments names σ) o₂ c d o₃ → Put (call name (bound names (0 ∷ 1 ∷ 2 ∷ []) σ)) o a d o₃
+    → Put (applications σ) o a b o₁ → Put (ref name) o₁ b c o₂ → Put (arguments names σ) o₂ c d o₃ → Put (call name (bound names (0 ∷ 1 ∷ 2 ∷ []) σ)) o a d o₃
 put-call names name σ p q r = put-as (call-text names name σ) (then (then p q) r)
 
 -- ---- the law by its name

@@ -15,19 +15,19 @@ use Rattle.search.specs.Law.{semiring}
 use Rattle.search.specs.Search.{Outcome, noted, search}
 use Rattle.search.specs.Searched.{limits-of, slots-of}
 use Rattle.text.specs.Answer.{_>>=_, refused, accepted, require, fitting}
-use Rattle.text.specs.Job.{Job, read-job}
+use Rattle.text.specs.Job.{Job, read-job, Fit, Accepted}
 use Rattle.text.specs.Accepting.{Accepts}
 use Rattle.text.specs.Words.{words-text, words-entry}
 use Rattle.text.specs.Rename.{term-lines, renamed-words, rename-entry}
 use Rattle.text.specs.Find.{outcome-text, find}
 use Rattle.text.specs.Entry.{returned, Call, FindCall}
-use Rattle.text.specs.Theory.Jobs as jobs
+use Rattle.text.specs.Theory.Jobs.{job-accepted}
 use Rattle.text.specs.declared.job.accept.Read.{Read}
 use Rattle.text.proofs.Measured.{refuses}
 
 -- what is known of an accepted job
-pub accepted-job : (bs : List ℕ) (j : Job) → read-job bs ≡ accepted j → jobs.Accepted j
-accepted-job bs j e = rw e at (jobs.job-accepted bs)
+pub accepted-job : (bs : List ℕ) (j : Job) → read-job bs ≡ accepted j → Accepted j
+accepted-job bs j e = rw e at (job-accepted bs)
 
 -- a refused job is refused by its number, whatever was asked for
 module _ (bs out : List ℕ) {n : ℕ} (e : read-job bs ≡ refused n) where
@@ -62,7 +62,7 @@ module _ (bs : List ℕ) {j : Job} (read : read-job bs ≡ accepted j) (slots ro
 
 -- an accepted one is answered from the runs of its sides
 module _ (bs : List ℕ) {left right xs ys : List ℕ} {j : Read} (h : Accepts bs j left right) (e : xs ≡ take (j .left) left) (f : ys ≡ take (j .right) right) where
-  fit : jobs.Fit (h .job .left) (h .job .right)
+  fit : Fit (h .job .left) (h .job .right)
   fit = accepted-job bs (h .job) (h .accepted) .sides
 
   left-run : IsRun xs (h .job .left)

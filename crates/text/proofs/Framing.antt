@@ -159,7 +159,7 @@ module _ (names : List ℕ) where
   symmetry-text ws n u v = simp append-assoc
 
   -- a line below the root is one on the part, in its frame
-  pub frame-text : (ws : List Law) (x : Side) (p : List Side) (d : Direction) (n : Name) (u v : Term)
+  frame-text : (ws : List Law) (x : Side) (p : List Side) (d : Direction) (n : Name) (u v : Term)
       → frame names x u v ++ (one-line names ws p d n (part x u) (part x v) ++ ascii ")") ≡ one-line names ws (x ∷ p) d n u v
   unfolding one-line frame call app ref lam ascii
   frame-text ws x p d n u v = simp append-assoc

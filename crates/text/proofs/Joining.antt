@@ -16,11 +16,11 @@ use Rattle.search.specs.Line.{Line}
 use Rattle.search.specs.Search.{Noted}
 use Rattle.search.specs.Place.{place-at}
 use Rattle.search.specs.Coded.{name-of, direction-of}
-use Rattle.search.specs.Slots.{Spells, Marks, noted-at, Slots}
+use Rattle.search.specs.Slots.{Spells, noted-at, Slots}
 use Rattle.search.specs.Traced.{Linked, Traced, none, more, Originates, Shows}
 use Rattle.search.specs.declared.bounded_search.Step.{Step}
 use Rattle.search.specs.declared.bounded_search.Origin.{Origin}
-use Rattle.search.specs.declared.bounded_search.Origin.the-variants.{Start, From}
+use Rattle.search.specs.declared.bounded_search.Origin.the-variants.{From}
 use Rattle.search.proofs.Sorting.{line-at}
 use Rattle.search.proofs.Traced.{traced-at}
 use Rattle.text.specs.Bytes.{ascii}
@@ -30,19 +30,12 @@ use Rattle.text.specs.Walk.{Walk}
 use Rattle.text.specs.Framed.{ends, opens, closes}
 use Rattle.text.proofs.Overlay.{then, put-as, put-none}
 use Rattle.text.proofs.Framing.{ends-text, binders-text}
+use Rattle.text.proofs.Walks.{marks-read, parent-read, traced-length}
 
 -- ---- one line
 
 pub holds-shown : {ws : List ℕ} {k : ℕ} {xs : List ℕ} {t : Term} → Shows ws k xs → Spells ws k t → Holds xs 0 t
 holds-shown {t = t} S p = holds-whole (S .exact t p)
-
--- the start has no line
-pub no-start : {ws : List ℕ} {ns : List Noted} {j k : ℕ} {x : Line} {o : Origin} → Linked ws ns j k x → Originates ws k o → o ≡ Start → ⊥
-no-start {x = x} L O h =
-    let e : Start ≡ From (L .line .step) = sym h ∙ O .exact (x .result) (L .line .run) ∙ L .line .origin in let z : _≡_ {A = ℕ} 0 1 = cc in omega arith
-
-same-step : {s s′ : Step} → From s ≡ From s′ → s ≡ s′
-same-step e = cc
 
 abbrev line-text : List ℕ → Line → Term → List ℕ
 line-text names x u = one-line names semiring (x .place) (x .direction) (x .law) u (x .result)
@@ -52,24 +45,17 @@ module _ {ws : List ℕ} {ns : List Noted} {j k : ℕ} {x : Line} (S : Slots ws 
   spells-source = S .slot j (omega (arith, L .within, L .before)) .run
 
   module _ (names : List ℕ) {o o′ : List ℕ} {a b : ℕ} where
-    step-by : (s : Step) → L .line .step ≡ s → {xs ys : List ℕ} → Shows ws (s .parent) xs → Shows ws k ys
-        → ((u v : Term) → Holds xs 0 u → Holds ys 0 v → s .place - 0 < size u → 0 ≤ s .place → size u ≤ 31 → size v ≤ 31
-        → Put (one-line names semiring (place-at u (s .place - 0)) (direction-of (s .direction)) (name-of (s .law)) u v) o a b o′)
-        → Put (line-text names x (noted-at ns j .term)) o a b o′
-    step-by s e {xs} {ys} P Q f =
-        let u = noted-at ns j .term in
-        let m : Marks s u x = subst (λ z. Marks z u x) e (L .line .marks) in
-        let p : s .parent ≡ j = ap (λ z. z .parent) (sym e) ∙ L .line .parent in
-        let P′ : Shows ws j xs = subst (λ i. Shows ws i xs) p P in
-        put-as (rw (m .place, m .direction, m .law, sub-zero (s .place)))
-        (f u (x .result) (holds-shown P′ spells-source) (holds-shown Q (L .line .run)) (omega (arith, m .inside)) (omega arith) (spells-source .small) (L .line .run .small))
-
     -- the line that slot k has
     pub step-put : (s : Step) {q : Origin} {xs ys : List ℕ} → Originates ws k q → q ≡ From s → Shows ws (s .parent) xs → Shows ws k ys
         → ((u v : Term) → Holds xs 0 u → Holds ys 0 v → s .place - 0 < size u → 0 ≤ s .place → size u ≤ 31 → size v ≤ 31
         → Put (one-line names semiring (place-at u (s .place - 0)) (direction-of (s .direction)) (name-of (s .law)) u v) o a b o′)
         → Put (line-text names x (noted-at ns j .term)) o a b o′
-    step-put s O h P Q f = step-by s (same-step (sym (O .exact (x .result) (L .line .run) ∙ L .line .origin) ∙ h)) P Q f
+    step-put s {xs = xs} O e P Q f =
+        let u = noted-at ns j .term in
+        let m = marks-read O L s e in
+        let P′ : Shows ws j xs = subst (λ i. Shows ws i xs) (parent-read O L s e) P in
+        put-as (rw (m .place, m .direction, m .law, sub-zero (s .place)))
+        (f u (x .result) (holds-shown P′ spells-source) (holds-shown Q (L .line .run)) (omega (arith, m .inside)) (omega arith) (spells-source .small) (L .line .run .small))
 
 -- ---- several lines
 
@@ -93,7 +79,7 @@ module _ (names : List ℕ) (ws : List Law) where
       (call (ascii "eq_trans") (term names s ∷ term names m ∷ term names (x .result) ∷ p ∷ one-line names ws (x .place) (x .direction) (x .law) m (x .result) ∷ []))
       (omega arith)
 
-  pub chain-more : (xs : List Line) (n : ℕ) (s : Term) → 0 < n → n < length xs
+  chain-more : (xs : List Line) (n : ℕ) (s : Term) → 0 < n → n < length xs
       → chain names ws s (take (suc n) xs)
       ≡ call (ascii "eq_trans") (term names s ∷ term names (source s xs n) ∷ term names (line-at xs n .result) ∷ chain names ws s (take n xs)
       ∷ one-line names ws (line-at xs n .place) (line-at xs n .direction) (line-at xs n .law) (source s xs n) (line-at xs n .result) ∷ [])
@@ -103,17 +89,13 @@ module _ (names : List ℕ) (ws : List Law) where
   chain-more (x ∷ xs) (suc n) s k h = joined-more xs n s (x .result) (one-line names ws (x .place) (x .direction) (x .law) s (x .result)) (omega arith)
 
 module _ {ws : List ℕ} {ns : List Noted} where
-  traced-length : {j : ℕ} {ks : List ℕ} {xs : List Line} → Traced ws ns j ks xs → length xs ≡ length ks
-  traced-length none = refl
-  traced-length (more h T) = ap suc (traced-length T)
-
   -- the term from which line i leads is noted in the slot before
   traced-term : {j : ℕ} {ks : List ℕ} {xs : List Line} → Traced ws ns j ks xs → (i : ℕ) → i ≤ length ks → noted-at ns (getD (j ∷ ks) i 0) .term ≡ source (noted-at ns j .term) xs i
   traced-term T ℕ.zero q = refl
   traced-term none (suc i) q = absurd (omega arith)
   traced-term (more {xs = xs} h T) (suc i) q = traced-term T i (omega arith) ∙ ap (λ n. source (n .term) xs i) (h .is)
 
--- what `render_step` promises of slot k
+-- what `render_slot` promises of slot k
 abbrev StepPut : List ℕ → List ℕ → ℕ → List ℕ → ℕ → ℕ → List ℕ → Type 0
 StepPut names ws k o a b o′ = (ns : List Noted) (j : ℕ) (x : Line) → Slots ws ns → Linked ws ns j k x → Put (line-text names x (noted-at ns j .term)) o a b o′
 

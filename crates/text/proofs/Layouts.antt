@@ -25,7 +25,7 @@ use Rattle.text.proofs.Numbers.{allowed, too-large, malformed}
 -- the line of one limit
 
 -- what a number says of the limit
-abbrev pub limit-of : ℕ → Number → Limit
+abbrev limit-of : ℕ → Number → Limit
 limit-of next (Is n) = limit.Is n next
 limit-of next TooLarge = limit.Is 4097 next
 limit-of next Malformed = limit.Malformed

@@ -40,7 +40,7 @@ module _ {text o : List ℕ} {n : ℕ} (out : List ℕ) (measured : Put text [] 
       (answers text out out′ (100 + n) (ap (λ k. 100 + k) s)
       (p .bytes ∙ overlay-fits out 0 text (omega arith) ∙ ap (λ k. text ++ drop k out) (zero-add (length text))))
 
-  pub lacks : length out < n → Call (fitting (length out) text) out 8 out
+  lacks : length out < n → Call (fitting (length out) text) out 8 out
   lacks h =
       let f : length out < length text = omega (arith, measured .next) in
       rw (fitting-none (length out) text f) (refuses 8 out)

@@ -3,6 +3,7 @@ use Prim.Native.Nat.{ℕ, _+_, _*_, _≤_, _<_, _-_}
 use native.Mathlib.Numerals.{add-one}
 use native.Mathlib.Omega.{arith}
 use mathlib.Core.Bool.{Bool, true, false, _&&_}
+use mathlib.Core.Logic.{⊎-elim}
 use mathlib.Core.Option.{Option, none, some}
 use mathlib.Core.List.{List, [], _∷_}
 use mathlib.Core.Path.{_≡_, refl, sym, _∙_}
@@ -10,6 +11,7 @@ use lib.Dec.{leb}
 use lib.ListN.{length, getD}
 use lib.Seq.{slice, slice-cons}
 use borrow.Author.Tests.{le-leb, lt-leb, ne-eqb}
+use Rattle.terms.specs.Theory.Order.{below?}
 use Rattle.text.specs.declared.job.Number.the-variants.{Is, TooLarge, Malformed}
 use Rattle.text.specs.Bytes.{digits, read-number}
 use Rattle.text.specs.Reading.{limited}
@@ -43,13 +45,16 @@ past (b ∷ bs) most m n h k =
     (past bs most (m * 10 + (b - 48)) (n * 10 + (b - 48)) (omega arith) (omega arith))
 
 module _ (s : List ℕ) (i to : ℕ) (h : i < to) (k : to ≤ length s) (n : ℕ) where
-  pub low : getD s i 0 < 48 → digits n (slice i to s) ≡ none
+  low : getD s i 0 < 48 → digits n (slice i to s) ≡ none
   unfolding digits
   low p = rw (slice-cons i to s 0 h k, lt-leb 48 (getD s i 0) p, digits)
 
-  pub high : 57 < getD s i 0 → digits n (slice i to s) ≡ none
+  high : 48 ≤ getD s i 0 → 57 < getD s i 0 → digits n (slice i to s) ≡ none
   unfolding digits
-  high p = let q : 48 ≤ getD s i 0 = omega arith in rw (slice-cons i to s 0 h k, le-leb 48 (getD s i 0) q, lt-leb (getD s i 0) 57 p, digits)
+  high q p = rw (slice-cons i to s 0 h k, le-leb 48 (getD s i 0) q, lt-leb (getD s i 0) 57 p, digits)
+
+  pub foul : (48 ≤ getD s i 0 → getD s i 0 ≤ 57 → ⊥) → digits n (slice i to s) ≡ none
+  foul f = ⊎-elim low (λ q. ⊎-elim (high q) (λ p. absurd (f q p)) (below? 57 (getD s i 0))) (below? (getD s i 0) 48)
 
   pub next : 48 ≤ getD s i 0 → getD s i 0 ≤ 57 → digits n (slice i to s) ≡ digits (n * 10 + (getD s i 0 - 48)) (slice (i + 1) to s)
   unfolding digits

@@ -12,11 +12,11 @@ use Rattle.terms.specs.Theory.Order.{below?}
 use Rattle.text.specs.Put.{overlay, Put, top}
 
 -- one byte is a store, also past the end
-pub overlay-one : (xs : List ℕ) (at b : ℕ) → overlay xs at (b ∷ []) ≡ set xs at b
+overlay-one : (xs : List ℕ) (at b : ℕ) → overlay xs at (b ∷ []) ≡ set xs at b
 unfolding overlay
 overlay-one xs at b = refl
 
-pub overlay-none : (xs : List ℕ) (at : ℕ) → overlay xs at [] ≡ xs
+overlay-none : (xs : List ℕ) (at : ℕ) → overlay xs at [] ≡ xs
 unfolding overlay
 overlay-none xs at = refl
 
@@ -26,7 +26,7 @@ length-overlay xs at [] = refl
 length-overlay xs at (y ∷ ys) = length-overlay (set xs at y) (suc at) ys ∙ length-set xs at y
 
 -- one text after the other is one text
-pub overlay-append : (xs : List ℕ) (a : ℕ) (ys zs : List ℕ) → overlay (overlay xs a ys) (a + length ys) zs ≡ overlay xs a (ys ++ zs)
+overlay-append : (xs : List ℕ) (a : ℕ) (ys zs : List ℕ) → overlay (overlay xs a ys) (a + length ys) zs ≡ overlay xs a (ys ++ zs)
 unfolding overlay
 overlay-append xs a [] zs = ap (λ (n : ℕ). overlay xs n zs) (add-zero a)
 overlay-append xs a (y ∷ ys) zs =
@@ -34,7 +34,7 @@ overlay-append xs a (y ∷ ys) zs =
     ∙ overlay-append (set xs a y) (suc a) ys zs
 
 -- a text that fits is a front, the text and the rest
-pub overlay-sets : (xs : List ℕ) (a : ℕ) (ys : List ℕ) → overlay xs a ys ≡ sets xs a ys
+overlay-sets : (xs : List ℕ) (a : ℕ) (ys : List ℕ) → overlay xs a ys ≡ sets xs a ys
 unfolding overlay
 overlay-sets xs a [] = refl
 overlay-sets xs a (y ∷ ys) = overlay-sets (set xs a y) (suc a) ys
@@ -49,7 +49,7 @@ overlay-empty a [] = refl
 overlay-empty a (y ∷ ys) = overlay-empty (suc a) ys
 
 -- past the end nothing changes
-pub overlay-past : (xs : List ℕ) (a : ℕ) (ys : List ℕ) → length xs ≤ a → overlay xs a ys ≡ xs
+overlay-past : (xs : List ℕ) (a : ℕ) (ys : List ℕ) → length xs ≤ a → overlay xs a ys ≡ xs
 unfolding overlay
 overlay-past xs a [] h = refl
 overlay-past xs a (y ∷ ys) h = ap (λ (l : List ℕ). overlay l (suc a) ys) (set-out xs a y h) ∙ overlay-past xs (suc a) ys (omega arith)

@@ -25,7 +25,7 @@ use Rattle.text.specs.Bytes.{read-number}
 use Rattle.text.specs.Marks.{digit, mark}
 use Rattle.text.specs.TermText.{letter-of, sign, token}
 use Rattle.text.specs.Reading.{Items, limited}
-use Rattle.text.proofs.Marking.{other, inside, below, above}
+use Rattle.text.proofs.Marking.{at, other, inside, below, above}
 use Rattle.text.proofs.Parts.{no-part, two-part}
 use Rattle.text.proofs.Numbers.{allowed, too-large, malformed}
 
@@ -44,14 +44,6 @@ pub no-atom : (d : ℕ) → (d ≡ 0 → ⊥) → (d ≡ 1 → ⊥) → told (is
 no-atom zero p q = absurd (p refl)
 no-atom (suc zero) p q = absurd (q refl)
 no-atom (suc (suc d)) p q = refl
-
--- a fact of every number, by one number and all others
-at : (P : ℕ → Type 0) (k b : ℕ) → P k → ((b ≡ k → ⊥) → P b) → P b
-at P k b p f =
-    ⊎-elim
-    (λ l. f (λ e. omega arith))
-    (λ g. ⊎-elim (λ l. f (λ e. omega arith)) (λ h. let e : k ≡ b = omega arith in subst P e p) (below? k b))
-    (below? b k)
 
 module _ (b : ℕ) where
   no-sign : (b ≡ 43 → ⊥) → (b ≡ 42 → ⊥) → (b ≡ 48 → ⊥) → (b ≡ 49 → ⊥) → sign b ≡ none
@@ -87,7 +79,7 @@ unfolding token
 one-byte b m e = signs b ∙ ap told e
 
 -- the item that a number behind `v` makes
-abbrev pub lettered : Number → Item
+abbrev lettered : Number → Item
 lettered (Is n) = item.Is n
 lettered TooLarge = item.Foul
 lettered Malformed = item.Foul

@@ -21,14 +21,11 @@ use Rattle.terms.specs.Numbers.{read-run, is-some}
 use Rattle.text.specs.Bytes.{pieces}
 use Rattle.text.specs.TermText.{token, read-term}
 use Rattle.text.specs.Reading.{Numbered}
+use Rattle.text.specs.Theory.Pieces.{longer}
 use Rattle.text.specs.SideRead.{ItemEnds, ItemsRead, TermRead}
 use Rattle.text.proofs.Parts.{no-part}
 
 -- ---- where an item ends
-
--- pieces with a byte more in front
-abbrev longer : ℕ → List (List ℕ) → List (List ℕ)
-longer b ps = elim ps [ [] ↦ (b ∷ []) ∷ [] | p ∷ ps ↦ (b ∷ p) ∷ ps ]
 
 module _ (s : List ℕ) (i to : ℕ) where
   pub side-ends : i ≡ to → ItemEnds s i to i
@@ -95,7 +92,7 @@ onto-build [] = refl
 onto-build (x ∷ xs) = ap (next (numbers.token x)) (onto-build xs)
 
 -- the terms that the items of a side make
-abbrev pub built : List ℕ → Option (List Term)
+abbrev built : List ℕ → Option (List Term)
 built bs = build token (pieces (code " ") bs)
 
 built-first : (bs p : List ℕ) (ps : List (List ℕ)) → pieces (code " ") bs ≡ p ∷ ps → built bs ≡ next (token p) (build token ps)

@@ -40,7 +40,7 @@ put-directed d e q p = put-as (ap (λ d. direction (direction-of d)) (sym q)) p
 -- ---- places
 
 -- the sides from the term that starts at a position of the run to a place are put
-abbrev pub PutsSides : (xs : List ℕ) (from at : ℕ) (o : List ℕ) (a b : ℕ) (o₁ : List ℕ) → Type 0
+abbrev PutsSides : (xs : List ℕ) (from at : ℕ) (o : List ℕ) (a b : ℕ) (o₁ : List ℕ) → Type 0
 PutsSides xs from at o a b o₁ = (t : Term) → Holds xs from t → at - from < size t → Put (sides (place-at t (at - from))) o a b o₁
 
 module _ {xs : List ℕ} {from at : ℕ} {turn : Turn} (T : Turns xs from at turn) where

@@ -60,10 +60,10 @@ module _ {ws : List ℕ} {k : ℕ} {o : Origin} (O : Originates ws k o) {ns : Li
 -- ---- lines
 
 -- what putting a line promises
-abbrev pub PutsLine : (s : Step) (ys zs o : List ℕ) (a b : ℕ) (o₁ : List ℕ) → Type 0
+abbrev PutsLine : (s : Step) (ys zs o : List ℕ) (a b : ℕ) (o₁ : List ℕ) → Type 0
 PutsLine s ys zs o a b o₁ = (t : Term) (x : Line) → IsRun ys t → Marks s t x → IsRun zs (x .result) → Put (step-value x) o a b o₁
 
-abbrev pub PutsStep : (ws : List ℕ) (k : ℕ) (o : List ℕ) (a b : ℕ) (o₁ : List ℕ) → Type 0
+abbrev PutsStep : (ws : List ℕ) (k : ℕ) (o : List ℕ) (a b : ℕ) (o₁ : List ℕ) → Type 0
 PutsStep ws k o a b o₁ = (ns : List Noted) (j : ℕ) (x : Line) → Slots ws ns → Linked ws ns j k x → Put (step x) o a b o₁
 
 pub no-step : {ws : List ℕ} {k : ℕ} {f : Origin} {o o₁ : List ℕ} {a b : ℕ} → Originates ws k f → f ≡ Start → PutsStep ws k o a b o₁

@@ -8,8 +8,7 @@ use Rattle.terms.specs.Held.{IsRun}
 use Rattle.search.specs.Line.{Line}
 use Rattle.search.specs.Search.{Noted}
 use Rattle.search.specs.Slots.{noted-at, Slots}
-use Rattle.text.specs.Job.{Job}
-use Rattle.text.specs.Theory.Jobs.{Accepted}
+use Rattle.text.specs.Job.{Job, Accepted}
 
 -- the runs of an accepted job's sides
 pub record Sides (left right : List ℕ) (j : Job) : Type 0 where

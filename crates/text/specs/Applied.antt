@@ -11,10 +11,10 @@ use Rattle.text.specs.Bytes.{ascii}
 use Rattle.text.specs.Proof.{term}
 
 -- what stands before the law's name for a letter
-unfoldable pub opened : Option Term → List ℕ
+unfoldable pub application : Option Term → List ℕ
 unfolding ascii
-opened none = []
-opened (some t) = ascii "(app "
+application none = []
+application (some t) = ascii "(app "
 
 -- what stands behind it
 unfoldable pub argument : List ℕ → Option Term → List ℕ
@@ -22,10 +22,10 @@ unfolding ascii term
 argument names none = []
 argument names (some t) = ascii " " ++ (term names t ++ ascii ")")
 
--- for all letters of a law: the last one is applied to last, so that it is opened first
-unfoldable pub all-opened : Bindings → List ℕ
-unfolding opened
-all-opened σ = opened (σ 2) ++ opened (σ 1) ++ opened (σ 0)
+-- for all letters of a law: the last one is applied to last, so that its application comes first
+unfoldable pub applications : Bindings → List ℕ
+unfolding application
+applications σ = application (σ 2) ++ application (σ 1) ++ application (σ 0)
 
 unfoldable pub arguments : List ℕ → Bindings → List ℕ
 unfolding argument

@@ -88,16 +88,12 @@ fn digits_in(s: &[u8], from: usize, to: usize, most: u32) -> Number
     let mut n: u32 = 0;
     let mut i = from;
     while i < to {
-        let b = s[i];
-        if b < b'0' {
+        let Mark::Digit(d) = mark_of(s[i]) else {
             return Number::Malformed;
-        }
-        if b'9' < b {
-            return Number::Malformed;
-        }
+        };
         i += 1;
         if n <= most {
-            n = n * 10 + (b - b'0') as u32;
+            n = n * 10 + d as u32;
         }
     }
     if n <= most {
@@ -125,7 +121,7 @@ pub fn number_in(s: &[u8], from: usize, to: usize, most: u32) -> Number
 }
 
 // Where the line that starts at a position ends: the next byte 10.
-pub fn line_end(s: &[u8], from: usize) -> Found
+fn line_end(s: &[u8], from: usize) -> Found
     requires { ⌜ from ≤ length (now s) ⌝ }
     ensures { λ r. ⌜ Lines (now (s .entry)) from r ⌝ }
 {
@@ -140,7 +136,7 @@ pub fn line_end(s: &[u8], from: usize) -> Found
 }
 
 // Whether a key stands at a position.
-pub fn has_key(s: &[u8], from: usize, key: &[u8]) -> bool
+fn has_key(s: &[u8], from: usize, key: &[u8]) -> bool
     requires { ⌜ from ≤ length (now s) ⌝ }
     ensures { λ r. ⌜ Keys (now (s .entry)) from (now (key .entry)) r ⌝ }
 {
@@ -208,9 +204,12 @@ pub fn item_at(s: &[u8], from: usize, to: usize) -> Item
     if to <= next {
         return sign_item(b);
     }
-    if b != b'v' {
+    let Mark::Sign(sign) = mark_of(b) else {
         return Item::Foul;
-    }
+    };
+    let Sign::Letter = sign else {
+        return Item::Foul;
+    };
     let n = number_in(s, next, to, 999);
     match n {
         Number::Is(x) => Item::Is(x),

@@ -13,7 +13,7 @@ ghost use Rattle.search.specs.Coded.{name-of};
 ghost use Rattle.text.specs.StepText.{law-name};
 ghost use Rattle.text.specs.Proof.{index-of, variable, ref, call, term, bound, applied};
 ghost use Rattle.text.specs.Rendered.{atom, operator};
-ghost use Rattle.text.specs.Applied.{opened, argument, all-opened, arguments, Copies};
+ghost use Rattle.text.specs.Applied.{application, argument, applications, arguments, Copies};
 ghost use Rattle.text.specs.Put.{Put};
 use crate::put;
 use crate::step;
@@ -23,6 +23,10 @@ use search::search::Span;
 use search::search::Spans;
 use terms::term;
 
+// The whole proof.
+pub mod lambdas;
+
+// The lines of a path.
 pub mod path;
 
 // In a run, the numbers below it are letters.
@@ -32,7 +36,7 @@ const ZERO: u32 = 4096;
 const ADD: u32 = 4098;
 
 // The place of a letter among the equation's letters: how many they are, if it is none of them.
-pub fn index_of(names: &[u32], n: u32) -> usize
+fn index_of(names: &[u32], n: u32) -> usize
     ensures { λ r. ⌜ r ≡ index-of n (now (names .entry)) ⌝ }
 {
     let mut i = 0;
@@ -107,8 +111,8 @@ pub fn render_term(out: &mut [u8], at: usize, run: &[u32], from: usize, names: &
 }
 
 // What stands before a law's name for a letter of the law: nothing if the letter stands for no term.
-fn put_opened(out: &mut [u8], at: usize, v: Span) -> usize
-    ensures { λ r. ⌜ ((xs : List ℕ) (p : Option Term) → Meant xs v p → Put (opened p) (now (out .entry)) at r (now (out .exit))) ⌝ }
+fn put_application(out: &mut [u8], at: usize, v: Span) -> usize
+    ensures { λ r. ⌜ ((xs : List ℕ) (p : Option Term) → Meant xs v p → Put (application p) (now (out .entry)) at r (now (out .exit))) ⌝ }
 {
     if v.len == 0 {
         return at;
@@ -128,13 +132,13 @@ fn put_argument(out: &mut [u8], at: usize, run: &[u32], v: Span, names: &[u32]) 
     put::put_byte(out, p, b')')
 }
 
-// For all letters of a law: the last one is applied to last, so that it is opened first.
-fn put_all_opened(out: &mut [u8], at: usize, z: Spans) -> usize
-    ensures { λ r. ⌜ ((xs : List ℕ) (σ : Bindings) → Means xs z σ → Put (all-opened σ) (now (out .entry)) at r (now (out .exit))) ⌝ }
+// For all letters of a law: the last one is applied to last, so that its application comes first.
+fn put_applications(out: &mut [u8], at: usize, z: Spans) -> usize
+    ensures { λ r. ⌜ ((xs : List ℕ) (σ : Bindings) → Means xs z σ → Put (applications σ) (now (out .entry)) at r (now (out .exit))) ⌝ }
 {
-    let p = put_opened(out, at, z.c);
-    let p = put_opened(out, p, z.b);
-    put_opened(out, p, z.a)
+    let p = put_application(out, at, z.c);
+    let p = put_application(out, p, z.b);
+    put_application(out, p, z.a)
 }
 
 // What stands behind the law's name for all its letters.
@@ -150,7 +154,7 @@ fn put_arguments(out: &mut [u8], at: usize, run: &[u32], z: Spans, names: &[u32]
 fn put_call(out: &mut [u8], at: usize, law: Law, run: &[u32], z: Spans, names: &[u32]) -> usize
     ensures { λ r. ⌜ ((σ : Bindings) → Means (now (run .entry)) z σ → Put (call (law-name (name-of law)) (bound (now (names .entry)) (0 ∷ 1 ∷ 2 ∷ []) σ)) (now (out .entry)) at r (now (out .exit))) ⌝ }
 {
-    let p = put_all_opened(out, at, z);
+    let p = put_applications(out, at, z);
     let p = put::put_bytes(out, p, b"(ref ");
     let p = step::put_law(out, p, law);
     let p = put::put_byte(out, p, b')');

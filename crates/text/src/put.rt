@@ -62,7 +62,7 @@ pub fn put_number(out: &mut [u8], at: usize, n: usize) -> usize
 }
 
 // A letter by its number.
-pub fn put_letter(out: &mut [u8], at: usize, n: u32) -> usize
+fn put_letter(out: &mut [u8], at: usize, n: u32) -> usize
     ensures { λ r. ⌜ Put (write-letter n) (now (out .entry)) at r (now (out .exit)) ⌝ }
 {
     let p = put_byte(out, at, b'v');
@@ -86,7 +86,7 @@ fn sign_of(n: u32) -> u8
 }
 
 // 0, 1, + or *.
-pub fn put_sign(out: &mut [u8], at: usize, n: u32) -> usize
+fn put_sign(out: &mut [u8], at: usize, n: u32) -> usize
     ensures { λ r. ⌜ Put (sign-of n ∷ []) (now (out .entry)) at r (now (out .exit)) ⌝ }
 {
     put_byte(out, at, sign_of(n))

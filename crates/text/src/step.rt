@@ -48,7 +48,7 @@ pub fn put_law(out: &mut [u8], at: usize, law: Law) -> usize
 }
 
 // Whether a law is read forward or back.
-pub fn put_direction(out: &mut [u8], at: usize, direction: Direction) -> usize
+fn put_direction(out: &mut [u8], at: usize, direction: Direction) -> usize
     ensures { λ r. ⌜ Put (text.direction (direction-of direction)) (now (out .entry)) at r (now (out .exit)) ⌝ }
 {
     match direction {
@@ -75,7 +75,7 @@ fn put_sides(out: &mut [u8], at: usize, run: &[u32], from: usize, place: usize) 
 }
 
 // A place of a term: the sides that lead to it, or `.` for the root.
-pub fn put_place(out: &mut [u8], at: usize, run: &[u32], place: usize) -> usize
+fn put_place(out: &mut [u8], at: usize, run: &[u32], place: usize) -> usize
     ensures { λ r. ⌜ ((t : Term) → IsRun (now (run .entry)) t → place < size t → Put (text.place (place-at t place)) (now (out .entry)) at r (now (out .exit))) ⌝ }
 {
     if place == 0 {
@@ -100,7 +100,7 @@ fn put_line(out: &mut [u8], at: usize, step: Step, source: &[u32], result: &[u32
 }
 
 // The line that leads to the term in slot k.
-pub fn put_step(out: &mut [u8], at: usize, ws: &[u32], k: u32) -> usize
+fn put_step(out: &mut [u8], at: usize, ws: &[u32], k: u32) -> usize
     ensures { λ r. ⌜ ((ns : List Noted) (j : ℕ) (x : Line) → Slots (now (ws .entry)) ns → Linked (now (ws .entry)) ns j k x → Put (find.step x) (now (out .entry)) at r (now (out .exit))) ⌝ }
 {
     let Origin::From(step) = path::origin_of(ws, k) else {
@@ -142,7 +142,7 @@ fn leads_to(ws: &[u32], k: u32, law: Law) -> bool
 }
 
 // Whether a line of the path is by the law.
-pub fn uses_law(ws: &[u32], path: &[u32], law: Law) -> bool
+fn uses_law(ws: &[u32], path: &[u32], law: Law) -> bool
     ensures { λ r. ⌜ ((s : Term) (xs : List Line) → Walk (now (ws .entry)) (now (path .entry)) s xs → r ≡ used (name-of law) xs) ⌝ }
 {
     let mut i = 0;

@@ -80,6 +80,15 @@ module _ (xs ys us vs : List ℕ) {c : Comparison} (h : Compares xs us c) where
   unfolding order-equations
   left-equal e k = rw (told h e) (k .numbers)
 
+-- an equation is kept against two runs that both come after its left side
+pub both-after : (xs ys : List ℕ) (e : Equation (List ℕ)) → order-numbers (e .left) xs ≡ lt → order-numbers (e .left) ys ≡ lt
+    → lesser order-numbers e (orient order-numbers xs ys) ≡ e
+unfolding lesser order-equations
+both-after xs ys e p q =
+    let d : order-numbers (e .left) (orient order-numbers xs ys .left) ≡ lt = orient-either (λ us vs. order-numbers (e .left) us ≡ lt) order-numbers xs ys p q in
+    let o : order-equations order-numbers e (orient order-numbers xs ys) ≡ lt = rw d in
+    rw (o, lesser)
+
 -- two runs kept
 
 abbrev none : Lengths

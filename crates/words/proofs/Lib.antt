@@ -24,3 +24,6 @@ pub mod BoundedWords
 pub mod RenamedWords
 pub mod WordNames
 pub mod CanonicalWords
+pub mod FirstWord
+pub mod Tallied
+pub mod Ranked

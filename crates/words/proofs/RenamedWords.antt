@@ -1,12 +1,13 @@
 -- Words renamed: one into a slot, one after another, and all of them sorted and written.
 use Prim.Native.Nat.{ℕ, _+_, _*_, _≤_, _<_}
 use native.Mathlib.Omega.{arith}
-use mathlib.Core.Path.{_≡_, sym, ap, ap₂, _∙_}
+use mathlib.Core.Path.{_≡_, refl, sym, ap, ap₂, _∙_}
+use mathlib.Core.Bool.{true}
 use mathlib.Core.List.{List, [], _∷_, _++_, map, map-append, append-nil}
 use lib.ListN.{length, take, length-map, length-take}
 use lib.Seq.{sets}
 use Rattle.terms.specs.Compare.{order-numbers}
-use Rattle.terms.specs.Equation.{Equation, orient}
+use Rattle.terms.specs.Equation.{orient}
 use Rattle.terms.specs.Run.{ZERO}
 use Rattle.terms.specs.Sort.{kept}
 use Rattle.words.specs.Words.{Word, normal}
@@ -17,13 +18,17 @@ use Rattle.words.specs.Spelled.{SLOT, spelled, word-at, words-in}
 use Rattle.words.specs.Multiply.{MOST, LONGEST, Fits, PutsWords}
 use Rattle.words.specs.Sort.{Spells}
 use Rattle.words.specs.Theory.Renaming.{map-words-depends}
-use Rattle.words.specs.WordLists.{slot-words, Bounded, RenamesWords, WordRoom}
+use Rattle.words.specs.WordLists.{slot-words, word-candidate, Bounded, RenamesWords, WordRoom, VisitRoom}
+use Rattle.words.specs.Candidate.{sides, Visits}
+use Rattle.words.specs.Rank.{Exceeds}
+use Rattle.words.specs.declared.candidate.Lengths.{Lengths}
 use Rattle.words.specs.Theory.WordLetters.{each-flat}
 use Rattle.words.proofs.Puts.{puts-none}
 use Rattle.words.proofs.Renamed.{letter-renamed}
 use Rattle.words.proofs.Candidates.{renamed-front}
 use Rattle.words.proofs.Canonical.{renaming-below}
-use Rattle.words.proofs.Visited.{Made}
+use Rattle.words.proofs.Visited.{Made, passed-over}
+use Rattle.words.proofs.Kept.{both-after}
 use Rattle.words.proofs.SlotWords.{words-in-next, puts-more, puts-listed}
 use Rattle.words.proofs.BoundedWords.{rename-bounded, bounded-written}
 
@@ -73,31 +78,44 @@ pub slots-as-long : {f : ℕ → ℕ} {ws ss ss₁ out out′ : List ℕ} {r : �
     → RenamesWords f ws ss₁ out r out′ → RenamesWords f ws ss out r out′
 slots-as-long e p = record { within = p .within; exact = λ b k slots. p .exact b k (omega arith) }
 
--- the equation that renaming number c makes of the words in two lists of slots
-abbrev pub word-candidate : (names us vs : List ℕ) → ℕ → Equation (List ℕ)
-word-candidate names us vs c =
-    orient order-numbers (spelled (rename-words (renaming names c) (slot-words us))) (spelled (rename-words (renaming names c) (slot-words vs)))
-
+-- both lists, as candidate number c
 pub word-candidate-made : (names us vs : List ℕ) (c : ℕ) {ss x y x′ y′ u v left right : List ℕ} {m n : ℕ} → length names ≤ 6
-    → length ss ≡ SLOT * MOST → length x ≡ SLOT * MOST → length y ≡ SLOT * MOST
     → RenamesWords (renaming names c) us ss x m x′ → RenamesWords (renaming names c) vs ss y n y′ → u ≡ take m x′ → v ≡ take n y′
-    → WordRoom us vs left right → Made (SLOT * MOST) (word-candidate names us vs) c u v left right
-word-candidate-made names us vs c {x′ = x′} {y′ = y′} {m = m} {n = n} few hs hx hy p q d e h =
+    → VisitRoom us vs ss x y left right → Made (SLOT * MOST) (word-candidate names us vs) c u v left right
+word-candidate-made names us vs c {x′ = x′} {y′ = y′} {m = m} {n = n} few p q d e h =
     record {
       room =
           record {
-            first = omega (arith, ap length d, length-take m x′, p .within);
-            second = omega (arith, ap length e, length-take n y′, q .within);
-            left-room = h .left-room;
-            right-room = h .right-room;
+            first = omega (arith, ap length d, length-take m x′, p .within, h .first);
+            second = omega (arith, ap length e, length-take n y′, q .within, h .second);
+            left-room = h .sides .left-room;
+            right-room = h .sides .right-room;
           };
       equation =
           ap₂ (orient order-numbers)
-          (d ∙ p .exact (h .first) (renaming-below names few c) (omega arith) (omega arith))
-          (e ∙ q .exact (h .second) (renaming-below names few c) (omega arith) (omega arith));
+          (d ∙ p .exact (h .sides .first) (renaming-below names few c) (h .slots) (omega (arith, h .first)))
+          (e ∙ q .exact (h .sides .second) (renaming-below names few c) (h .slots) (omega (arith, h .second)));
     }
 
-pub room-as-long : {us vs left right left₀ right₀ : List ℕ} → length left ≡ length left₀ → length right ≡ length right₀
-    → WordRoom us vs left₀ right₀ → WordRoom us vs left right
-room-as-long p q h =
-    record { first = h .first; second = h .second; left-room = omega (arith, h .left-room); right-room = omega (arith, h .right-room) }
+-- a candidate of which both sides come after the best's left side
+pub word-candidate-passed : (names us vs : List ℕ) (c : ℕ) {ss x y left right run : List ℕ} {best : Lengths}
+    → Exceeds (renaming names c) us vs c run true → run ≡ take (best .left) left
+    → Visits (VisitRoom us vs ss x y left right) (word-candidate names us vs) c left right best best left right
+unfolding rename-words
+word-candidate-passed names us vs c {left = left} {right} {run} {best} e d =
+    let f = renaming names c in
+    passed-over (e .later refl)
+    (λ h.
+    both-after (spelled (rename-words f (slot-words us))) (spelled (rename-words f (slot-words vs))) (sides best left right)
+    (rw (d, letters-renamed f (h .sides .first)) at (e .first refl))
+    (rw (d, letters-renamed f (h .sides .second)) at (e .second refl)))
+
+pub room-as-long : {us vs ss x y left right left₀ right₀ : List ℕ} → length ss ≡ SLOT * MOST → length x ≡ SLOT * MOST → length y ≡ SLOT * MOST
+    → length left ≡ length left₀ → length right ≡ length right₀ → WordRoom us vs left₀ right₀ → VisitRoom us vs ss x y left right
+room-as-long s p q a b h =
+    record {
+      sides = record { first = h .first; second = h .second; left-room = omega (arith, h .left-room); right-room = omega (arith, h .right-room) };
+      slots = omega arith;
+      first = p;
+      second = q;
+    }

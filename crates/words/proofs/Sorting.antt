@@ -1,23 +1,53 @@
 -- Sorting slots by their words: both halves, then merged.
-use Prim.Native.Nat.{ℕ, _-_, _<_, _≤_}
+use Prim.Native.Nat.{ℕ, zero, suc, _-_, _<_, _≤_}
 use native.Mathlib.Omega.{arith}
 use mathlib.Core.Path.{_≡_, refl, sym, ap, _∙_}
+use mathlib.Core.Bool.{true}
 use mathlib.Core.List.{List, [], _∷_, _++_, map-append}
-use lib.ListN.{length, take, drop, take-append-drop}
-use lib.Seq.{take-at, drop-at, length-take-le}
+use lib.ListN.{length, take, drop, getD, take-append-drop}
+use lib.Seq.{take-at, drop-at, drop-cons, take-suc, length-take-le}
 use borrow.Rule.Slice.PartMut.{midOf, putMid}
-use Rattle.terms.specs.Sort.{kept, insert}
+use Rattle.terms.specs.Sort.{kept, insert, Below, Sorted}
 use Rattle.terms.specs.Theory.Sorted.{sort-sorted}
-use Rattle.terms.specs.Theory.Sorting.{sort-append-left, sort-append-right}
-use Rattle.words.specs.Words.{normal}
-use Rattle.words.specs.Spelled.{words-at}
-use Rattle.words.specs.Sort.{Merges}
+use Rattle.terms.specs.Theory.Sorting.{sort-append-left, sort-append-right, sorted-unique, sort-permutation}
+use Rattle.words.specs.Words.{Word, order-words, normal}
+use Rattle.words.specs.Spelled.{word-at, words-at}
+use Rattle.words.specs.Sort.{from-first, Merges}
 use Rattle.words.specs.Theory.Order.{word-order}
+use Rattle.words.specs.Theory.Merge.{first-below}
+use Rattle.words.proofs.Merging.{first-there}
 use Rattle.words.proofs.Parts.{end-lent, end-back}
 
 pub parts-merged : (ws order out : List ℕ) (mid : ℕ) {parts : List ℕ} → parts ≡ order
     → Merges ws (take mid parts) (midOf mid (length parts - mid) parts) out → Merges ws (take mid order) (drop mid order) out
 parts-merged ws order out mid e m = rw (e, end-lent order mid) at m
+
+-- two sorted lists, of which the first's last item may stand before the second, are one
+joined-sorted : (us : List Word) (u : Word) (vs : List Word) → Sorted kept order-words (us ++ (u ∷ [])) → Below kept order-words u vs
+    → Sorted kept order-words vs → Sorted kept order-words (us ++ (u ∷ vs))
+joined-sorted [] u vs s b t = (b, t)
+joined-sorted (x ∷ []) u vs s b t = (s .0, joined-sorted [] u vs (s .1) b t)
+joined-sorted (x ∷ y ∷ us) u vs s b t = (s .0, joined-sorted (y ∷ us) u vs (s .1) b t)
+
+in-order : (ws order : List ℕ) (i : ℕ) → from-first ws order order i (suc i) ≡ true → Merges ws (take (suc i) order) (drop (suc i) order) order
+in-order ws order i e s t =
+    let x = getD order i 0 in
+    let rest = words-at ws (drop (suc i) order) in
+    let h = first-there ws order order i (suc i) e in
+    let d = drop-cons order i 0 h in
+    let whole : words-at ws (take (suc i) order) ++ rest ≡ words-at ws order =
+    sym (map-append _ (take (suc i) order) (drop (suc i) order)) ∙ ap (words-at ws) (take-append-drop (suc i) order) in
+    let split : words-at ws order ≡ words-at ws (take i order) ++ (word-at ws x ∷ rest) =
+    ap (words-at ws) (sym (take-append-drop i order) ∙ ap (take i order ++_) d) ∙ map-append _ (take i order) (x ∷ drop (suc i) order) in
+    let first : Sorted kept order-words (words-at ws (take i order) ++ (word-at ws x ∷ [])) = rw (take-suc order i 0 h, map-append) at s in
+    let below = first-below word-order (word-at ws x) rest rest (rw d at e) in
+    let all : Sorted kept order-words (words-at ws order) = rw split (joined-sorted (words-at ws (take i order)) (word-at ws x) rest first below t) in
+    rw whole (sym (sorted-unique kept word-order (sort-sorted kept word-order (words-at ws order)) all (sort-permutation word-order (words-at ws order))))
+
+pub parts-in-order : (ws order : List ℕ) (mid : ℕ) → 0 < mid → from-first ws order order (mid - 1) mid ≡ true
+    → Merges ws (take mid order) (drop mid order) order
+parts-in-order ws order zero z e = absurd (omega arith)
+parts-in-order ws order (suc i) z e = let k : suc i - 1 ≡ i = omega arith in in-order ws order i (rw k at e)
 
 pub short-sorted : (ws order : List ℕ) → length order < 2 → words-at ws order ≡ normal kept (words-at ws order)
 unfolding insert

@@ -1,7 +1,7 @@
 -- Candidates tried one after another: the least of those so far, in two buffers.
 use Prim.Native.Nat.{ℕ, zero, suc, _+_, _-_, _<_}
 use native.Mathlib.Omega.{arith}
-use mathlib.Core.Path.{_≡_, refl, sym, _∙_}
+use mathlib.Core.Path.{_≡_, refl, sym, _∙_, ap}
 use mathlib.Core.List.{List}
 use lib.ListN.{length}
 use Rattle.terms.specs.Compare.{Ordering, order-numbers}
@@ -40,6 +40,15 @@ pub visited : {IsRoom : Type 0} {n c : ℕ} {g : ℕ → Equation (List ℕ)} {u
     → {best r : Lengths} {left′ right′ : List ℕ} → Tries u v c left right best r left′ right′ → Visits IsRoom g c left right best r left′ right′
 visited {c = zero} made t = visit-first made refl (t .first refl)
 visited {c = suc c} made t = visit-next made (λ e. omega arith) (t .later (λ e. omega arith))
+
+-- a candidate that surely makes no lesser equation is not made
+pub passed-over : {IsRoom : Type 0} {c : ℕ} {g : ℕ → Equation (List ℕ)} {left right : List ℕ} {best : Lengths} → 0 < c
+    → (IsRoom → lesser order-numbers (sides best left right) (g c) ≡ sides best left right) → Visits IsRoom g c left right best best left right
+passed-over {c = c} {g = g} z k =
+    record {
+      within = λ w. w;
+      exact = λ h p. sym (k h) ∙ ap (λ e. lesser order-numbers e (g c)) (p z) ∙ least-next order-numbers g c (λ e. omega arith);
+    }
 
 -- all of them, in a loop
 

@@ -3,6 +3,8 @@ use Prim.Native.Nat.{ℕ, _*_, _/_, _≤_, _<_}
 use mathlib.Core.Path.{_≡_}
 use mathlib.Core.List.{List, _++_}
 use lib.ListN.{length, take}
+use Rattle.terms.specs.Compare.{order-numbers}
+use Rattle.terms.specs.Equation.{Equation, orient}
 use Rattle.terms.specs.Term.{Term, size}
 use Rattle.terms.specs.Letters.{letters, rising}
 use Rattle.terms.specs.Run.{ZERO}
@@ -11,6 +13,7 @@ use Rattle.terms.specs.Promises.{ordering-of}
 use Rattle.words.specs.Words.{Word, words, order-lists}
 use Rattle.words.specs.Spelled.{SLOT, spelled, words-in}
 use Rattle.words.specs.Rename.{rename-words, canonical-words}
+use Rattle.words.specs.Decoded.{renaming}
 use Rattle.words.specs.Multiply.{MOST, LONGEST}
 use Rattle.words.specs.Sort.{Lettered}
 use Rattle.words.specs.Candidate.{Within}
@@ -45,6 +48,18 @@ pub record WordRoom (us vs left right : List ℕ) : Type 0 where
   pub second : Bounded (slot-words vs)
   pub left-room : SLOT * MOST ≤ length left
   pub right-room : SLOT * MOST ≤ length right
+
+-- and room on the way: slots for the renamed words, and two buffers for the sides
+pub record VisitRoom (us vs ss x y left right : List ℕ) : Type 0 where
+  pub sides : WordRoom us vs left right
+  pub slots : SLOT * MOST ≤ length ss
+  pub first : length x ≡ SLOT * MOST
+  pub second : length y ≡ SLOT * MOST
+
+-- the equation that renaming number c makes of the words in two lists of slots
+abbrev pub word-candidate : (names us vs : List ℕ) → ℕ → Equation (List ℕ)
+word-candidate names us vs c =
+    orient order-numbers (spelled (rename-words (renaming names c) (slot-words us))) (spelled (rename-words (renaming names c) (slot-words vs)))
 
 -- the canonical equation of the words of two terms of at most 31 nodes with at most six letters
 pub record CanonicalWords (xs ys left right : List ℕ) (r : Lengths) (left′ right′ : List ℕ) : Type 0 where

@@ -14,6 +14,9 @@ ghost use Rattle.words.specs.Candidate.{Room, ordered, Keeps, KeepsLesse
 // The same for lists of words.
 pub mod words;
 
+// Renamed lists of words set against a run.
+pub mod rank;
+
 use super::normal_form::ZERO;
 use super::normal_form::copy;
 use super::normal_form::front;
@@ -63,7 +66,7 @@ pub fn new_name(names: &[u32], numbers: &[u32], x: u32) -> u32
 }
 
 // The new name of a letter; another number stays.
-fn new_number(names: &[u32], numbers: &[u32], x: u32) -> u32
+pub fn new_number(names: &[u32], numbers: &[u32], x: u32) -> u32
     ensures { λ r. ⌜ r ≡ rename-number (renamed (now (names .entry)) (now (numbers .entry))) x ⌝ }
 {
     if x < ZERO {

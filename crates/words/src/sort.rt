@@ -1,6 +1,6 @@
 // Slots sorted by the words in them, and the words written as a run.
 ghost use mathlib.Core.Path.{_≡_};
-ghost use Prim.Native.Nat.{_+_, _*_, _≤_};
+ghost use Prim.Native.Nat.{_+_, _*_, _≤_, _<_};
 ghost use mathlib.Core.List.{[], _∷_};
 ghost use lib.ListN.{length, take, drop};
 ghost use Rattle.terms.specs.Sort.{kept};
@@ -66,12 +66,15 @@ fn merge(words: &[u32], a: &[u32], b: &[u32], out: &mut [u32])
     }
 }
 
-// The two parts of `order`, each sorted by its words, merged.
+// The two parts of `order`, each sorted by its words, merged; nothing is moved where they are in order already.
 fn merge_parts(words: &[u32], order: &mut [u32], mid: usize, spare: &mut [u32])
-    requires { ⌜ (mid ≤ length (now order)) × (length (now order) ≤ length (now spare)) ⌝ }
+    requires { ⌜ (mid ≤ length (now order)) × (length (now order) ≤ length (now spare)) × (0 < mid) ⌝ }
     ensures { λ _. ⌜ Merges (now (words .entry)) (take mid (now (order .entry))) (drop mid (now (order .entry))) (now (order .exit)) ⌝ }
 {
     let n = order.len();
+    if takes_first(words, &order[..], mid - 1, &order[..], mid) {
+        return;
+    }
     copy(spare, 0, order);
     let parts = &spare[..n];
     merge(words, &parts[..mid], &parts[mid..], order);

@@ -9,7 +9,7 @@ mod searched;
 mod terms;
 
 use crate::Call;
-use random::Random;
+pub use random::Random;
 
 /// A kind of call, its share in a thousand of a mixed list, and what it is.
 pub struct Kind {
@@ -66,6 +66,7 @@ pub struct Plan {
     pub kind: Option<usize>,
     /// No heavy calls among the mixed.
     pub light: bool,
+    pub most_bytes: usize,
     pub most_slots: usize,
     pub most_room: usize,
 }
@@ -77,6 +78,7 @@ impl Default for Plan {
             count: 1_000,
             kind: None,
             light: false,
+            most_bytes: usize::MAX,
             most_slots: usize::MAX,
             most_room: usize::MAX,
         }
@@ -89,10 +91,12 @@ impl Plan {
         (0..self.count).map(|index| self.call(index))
     }
 
-    fn call(&self, index: u64) -> (usize, Call) {
+    /// The call of this index, whatever the others are, with its kind.
+    pub fn call(&self, index: u64) -> (usize, Call) {
         let mut random = Random::new(self.seed, index);
         let kind = self.kind.unwrap_or_else(|| self.by_share(&mut random));
         let mut call = (KINDS[kind].make)(&mut random);
+        call.job.truncate(self.most_bytes);
         call.slots = call.slots.min(self.most_slots);
         call.room = call.room.min(self.most_room);
         (kind, call)

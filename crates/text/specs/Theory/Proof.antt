@@ -14,7 +14,7 @@ use Rattle.search.specs.Law.{Law, rank, semiring}
 use Rattle.search.specs.Match.{Bindings, unbound, match}
 use Rattle.search.specs.Line.{Line, Direction, forward, back, Side, l, r, from, to}
 use Rattle.search.specs.Directly.{match-sides}
-use Rattle.search.specs.Path.{subterm, replace, IsLine}
+use Rattle.search.specs.Path.{subterm, replace, IsLine, Path, end, step}
 use Rattle.search.specs.Theory.Bindings.{Agrees, Bound, nothing-agrees}
 use Rattle.search.specs.Theory.Match.{Matching, Matched, match-matched}
 use Rattle.text.specs.StepText.{law-name}
@@ -130,3 +130,17 @@ module _ (names : List ℕ) (ws : List Law) (apart : Apart ws) (s : Term) (x : L
   pub line-called : Called names (h .law) (h .terms) (in-order (x .direction) (parts (x .place) s) (parts (x .place) (x .result)) (applied names ws (x .law)))
   line-called =
       rw (subterm-inside (x .place) s _ (h .replaced) .1, replace-part (x .place) s _ (x .result) (h .replacement), ← h .named) (law-called (x .direction))
+
+-- a line by one of the ten laws, whose proof text has no empty part
+pub record Filled (names : List ℕ) (s : Term) (x : Line) : Type 0 where
+  pub line : IsLine semiring s x
+  pub inside : Inside (x .place) s
+  pub called : Called names (line .law) (line .terms) (in-order (x .direction) (parts (x .place) s) (parts (x .place) (x .result)) (applied names semiring (x .law)))
+
+-- every line of a path by the ten laws is such a line
+pub path-filled : (names : List ℕ) {s t : Term} {xs : List Line} → Path (IsLine semiring) s xs t → Path (Filled names) s xs t
+path-filled names end = end
+path-filled names {s} (step x h path) =
+    step x
+    (record { line = h; inside = line-inside names semiring semiring-apart s x h; called = line-called names semiring semiring-apart s x h })
+    (path-filled names path)

@@ -15,10 +15,9 @@ use Rattle.terms.specs.Build.{Token, atom, plus, times, operate, push, next, bu
 use Rattle.terms.specs.Theory.Reflects.{Reflects, eqb-reflects, leb-reflects}
 use Rattle.search.specs.Theory.Binary.{Binary, add-binary, mul-binary}
 use Rattle.text.specs.Bytes.{ascii, read-number, parted, pieces}
-use Rattle.text.specs.TermText.{write-letter, items, write-term, letter-of, sign, token, read-term}
+use Rattle.text.specs.TermText.{Readable, write-letter, items, write-term, letter-of, sign, token, read-term}
 use Rattle.text.specs.Theory.Numbers.{read-number-only}
 use Rattle.text.specs.Theory.Pieces.{parted-pieces}
-use Rattle.text.specs.Theory.TermText.{Readable}
 
 abbrev pub If-some : {A : Type 0} → (A → Type 0) → Option A → Type 0
 If-some P none = Unit {0}

@@ -15,7 +15,7 @@ use Rattle.search.specs.Law.{Law, Name}
 use Rattle.search.specs.Line.{Line}
 use Rattle.search.specs.Search.{proved, unproved}
 use Rattle.text.specs.Bytes.{ascii, number, after, parted, pieces}
-use Rattle.text.specs.TermText.{write-term}
+use Rattle.text.specs.TermText.{Readable, write-term}
 use Rattle.text.specs.Answer.{field, values, yes-no}
 use Rattle.text.specs.Job.{Job}
 use Rattle.text.specs.StepText.{law-name, step-value, names, read-step, read-steps}
@@ -24,7 +24,7 @@ use Rattle.text.specs.Find.{step, used, uses, outcome-lines, outcome-tex
 use Rattle.text.specs.Theory.AtLeast.{Printable, at-least, tested, higher, free, append-least, parted-least}
 use Rattle.text.specs.Theory.Numbers.{number-least}
 use Rattle.text.specs.Theory.Pieces.{pieces-more}
-use Rattle.text.specs.Theory.TermText.{Readable, write-term-least}
+use Rattle.text.specs.Theory.TermText.{write-term-least}
 use Rattle.text.specs.Theory.StepText.{Told, name-least, step-value-printable, read-step-value}
 use Rattle.text.specs.Theory.ProofText.{proof-printable}
 

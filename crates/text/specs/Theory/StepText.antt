@@ -13,12 +13,12 @@ use Rattle.terms.specs.Theory.Build.{read-written}
 use Rattle.search.specs.Law.{Law, Name, semiring}
 use Rattle.search.specs.Line.{Line, Direction, forward, back, Side, l, r}
 use Rattle.text.specs.Bytes.{ascii, parted, pieces}
-use Rattle.text.specs.TermText.{items, write-term, token}
+use Rattle.text.specs.TermText.{Readable, items, write-term, token}
 use Rattle.text.specs.StepText.{law-name, direction, sides, place, step-value, which, names}
 use Rattle.text.specs.StepText.{read-law, read-direction, read-sides, read-place, read-pieces, read-step}
 use Rattle.text.specs.Theory.AtLeast.{AtLeast, Printable, at-least, tested, higher, free, cons-least, append-least}
 use Rattle.text.specs.Theory.Pieces.{pieces-behind, pieces-more}
-use Rattle.text.specs.Theory.TermText.{Readable, written, items-first, pieces-items, write-term-least}
+use Rattle.text.specs.Theory.TermText.{written, items-first, pieces-items, write-term-least}
 
 -- what holds of every item of a list, by evaluation of all of it
 listed : {A B : Type 0} (f g : A → B) (xs : List A) → map f xs ≡ map g xs → (x : A) → x ∈ xs → f x ≡ g x

@@ -75,7 +75,7 @@ fn answer_proved(
     let mut names = [0u32; 6];
     let listed = term::letters(left, right, &mut names);
     let Listed::All(n) = listed else {
-        return 8;
+        return 4;
     };
     answer_named(left, right, expanded, ws, path, front(&names, n), out)
 }
@@ -101,10 +101,10 @@ fn answer_direct(left: &[u32], right: &[u32], law: Law, out: &mut [u8]) -> usize
     ensures { λ r. ⌜ ((j : Job) → Sides (now (left .entry)) (now (right .entry)) j → Call (told (length (now (out .entry))) j (proved (whole-line (name-of law) (j .right) ∷ []) 0 0)) (now (out .entry)) r (now (out .exit))) ⌝ }
 {
     if 31 < left.len() {
-        return 8;
+        return 3;
     }
     if 31 < right.len() {
-        return 8;
+        return 3;
     }
     let mut ws = [0u32; 80];
     bounded_search::note_start(&mut ws, left);

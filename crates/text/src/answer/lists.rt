@@ -29,7 +29,7 @@ fn put_lists(out: &mut [u8], at: usize, same: bool, a: &[u32], b: &[u32]) -> usi
 }
 
 // The answer's text, from the spelled lists of both sides.
-pub fn put_words_text(out: &mut [u8], at: usize, u: &[u32], v: &[u32]) -> usize
+fn put_words_text(out: &mut [u8], at: usize, u: &[u32], v: &[u32]) -> usize
     ensures { λ r. ⌜ ((us vs : List Word) → now (u .entry) ≡ spelled us → now (v .entry) ≡ spelled vs → Put (words-text us vs) (now (out .entry)) at r (now (out .exit))) ⌝ }
 {
     match compare_lists(u, v) {

@@ -17,7 +17,7 @@ ghost use Rattle.text.specs.Put.{Put};
 use crate::answer::put_number_line;
 use crate::answer::put_term_line;
 use crate::answer::put_yes_no_line;
-use crate::kernel_bridge::path::put_proof;
+use crate::kernel_bridge::lambdas::put_proof;
 use crate::put;
 use crate::step;
 use crate::writer::write_line;

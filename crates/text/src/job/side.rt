@@ -5,7 +5,9 @@ ghost use lib.Seq.{slice};
 ghost use Rattle.text.specs.SideRead.{ItemEnds, ReadsItems, ReadsTerm};
 use super::Found;
 use super::Item;
+use super::Mark;
 use super::item_at;
+use super::mark_of;
 use terms::term;
 
 // Where the item that starts at a position ends: the next space, or where the side ends.
@@ -15,7 +17,7 @@ fn item_end(s: &[u8], from: usize, to: usize) -> usize
 {
     let mut i = from;
     while i < to {
-        if s[i] == b' ' {
+        if let Mark::Space = mark_of(s[i]) {
             return i;
         }
         i += 1;

@@ -1,11 +1,9 @@
-// The lines of a path and the whole proof in the proof text.
-ghost use mathlib.Core.Path.{_≡_};
-ghost use mathlib.Core.List.{List, _++_};
+// The lines of a path in the proof text, joined.
+ghost use mathlib.Core.List.{List};
 ghost use Prim.Native.Nat.{ℕ, _-_, _≤_, _<_};
 ghost use lib.ListN.{length, take};
 ghost use Rattle.terms.specs.Term.{Term, size};
 ghost use Rattle.terms.specs.Held.{Holds};
-ghost use Rattle.terms.specs.Letters.{letters, rising};
 ghost use Rattle.search.specs.Law.{semiring};
 ghost use Rattle.search.specs.Line.{Line, back};
 ghost use Rattle.search.specs.Search.{Noted};
@@ -13,10 +11,10 @@ ghost use Rattle.search.specs.Place.{place-at};
 ghost use Rattle.search.specs.Coded.{name-of, direction-of};
 ghost use Rattle.search.specs.Slots.{Spells, noted-at, Slots};
 ghost use Rattle.search.specs.Traced.{Linked};
-ghost use Rattle.text.specs.Proof.{part, context, at-place, one-line, chain, proof};
+ghost use Rattle.text.specs.Proof.{part, context, at-place, one-line, chain};
 ghost use Rattle.text.specs.Put.{Put};
 ghost use Rattle.text.specs.Walk.{Walk};
-ghost use Rattle.text.specs.Framed.{side-of, frame, ends, opens, closes, Encloses};
+ghost use Rattle.text.specs.Framed.{side-of, frame, ends, Encloses};
 use crate::kernel_bridge;
 use crate::put;
 use search::bounded_search::Origin;
@@ -29,7 +27,7 @@ use terms::term;
 const ADD: u32 = 4098;
 
 // Where the part of a sum or product on one side starts: an atom is its own part.
-pub fn part_at(run: &[u32], from: usize, right: bool) -> usize
+fn part_at(run: &[u32], from: usize, right: bool) -> usize
     ensures { λ r. ⌜ ((t : Term) → Holds (now (run .entry)) from t → Holds (now (run .entry)) r (part (side-of right) t)) ⌝ }
 {
     if run.len() <= from {
@@ -89,13 +87,13 @@ fn render_context(
     if n < ADD {
         return at;
     }
-    let opened = kernel_bridge::put_operator(out, at, n);
+    let begun = kernel_bridge::put_operator(out, at, n);
     if right {
-        let p = kernel_bridge::render_term(out, opened, run, from + 1, names);
+        let p = kernel_bridge::render_term(out, begun, run, from + 1, names);
         return put::put_bytes(out, p, b") (ref hole))");
     }
     let other = part_at(run, from, true);
-    let p = put::put_bytes(out, opened, b"(ref hole)) ");
+    let p = put::put_bytes(out, begun, b"(ref hole)) ");
     let q = kernel_bridge::render_term(out, p, run, other, names);
     put::put_bytes(out, q, b")")
 }
@@ -151,8 +149,9 @@ fn render_law(
     }
 }
 
-// What stands before the proof of a part in the proof of the whole: the context, and the part of s and of t.
-fn render_frame(
+// What stands before the proof of a part in the proof of the whole: the context, and the part of s and of t. The Rust's puts that proof and
+// the end too.
+fn render_congruence(
     out: &mut [u8],
     at: usize,
     right: bool,
@@ -177,7 +176,7 @@ fn render_frame(
 
 // One line, from s to t, with its law at `place` of s. It calls itself for the part that has the place: its calls nest once for
 // each sum or product around the place.
-pub fn render_congruence(
+fn render_step(
     out: &mut [u8],
     at: usize,
     law: Law,
@@ -197,13 +196,13 @@ pub fn render_congruence(
     let part = part_of(s, i, place);
     let right = part.right;
     let m = part_at(t, j, right);
-    let p = render_frame(out, at, right, s, i, t, j, names);
-    let q = render_congruence(out, p, law, direction, s, part.from, place, t, m, names);
+    let p = render_congruence(out, at, right, s, i, t, j, names);
+    let q = render_step(out, p, law, direction, s, part.from, place, t, m, names);
     put::put_byte(out, q, b')')
 }
 
 // The line that leads to the term in slot k: nothing for the start.
-pub fn render_step(out: &mut [u8], at: usize, ws: &[u32], k: u32, names: &[u32]) -> usize
+fn render_slot(out: &mut [u8], at: usize, ws: &[u32], k: u32, names: &[u32]) -> usize
     ensures { λ r. ⌜ ((ns : List Noted) (j : ℕ) (x : Line) → Slots (now (ws .entry)) ns → Linked (now (ws .entry)) ns j k x → Put (one-line (now (names .entry)) semiring (x .place) (x .direction) (x .law) (noted-at ns j .term) (x .result)) (now (out .entry)) at r (now (out .exit))) ⌝ }
 {
     let Origin::From(step) = path::origin_of(ws, k) else {
@@ -213,7 +212,7 @@ pub fn render_step(out: &mut [u8], at: usize, ws: &[u32], k: u32, names: &[u32])
     let direction = step.direction;
     let s = path::run_of(ws, step.parent);
     let t = path::run_of(ws, k);
-    render_congruence(
+    render_step(
         out,
         at,
         law,
@@ -227,7 +226,7 @@ pub fn render_step(out: &mut [u8], at: usize, ws: &[u32], k: u32, names: &[u32])
     )
 }
 
-// What stands before the two proofs that are joined: the terms in slot 0, in slot m and in slot k.
+// What stands before the two proofs that are joined: the terms in slot 0, in slot m and in slot k. The Rust's puts the proofs and the end too.
 fn render_transitivity(
     out: &mut [u8],
     at: usize,
@@ -267,56 +266,19 @@ fn render_lines(
     let before = n - 1;
     let k = path[before];
     if before == 0 {
-        return render_step(out, at, ws, k, names);
+        return render_slot(out, at, ws, k, names);
     }
     let m = path[before - 1];
     let a = render_transitivity(out, at, ws, m, k, names);
     let b = render_lines(out, a, ws, path, before, names);
     let c = put::put_bytes(out, b, b") ");
-    let d = render_step(out, c, ws, k, names);
+    let d = render_slot(out, c, ws, k, names);
     put::put_byte(out, d, b')')
 }
 
-// The lines of a path, joined.
+// The lines of a path, joined. The Rust's puts the binders around them too: ours is `put_proof`.
 pub fn render_path(out: &mut [u8], at: usize, ws: &[u32], path: &[u32], names: &[u32]) -> usize
     ensures { λ r. ⌜ ((s : Term) (xs : List Line) → Walk (now (ws .entry)) (now (path .entry)) s xs → Put (chain (now (names .entry)) semiring s xs) (now (out .entry)) at r (now (out .exit))) ⌝ }
 {
     render_lines(out, at, ws, path, path.len(), names)
-}
-
-// The binders of n variables, x0 first.
-fn open_lambdas(out: &mut [u8], at: usize, n: usize) -> usize
-    ensures { λ r. ⌜ Put (opens n) (now (out .entry)) at r (now (out .exit)) ⌝ }
-{
-    let mut p = at;
-    let mut i = 0;
-    while i < n {
-        let a = put::put_bytes(out, p, b"(lam ");
-        let b = kernel_bridge::put_variable(out, a, i);
-        p = put::put_byte(out, b, b' ');
-        i += 1;
-    }
-    p
-}
-
-// The ends of n binders.
-fn close_lambdas(out: &mut [u8], at: usize, n: usize) -> usize
-    ensures { λ r. ⌜ Put (closes n) (now (out .entry)) at r (now (out .exit)) ⌝ }
-{
-    let mut p = at;
-    let mut i = 0;
-    while i < n {
-        p = put::put_byte(out, p, b')');
-        i += 1;
-    }
-    p
-}
-
-// The proof of an equation whose letters are `names`, from a path between its sides.
-pub fn put_proof(out: &mut [u8], at: usize, ws: &[u32], path: &[u32], names: &[u32]) -> usize
-    ensures { λ r. ⌜ ((s t : Term) (xs : List Line) → Walk (now (ws .entry)) (now (path .entry)) s xs → now (names .entry) ≡ rising (letters s ++ letters t) → Put (proof semiring s t xs) (now (out .entry)) at r (now (out .exit))) ⌝ }
-{
-    let p = open_lambdas(out, at, names.len());
-    let q = render_path(out, p, ws, path, names);
-    close_lambdas(out, q, names.len())
 }

@@ -32,7 +32,7 @@ unfolding count-from
 count-from-distinct zero i = none
 count-from-distinct (suc k) i = more (λ m. let h = count-from-members k (suc i) i .0 m in omega arith) (count-from-distinct k (suc i))
 
-count-from-length : (k i : ℕ) → length (count-from k i) ≡ k
+pub count-from-length : (k i : ℕ) → length (count-from k i) ≡ k
 unfolding count-from
 count-from-length zero i = refl
 count-from-length (suc k) i = ap suc (count-from-length k (suc i))

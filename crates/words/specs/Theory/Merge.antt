@@ -26,7 +26,7 @@ module _ {A : Type 0} {o : A → A → Ordering} (O : IsOrder o) where
       below [] f = tt
       below (z ∷ zs) f = f z (here refl)
 
-  first-below : (x : A) (xs ys : List A) → first-next o (x ∷ xs) ys ≡ true → Below kept o x ys
+  pub first-below : (x : A) (xs ys : List A) → first-next o (x ∷ xs) ys ≡ true → Below kept o x ys
   unfolding first-next
   first-below x xs [] e = tt
   first-below x xs (y ∷ ys) e = rw e tt

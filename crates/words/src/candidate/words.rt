@@ -9,10 +9,10 @@ ghost use Rattle.words.specs.Words.{order-lists};
 ghost use Rattle.words.specs.Spelled.{spelled};
 ghost use Rattle.words.specs.Rename.{renamed, rename-words, least};
 ghost use Rattle.words.specs.RenameRun.{rename-run};
-ghost use Rattle.words.specs.Decoded.{renaming, both};
+ghost use Rattle.words.specs.Decoded.{both};
 ghost use Rattle.words.specs.Multiply.{PutsWords};
-ghost use Rattle.words.specs.Candidate.{Finds};
-ghost use Rattle.words.specs.WordLists.{slot-words, RenamesWords, WordRoom, CanonicalWords};
+ghost use Rattle.words.specs.Candidate.{Visits, Finds};
+ghost use Rattle.words.specs.WordLists.{slot-words, word-candidate, RenamesWords, WordRoom, VisitRoom, CanonicalWords};
 use super::super::normal_form::ROOM;
 use super::super::normal_form::front;
 use super::super::normal_form::multiply_out;
@@ -22,6 +22,7 @@ use super::super::sort::spell_sorted;
 use super::Lengths;
 use super::factorial;
 use super::permutation;
+use super::rank::is_greater;
 use super::rename_run;
 use super::try_equation;
 use terms::term;
@@ -92,8 +93,8 @@ fn rename_words(
     spell_sorted(front(slots, 17 * n), out)
 }
 
-// Both lists of words by renaming number c, into two buffers.
-fn rename_both(
+// Renaming number c tried, unless it surely makes a greater equation than the best so far: then nothing is renamed or sorted.
+fn visit(
     u: &[u32],
     v: &[u32],
     names: &[u32],
@@ -101,17 +102,24 @@ fn rename_both(
     slots: &mut [u32],
     x: &mut [u32],
     y: &mut [u32],
+    left: &mut [u32],
+    right: &mut [u32],
+    best: Lengths,
 ) -> Lengths
     requires { ⌜ length (now names) ≤ 6 ⌝ }
-    ensures { λ r. ⌜ RenamesWords (renaming (now (names .entry)) c) (now (u .entry)) (now (slots .entry)) (now (x .entry)) (r .left) (now (x .exit)) × RenamesWords (renaming (now (names .entry)) c) (now (v .entry)) (now (slots .entry)) (now (y .entry)) (r .right) (now (y .exit)) ⌝ }
+    ensures { λ r. ⌜ Visits (VisitRoom (now (u .entry)) (now (v .entry)) (now (slots .entry)) (now (x .entry)) (now (y .entry)) (now (left .entry)) (now (right .entry))) (word-candidate (now (names .entry)) (now (u .entry)) (now (v .entry))) c (now (left .entry)) (now (right .entry)) best r (now (left .exit)) (now (right .exit)) ⌝ }
 {
     let k = names.len();
     let mut numbers = [0u32; 6];
     permutation(c, k, 0, &mut numbers);
     let used = front(&numbers, k);
-    let left = rename_words(u, names, used, slots, x);
-    let right = rename_words(v, names, used, slots, y);
-    Lengths { left, right }
+    let known = best.left;
+    if is_greater(u, v, names, used, c, front(&left[..], known)) {
+        return best;
+    }
+    let m = rename_words(u, names, used, slots, x);
+    let n = rename_words(v, names, used, slots, y);
+    try_equation(front(&x[..], m), front(&y[..], n), c, left, right, best)
 }
 
 // The least equation over all renamings of the names, kept in the buffers. All renamings share the slots and the two buffers for the sides.
@@ -132,10 +140,18 @@ fn least_renaming(
     let mut best = Lengths { left: 0, right: 0 };
     let mut c = 0;
     while c < count {
-        let made = rename_both(u, v, names, c, &mut slots, &mut x, &mut y);
-        let m = made.left;
-        let n = made.right;
-        best = try_equation(front(&x, m), front(&y, n), c, left, right, best);
+        best = visit(
+            u,
+            v,
+            names,
+            c,
+            &mut slots,
+            &mut x,
+            &mut y,
+            left,
+            right,
+            best,
+        );
         c += 1;
     }
     best

@@ -11,7 +11,7 @@ use Rattle.search.proofs.index.hash.Statement.{statement}
 use Rattle.search.proofs.index.hash.Tie as tie
 
 abbrev Inv-loop : tie.InvT-loop
-Inv-loop s h₀ i₀ h i = (i ≤ length s) × (h < 4294967291) × (hash s 0 ≡ hash (drop i s) h)
+Inv-loop s h₀ i₀ h i = (i ≤ length s) × (h < 4294967296) × (hash s 0 ≡ hash (drop i s) h)
 
 abbrev μ-loop : tie.MeasureT-loop
 μ-loop s h₀ i₀ h i = length s - i

@@ -24,14 +24,14 @@ same-length c = search needs
 returns : tie.Need-returns
 returns c = search (adds-nothing, needs)
 
-slice-reshare-prefix-depth : tie.Need-slice-reshare-prefix-depth
-slice-reshare-prefix-depth c = omega (arith, tries-within (c .before .before .before .before .before .put-line .ensures) (c .before .m .given .1))
+slice-reshare-prefix-too-deep : tie.Need-slice-reshare-prefix-too-deep
+slice-reshare-prefix-too-deep c = omega (arith, tries-within (c .before .before .before .before .before .put-line .ensures) (c .before .m .given .1))
 
-slice-aggregate-depth : tie.Need-slice-aggregate-depth
-slice-aggregate-depth c = simp length-take (omega (arith, tries-within (c .before .before .before .before .before .before .put-line .ensures) (c .before .before .m .given .1)))
+slice-aggregate-too-deep : tie.Need-slice-aggregate-too-deep
+slice-aggregate-too-deep c = simp length-take (omega (arith, tries-within (c .before .before .before .before .before .before .put-line .ensures) (c .before .before .m .given .1)))
 
-depth-requires : tie.Need-depth-requires
-depth-requires c κs = search needs
+too-deep-requires : tie.Need-too-deep-requires
+too-deep-requires c κs = search needs
 
 same-length-2 : tie.Need-same-length-2
 same-length-2 c = search needs
@@ -70,9 +70,9 @@ keep-line-spec =
     enum-told
     same-length
     returns
-    slice-reshare-prefix-depth
-    slice-aggregate-depth
-    depth-requires
+    slice-reshare-prefix-too-deep
+    slice-aggregate-too-deep
+    too-deep-requires
     same-length-2
     returns-2
     slice-reshare-prefix-keep

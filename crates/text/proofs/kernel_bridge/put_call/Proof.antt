@@ -8,8 +8,8 @@ use borrow.Author.Needs.{needs}
 use Rattle.text.proofs.kernel_bridge.put_call.Statement.{statement}
 use Rattle.text.proofs.kernel_bridge.put_call.Tie as tie
 
-put-all-opened-requires : tie.Need-put-all-opened-requires
-put-all-opened-requires c κs = search needs
+put-applications-requires : tie.Need-put-applications-requires
+put-applications-requires c κs = search needs
 
 slice-aggregate-put-bytes : tie.Need-slice-aggregate-put-bytes
 slice-aggregate-put-bytes c = search needs
@@ -40,7 +40,7 @@ returns c =
     let a = v .before .before .before .before .before .args in
     let name = law-name (name-of (a .law)) in
     λ σ m.
-    put-call (a .names .now) name σ (v .put-all-opened .ensures (a .run .now) σ m)
+    put-call (a .names .now) name σ (v .put-applications .ensures (a .run .now) σ m)
     (put-ref name (w .put-bytes .ensures) (x .put-law .ensures) (y .put-byte .ensures))
     (z .put-arguments .ensures σ m)
 
@@ -48,7 +48,7 @@ pub put-call-spec : {M : Type 1} → statement M
 put-call-spec =
     tie.close
     (tie.spec
-    put-all-opened-requires
+    put-applications-requires
     slice-aggregate-put-bytes
     put-bytes-requires
     put-law-requires

@@ -9,7 +9,7 @@ use borrow.Fn.PlainCycle.{Measures, is, falls, and}
 use Rattle.text.proofs.kernel_bridge.path.render_lines.Reads as render-lines
 use Rattle.text.proofs.kernel_bridge.path.render_lines.Kinds as render-lines-kinds
 use Rattle.text.proofs.kernel_bridge.path.+render_lines.Lts-render_lines as render-lines-lts
-use Rattle.text.proofs.kernel_bridge.path.render_step.Reads as render-step-reads
+use Rattle.text.proofs.kernel_bridge.path.render_slot.Reads as render-slot-reads
 use Rattle.text.proofs.kernel_bridge.path.render_transitivity.Reads as render-transitivity-reads
 use Rattle.text.proofs.put.put_byte.Reads as put-byte-reads
 use Rattle.text.proofs.put.put_bytes.Reads as put-bytes-reads
@@ -34,8 +34,8 @@ render-lines-below t =
 -- what the called functions promise, and it itself below the measure
 abbrev callees : ℕ → render-lines-lts.Claims
 callees t = (
-  render-step-reads.Asked,
-  render-step-reads.Learnt,
+  render-slot-reads.Asked,
+  render-slot-reads.Learnt,
   render-transitivity-reads.Asked,
   render-transitivity-reads.Learnt,
   render-lines-below t,
@@ -63,8 +63,8 @@ render-lines-mul-k t c = search needs
 render-lines-shared-slice-read-k : (t : ℕ) → render-lines-lts.Need-shared-slice-read-k (callees t) (render-lines-at t) render-lines.Post
 render-lines-shared-slice-read-k t c = search needs
 
-render-lines-render-step-requires : (t : ℕ) → render-lines-lts.Need-render-step-requires (callees t) (render-lines-at t) render-lines.Post
-render-lines-render-step-requires t c κs = search needs
+render-lines-render-slot-requires : (t : ℕ) → render-lines-lts.Need-render-slot-requires (callees t) (render-lines-at t) render-lines.Post
+render-lines-render-slot-requires t c κs = search needs
 
 render-lines-same-length : (t : ℕ) → render-lines-lts.Need-same-length (callees t) (render-lines-at t) render-lines.Post
 render-lines-same-length t c = search needs
@@ -75,7 +75,7 @@ render-lines-returns-3 t c =
     let d2 = d1 .before .before in
     let d3 = d2 .before .before .before in
     let a = d3 .before .before .before .before .before .args in
-    λ s xs w h. lines-first w (a .names .now) (a .n) (omega (arith, d2 .if3 .taken, d3 .if1 .left)) h (d1 .render-step .ensures)
+    λ s xs w h. lines-first w (a .names .now) (a .n) (omega (arith, d2 .if3 .taken, d3 .if1 .left)) h (d1 .render-slot .ensures)
 
 render-lines-sub-m : (t : ℕ) → render-lines-lts.Need-sub-m (callees t) (render-lines-at t) render-lines.Post
 render-lines-sub-m t c = search needs
@@ -98,8 +98,8 @@ render-lines-slice-aggregate-put-bytes t c = search needs
 render-lines-put-bytes-requires : (t : ℕ) → render-lines-lts.Need-put-bytes-requires (callees t) (render-lines-at t) render-lines.Post
 render-lines-put-bytes-requires t c κs = search needs
 
-render-lines-render-step-requires-2 : (t : ℕ) → render-lines-lts.Need-render-step-requires-2 (callees t) (render-lines-at t) render-lines.Post
-render-lines-render-step-requires-2 t c κs = search needs
+render-lines-render-slot-requires-2 : (t : ℕ) → render-lines-lts.Need-render-slot-requires-2 (callees t) (render-lines-at t) render-lines.Post
+render-lines-render-slot-requires-2 t c κs = search needs
 
 render-lines-put-byte-requires : (t : ℕ) → render-lines-lts.Need-put-byte-requires (callees t) (render-lines-at t) render-lines.Post
 render-lines-put-byte-requires t c κs = search needs
@@ -120,7 +120,7 @@ render-lines-returns-4 t c =
     let a = d7 .before .before .before .before .before .args in
     λ s xs w h.
     lines-more w (a .names .now) (a .n) (a .n - 1) (omega (arith, d7 .if1 .left)) (omega (arith, d6 .if3 .left)) (omega (arith, d7 .if1 .left, h))
-    (d5 .render-transitivity .ensures) (d4 .render-lines .ensures s xs w (omega (arith, h))) (d3 .put-bytes .ensures) (d2 .render-step2 .ensures) (d1 .put-byte .ensures)
+    (d5 .render-transitivity .ensures) (d4 .render-lines .ensures s xs w (omega (arith, h))) (d3 .put-bytes .ensures) (d2 .render-slot2 .ensures) (d1 .put-byte .ensures)
 
 pub +render-lines-spec : {M : Type 1} → statement M
 +render-lines-spec = close μ-render-lines λ t. render-lines-lts.spec (callees t) (render-lines-at t) render-lines.Post
@@ -129,7 +129,7 @@ pub +render-lines-spec : {M : Type 1} → statement M
     (render-lines-sub-before t)
     (render-lines-mul-k t)
     (render-lines-shared-slice-read-k t)
-    (render-lines-render-step-requires t)
+    (render-lines-render-slot-requires t)
     (render-lines-same-length t)
     (render-lines-returns-3 t)
     (render-lines-sub-m t)
@@ -139,7 +139,7 @@ pub +render-lines-spec : {M : Type 1} → statement M
     (render-lines-render-lines-requires t)
     (render-lines-slice-aggregate-put-bytes t)
     (render-lines-put-bytes-requires t)
-    (render-lines-render-step-requires-2 t)
+    (render-lines-render-slot-requires-2 t)
     (render-lines-put-byte-requires t)
     (render-lines-same-length-2 t)
     (render-lines-returns-4 t)

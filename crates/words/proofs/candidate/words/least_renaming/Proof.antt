@@ -3,13 +3,13 @@ use Prim.Native.Nat.{_-_, _*_, _≤_}
 use native.Mathlib.Omega.{arith}
 use mathlib.Core.Path.{_≡_, refl, sym, _∙_}
 use lib.ListN.{length}
-use Rattle.words.specs.WordLists.{slot-words, WordRoom}
+use Rattle.words.specs.WordLists.{slot-words, word-candidate, WordRoom}
 use Rattle.words.specs.Multiply.{MOST}
 use Rattle.words.specs.Spelled.{SLOT}
 use Rattle.words.specs.Decoded.{factorial}
-use Rattle.words.proofs.RenamedWords.{word-candidate, word-candidate-made, room-as-long}
+use Rattle.words.proofs.RenamedWords.{room-as-long}
 use Rattle.words.proofs.Canonical.{spelled-least}
-use Rattle.words.proofs.Visited.{Visited, visited, none-visited, one-more-visited, all-visited}
+use Rattle.words.proofs.Visited.{Visited, none-visited, one-more-visited, all-visited}
 use borrow.Author.Needs.{needs}
 use Rattle.words.proofs.candidate.words.least_renaming.Statement.{statement}
 use Rattle.words.proofs.candidate.words.least_renaming.Tie as tie
@@ -31,32 +31,17 @@ factorial-requires c κs = search needs
 loop-holds : tie.Need-loop-holds Inv-loop μ-loop
 loop-holds c = (omega arith, none-visited, refl, refl, refl)
 
-slice-aggregate-rename-both : tie.Need-slice-aggregate-rename-both Inv-loop μ-loop
-slice-aggregate-rename-both c = search needs
+slice-aggregate-visit : tie.Need-slice-aggregate-visit Inv-loop μ-loop
+slice-aggregate-visit c = search needs
 
-slice-aggregate-rename-both-2 : tie.Need-slice-aggregate-rename-both-2 Inv-loop μ-loop
-slice-aggregate-rename-both-2 c = search needs
+slice-aggregate-visit-2 : tie.Need-slice-aggregate-visit-2 Inv-loop μ-loop
+slice-aggregate-visit-2 c = search needs
 
-slice-aggregate-rename-both-3 : tie.Need-slice-aggregate-rename-both-3 Inv-loop μ-loop
-slice-aggregate-rename-both-3 c = search needs
+slice-aggregate-visit-3 : tie.Need-slice-aggregate-visit-3 Inv-loop μ-loop
+slice-aggregate-visit-3 c = search needs
 
-rename-both-requires : tie.Need-rename-both-requires Inv-loop μ-loop
-rename-both-requires c κs = search needs
-
-slice-aggregate-front : tie.Need-slice-aggregate-front Inv-loop μ-loop
-slice-aggregate-front c = search needs
-
-front-requires : tie.Need-front-requires Inv-loop μ-loop
-front-requires c κs = search needs
-
-slice-aggregate-front-2 : tie.Need-slice-aggregate-front-2 Inv-loop μ-loop
-slice-aggregate-front-2 c = search needs
-
-front-requires-2 : tie.Need-front-requires-2 Inv-loop μ-loop
-front-requires-2 c κs = search needs
-
-try-equation-requires : tie.Need-try-equation-requires Inv-loop μ-loop
-try-equation-requires c κs = search needs
+visit-requires : tie.Need-visit-requires Inv-loop μ-loop
+visit-requires c κs = search needs
 
 add-c : tie.Need-add-c Inv-loop μ-loop
 add-c c = search needs
@@ -66,22 +51,15 @@ loop-less c = search needs
 
 loop-again : tie.Need-loop-again Inv-loop μ-loop
 loop-again c =
-    let t = c .before .before .before .before in
-    let f = t .before .before .before in
-    let r = f .before .before .before .before .before .before .before in
-    let l = r .before .before .before .before .before in
-    let s = l .before .before .before .before .before .before .before in
-    let a = s .args in
+    let r = c .before .before .before .before .before .before .before in
+    let l = r .before .before .before .before .before .before .before in
     let i = l .loop .inv in
-    let made =
-    word-candidate-made (a .names .now) (a .u .now) (a .v .now) (l .loop .c) (s .pre) (i .2) (i .3) (i .4)
-    (r .rename-both .ensures .0) (r .rename-both .ensures .1) (f .before .before .front .ensures) (f .front2 .ensures) in (
-      omega (arith, r .before .before .before .before .loop-test .taken),
-      one-more-visited (i .1) (room-as-long (i .1 .same-left) (i .1 .same-right)) (visited made (t .try-equation .ensures))
-          (t .try-equation .kept .1 .1 .1 .0) (t .try-equation .kept .1 .1 .1 .1 .0),
-      r .rename-both .kept .1 .1 .1 .1 .0 ∙ i .2,
-      r .rename-both .kept .1 .1 .1 .1 .1 .0 ∙ i .3,
-      r .rename-both .kept .1 .1 .1 .1 .1 .1 .0 ∙ i .4,
+    let k = r .visit .kept in (
+      omega (arith, r .before .before .before .before .before .before .loop-test .taken),
+      one-more-visited (i .1) (room-as-long (i .2) (i .3) (i .4) (i .1 .same-left) (i .1 .same-right)) (r .visit .ensures) (k .1 .1 .1 .1 .1 .1 .1 .0) (k .1 .1 .1 .1 .1 .1 .1 .1 .0),
+      k .1 .1 .1 .1 .0 ∙ i .2,
+      k .1 .1 .1 .1 .1 .0 ∙ i .3,
+      k .1 .1 .1 .1 .1 .1 .0 ∙ i .4,
     )
 
 same-length : tie.Need-same-length Inv-loop μ-loop
@@ -105,15 +83,10 @@ least-renaming-spec =
     μ-loop
     factorial-requires
     loop-holds
-    slice-aggregate-rename-both
-    slice-aggregate-rename-both-2
-    slice-aggregate-rename-both-3
-    rename-both-requires
-    slice-aggregate-front
-    front-requires
-    slice-aggregate-front-2
-    front-requires-2
-    try-equation-requires
+    slice-aggregate-visit
+    slice-aggregate-visit-2
+    slice-aggregate-visit-3
+    visit-requires
     add-c
     loop-less
     loop-again

@@ -1,0 +1,53 @@
+//! WORDS and RENAME at their worst case.
+
+use std::hint::black_box;
+
+use oracle::{Call, Entry, PROGRAM_ROOM, checked};
+
+use crate::job::Job;
+use crate::ours::Workspace;
+use crate::table::row;
+
+/// Two sides of 31 nodes with six letters and 324 words each.
+const JOB: Job = Job {
+    left: "* + v0 + v1 v2 * + v3 + v4 v5 * + v0 + v1 v2 * + v3 + v4 v5 + v0 + v1 + v2 v3",
+    right: "* + v5 + v4 v3 * + v2 + v1 v0 * + v5 + v4 v3 * + v2 + v1 v0 + v5 + v4 + v3 v2",
+    limits: [0; 4],
+};
+
+pub fn rows(workspace: &mut Workspace) {
+    let text = JOB.text();
+    let equation = JOB.equation();
+    compare(Entry::Words, &text, workspace);
+    row(
+        "WORDS, 324 words a side",
+        200,
+        || black_box(&equation).semiring_normalize(),
+        || workspace.call(Entry::Words, black_box(&text), 0, PROGRAM_ROOM),
+    );
+    compare(Entry::Rename, &text, workspace);
+    row(
+        "RENAME, six letters, 324 words a side",
+        10,
+        || {
+            let lists = black_box(&equation).semiring_normalize();
+            let lists = lists.expect("the words differ");
+            (
+                equation.canonicalize_variables(),
+                lists.canonicalize_variables(),
+            )
+        },
+        || workspace.call(Entry::Rename, black_box(&text), 0, PROGRAM_ROOM),
+    );
+}
+
+fn compare(entry: Entry, text: &[u8], workspace: &mut Workspace) {
+    let call = Call {
+        entry,
+        slots: 0,
+        room: PROGRAM_ROOM,
+        job: text.to_vec(),
+    };
+    let due = checked::answer(&call).unwrap_or_else(|difference| panic!("{difference}"));
+    assert_eq!(workspace.answer(entry, text, 0, PROGRAM_ROOM), due);
+}

@@ -1,2 +1,0 @@
--- What the bench is told of an outcome.
-pub mod Told

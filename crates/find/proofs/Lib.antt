@@ -1,0 +1,3 @@
+-- Laws on what the program prints.
+pub mod Refusals
+pub mod Printing

@@ -1,0 +1,16 @@
+-- Where a stored call stands in the list.
+use Prim.Native.Nat.{ℕ, _<_, _≤_}
+use mathlib.Core.List.{List}
+use lib.ListN.{length}
+use Rattle.replay.specs.declared.record.Record.{Record}
+use Rattle.replay.specs.declared.record.Reading.{Reading}
+use Rattle.replay.specs.declared.record.Reading.the-variants.{Broken, Whole}
+
+-- the parts of a record are in the list, one after the other
+abbrev pub Within : List ℕ → Record → Type 0
+Within s c = (c .job ≤ c .answer) × (c .answer ≤ c .next) × (c .next ≤ length s)
+
+-- a whole record is in the list, and the next one starts behind its start
+abbrev pub Reads : List ℕ → ℕ → Reading → Type 0
+Reads s at Broken = Unit {0}
+Reads s at (Whole c) = (at < c .next) × Within s c

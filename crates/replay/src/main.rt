@@ -1,0 +1,73 @@
+// Makes the stored calls of standard input and compares what each gives with its stored answer.
+mod call;
+mod dirt;
+mod record;
+mod tally;
+
+ghost use Prim.Native.Nat.{_<_, _≤_};
+ghost use lib.ListN.{length};
+use crate::record::Reading;
+use libc::STDIN_FILENO;
+use libc::STDOUT_FILENO;
+
+// Makes the call that starts here, and answers where the next one does.
+fn replay_one(
+    s: &[u8],
+    at: usize,
+    first: u8,
+    output: &mut [u8],
+    workspace: &mut [u32],
+    former: &mut [u32],
+    counts: &mut [u32],
+) -> usize
+    requires { ⌜ at < length (now s) ⌝ }
+    ensures { λ r. ⌜ (at < r) × (r ≤ length (now (s .entry))) ⌝ }
+{
+    let reading = record::record_at(s, at);
+    let Reading::Whole(call) = reading else {
+        io::write_all(STDOUT_FILENO, b"the list breaks off\n");
+        return s.len();
+    };
+    let fault = call::fault_of(s, call, first, output, workspace, former);
+    tally::count(counts, call, fault);
+    call.next
+}
+
+// Each call finds the workspace as former calls left it, and an output full of other bytes.
+fn replay(
+    s: &[u8],
+    output: &mut [u8],
+    workspace: &mut [u32],
+    former: &mut [u32],
+    counts: &mut [u32],
+) {
+    dirt::fill_numbers(workspace, 7);
+    let mut first: u8 = 0;
+    let mut at: usize = 0;
+    while at < s.len() {
+        at = replay_one(s, at, first, output, workspace, former, counts);
+        first = std::num::wrapping_add_u8(first, 1);
+    }
+}
+
+// A list that fills the array may be cut off.
+fn main() {
+    let mut input = [0u8; 655360];
+    let n = io::read_full(STDIN_FILENO, &mut input);
+    if n == 655360 {
+        io::write_all(STDOUT_FILENO, b"the list is too long\n");
+        return;
+    }
+    let mut output = [0u8; 32768];
+    let mut workspace = [0u32; 16040];
+    let mut former = [0u32; 16040];
+    let mut counts = [0u32; 64];
+    replay(
+        &input[..n],
+        &mut output,
+        &mut workspace,
+        &mut former,
+        &mut counts,
+    );
+    tally::print_counts(&counts);
+}

@@ -1,0 +1,87 @@
+// The list of stored calls: where its records start, and what stands in them.
+ghost use Prim.Native.Nat.{_≤_};
+ghost use lib.ListN.{length};
+ghost use Rattle.replay.specs.Records.{Reads};
+
+// A number, and the position after the byte that ends it.
+pub struct Number {
+    pub value: usize,
+    pub next: usize,
+}
+
+// A stored call. Its job ends where its answer starts, and that ends where the next record starts.
+pub struct Record {
+    pub entry: usize,
+    pub slots: usize,
+    pub room: usize,
+    pub number: usize,
+    pub job: usize,
+    pub answer: usize,
+    pub next: usize,
+}
+
+pub enum Reading {
+    Broken,
+    Whole(Record),
+}
+
+fn wide(x: u8) -> usize
+    ensures { λ r. ⌜ r ≤ 255 ⌝ }
+{
+    x as usize
+}
+
+// The decimal number that starts here; of a long one, the first seven digits.
+fn number_at(s: &[u8], at: usize) -> Number
+    requires { ⌜ at ≤ length (now s) ⌝ }
+    ensures { λ r. ⌜ (r .value ≤ 9999999) × (at ≤ r .next) × (r .next ≤ length (now (s .entry))) ⌝ }
+{
+    let mut value: usize = 0;
+    let mut i = at;
+    while i < s.len() {
+        let b = s[i];
+        i += 1;
+        if b < b'0' {
+            return Number { value, next: i };
+        }
+        if b'9' < b {
+            return Number { value, next: i };
+        }
+        if 99999 < value {
+            return Number { value, next: i };
+        }
+        value = value * 10 + wide(b - b'0');
+    }
+    Number { value, next: i }
+}
+
+// The record that starts here.
+pub fn record_at(s: &[u8], at: usize) -> Reading
+    requires { ⌜ at ≤ length (now s) ⌝ }
+    ensures { λ r. ⌜ Reads (now (s .entry)) at r ⌝ }
+{
+    let entry = number_at(s, at);
+    let slots = number_at(s, entry.next);
+    let room = number_at(s, slots.next);
+    let job_length = number_at(s, room.next);
+    let number = number_at(s, job_length.next);
+    let answer_length = number_at(s, number.next);
+    let job = answer_length.next;
+    let answer = job + job_length.value;
+    let next = answer + answer_length.value;
+    if s.len() < next {
+        return Reading::Broken;
+    }
+    if next <= at {
+        return Reading::Broken;
+    }
+    Reading::Whole(Record {
+        entry: entry.value,
+        slots: slots.value,
+        room: room.value,
+        number: number.value,
+        job,
+        answer,
+        next,
+    })
+}

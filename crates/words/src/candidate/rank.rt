@@ -1,0 +1,184 @@
+// Whether two renamed lists of words come after a run, found out without sorting them: most renamings need no more.
+ghost use mathlib.Core.Path.{_≡_};
+ghost use Prim.Native.Nat.{_<_};
+ghost use mathlib.Core.List.{map};
+ghost use lib.ListN.{length};
+ghost use Rattle.terms.specs.Promises.{ordering-of};
+ghost use Rattle.words.specs.Words.{order-words};
+ghost use Rattle.words.specs.Rename.{renamed};
+ghost use Rattle.words.specs.RenameRun.{rename-number, rename-run};
+ghost use Rattle.words.specs.WordLists.{slot-words};
+ghost use Rattle.words.specs.Rank.{Tabled, first-word, Notes, Ranks, Above, Exceeds};
+use super::super::normal_form::word_of;
+use super::super::sort::number_slots;
+use super::new_number;
+use super::rename_run;
+use terms::term::Comparison;
+
+// How many words of a run are looked at: lists that agree in more are sorted.
+const TRIES: usize = 4;
+
+// How many numbers have their new numbers in a table.
+const SMALL: usize = 16;
+
+// The new number of another, by the table if it is small.
+fn number_by(table: &[u32], names: &[u32], numbers: &[u32], x: u32) -> u32
+    requires { ⌜ Tabled (renamed (now names) (now numbers)) (now table) ⌝ }
+    ensures { λ r. ⌜ r ≡ rename-number (renamed (now (names .entry)) (now (numbers .entry))) x ⌝ }
+{
+    let i = x as usize;
+    if i < table.len() {
+        return table[i];
+    }
+    new_number(names, numbers, x)
+}
+
+// Which comes first, a word renamed or the first word that a run spells.
+fn compare_first(
+    word: &[u32],
+    table: &[u32],
+    names: &[u32],
+    numbers: &[u32],
+    run: &[u32],
+) -> Comparison
+    requires { ⌜ Tabled (renamed (now names) (now numbers)) (now table) ⌝ }
+    ensures { λ r. ⌜ ordering-of r ≡ order-words (rename-run (renamed (now (names .entry)) (now (numbers .entry))) (now (word .entry))) (first-word (now (run .entry))) ⌝ }
+{
+    let mut i = 0;
+    while i < word.len() {
+        if run.len() <= i {
+            return Comparison::Greater;
+        }
+        let y = run[i];
+        if y == 0 {
+            return Comparison::Greater;
+        }
+        let x = number_by(table, names, numbers, word[i]);
+        if x < y - 1 {
+            return Comparison::Less;
+        }
+        if y <= x {
+            return Comparison::Greater;
+        }
+        i += 1;
+    }
+    if run.len() <= i {
+        return Comparison::Equal;
+    }
+    if run[i] == 0 {
+        return Comparison::Equal;
+    }
+    Comparison::Less
+}
+
+// How many words come before another, and how many do not come after it.
+pub struct Rank {
+    pub less: usize,
+    pub upto: usize,
+}
+
+// One more word counted, by how it compares.
+fn note(rank: Rank, found: Comparison) -> Rank
+    requires { ⌜ (rank .less < 4611686018427387904) × (rank .upto < 4611686018427387904) ⌝ }
+    ensures { λ r. ⌜ Notes rank (ordering-of found) r ⌝ }
+{
+    let less = rank.less;
+    let upto = rank.upto;
+    match found {
+        Comparison::Less => Rank {
+            less: less + 1,
+            upto: upto + 1,
+        },
+        Comparison::Equal => Rank {
+            less,
+            upto: upto + 1,
+        },
+        Comparison::Greater => Rank { less, upto },
+    }
+}
+
+// The words in all the slots, renamed, counted against the first word that a run spells.
+fn rank_of(words: &[u32], table: &[u32], names: &[u32], numbers: &[u32], run: &[u32]) -> Rank
+    requires { ⌜ Tabled (renamed (now names) (now numbers)) (now table) ⌝ }
+    ensures { λ r. ⌜ Ranks (first-word (now (run .entry))) (map (rename-run (renamed (now (names .entry)) (now (numbers .entry)))) (slot-words (now (words .entry)))) r ⌝ }
+{
+    let mut counted = Rank { less: 0, upto: 0 };
+    let mut i = 0;
+    while i < words.len() / 17 {
+        let found = compare_first(word_of(words, i), table, names, numbers, run);
+        counted = note(counted, found);
+        i += 1;
+    }
+    counted
+}
+
+// How many letters the first word of a run has.
+fn word_length(run: &[u32]) -> usize
+    ensures { λ r. ⌜ r ≡ length (first-word (now (run .entry))) ⌝ }
+{
+    let mut i = 0;
+    while i < run.len() {
+        if run[i] == 0 {
+            return i;
+        }
+        i += 1;
+    }
+    i
+}
+
+// Whether the words in all the slots, renamed and sorted, come after a run, if a few words of the run tell.
+// Word i of the sorted list comes after a word if at most i words come up to it; otherwise it is that word, if at most i come before it.
+fn is_above(words: &[u32], table: &[u32], names: &[u32], numbers: &[u32], run: &[u32]) -> bool
+    requires { ⌜ Tabled (renamed (now names) (now numbers)) (now table) ⌝ }
+    ensures { λ r. ⌜ Above (renamed (now (names .entry)) (now (numbers .entry))) (now (words .entry)) (now (run .entry)) r ⌝ }
+{
+    let mut at = 0;
+    let mut i = 0;
+    while i < TRIES {
+        if words.len() / 17 <= i {
+            return false;
+        }
+        if run.len() <= at {
+            return false;
+        }
+        let rest = &run[at..];
+        let counted = rank_of(words, table, names, numbers, rest);
+        if counted.upto <= i {
+            return true;
+        }
+        if i < counted.less {
+            return false;
+        }
+        let end = word_length(rest);
+        if rest.len() <= end {
+            return false;
+        }
+        at += end + 1;
+        i += 1;
+    }
+    false
+}
+
+// Whether renaming number c surely makes a greater equation than one whose left side is a run: both lists come after it.
+pub fn is_greater(
+    u: &[u32],
+    v: &[u32],
+    names: &[u32],
+    numbers: &[u32],
+    c: usize,
+    run: &[u32],
+) -> bool
+    ensures { λ r. ⌜ Exceeds (renamed (now (names .entry)) (now (numbers .entry))) (now (u .entry)) (now (v .entry)) c (now (run .entry)) r ⌝ }
+{
+    if c == 0 {
+        return false;
+    }
+    let mut small = [0u32; SMALL];
+    number_slots(&mut small);
+    let mut table = [0u32; SMALL];
+    rename_run(&small, names, numbers, &mut table);
+    if is_above(u, &table, names, numbers, run) {
+        return is_above(v, &table, names, numbers, run);
+    }
+    false
+}

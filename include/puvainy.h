@@ -1,0 +1,81 @@
+/* Puvainy's three entries. The library is target/staticlib/libtext.a, written by `rt staticlib text`.
+ *
+ * Each entry is proved for every job and for buffers of any length and contents. It keeps no pointer
+ * and no state from call to call, allocates nothing, and makes no call to the system. Calls on
+ * different buffers may run at the same time.
+ *
+ * A buffer is a pointer and its length in elements: bytes for `job` and `output`, 32-bit numbers for
+ * `workspace`. The buffers of one call must not overlap, `workspace` must be aligned for uint32_t, and
+ * no pointer may be NULL, not even where the length is 0.
+ *
+ * A job is six lines, each ended by byte 10, nothing after; at most 1,024 bytes in all:
+ *
+ *     left=TERM
+ *     right=TERM
+ *     steps=NUMBER   at most 16
+ *     size=NUMBER    at most 31
+ *     depth=NUMBER   at most 15
+ *     nodes=NUMBER   at most 4096
+ *
+ * A TERM is written operator first, items parted by one space: +, *, 0, 1, or v and a number 0 to 999.
+ *
+ * An entry returns 100 plus the length of its answer, or the number of a refusal, the lowest that
+ * applies:
+ *
+ *     1  over 1,024 bytes, or lines, keys or a limit's digits malformed
+ *     2  a side is no term
+ *     3  a side has over 31 nodes
+ *     4  over six different letters in both sides
+ *     5  a limit is over its bound
+ *     6  both sides are the same term
+ *     7  the search would note more terms than there are slots (puvainy_find alone)
+ *     8  the answer is longer than the output
+ *
+ * What is left in the buffers:
+ *
+ *     job        is not written to.
+ *     output     An answer fills the front, and the rest keeps its bytes. It is text, each line ended
+ *                by byte 10, with no byte 0 behind it. A refusal leaves the output untouched.
+ *     workspace  1 to 6 leave it untouched. After any other return its contents are free, and no
+ *                later answer depends on them: it need not be cleared.
+ *
+ * Stack: at most 112,000 bytes for puvainy_find, 98,000 for puvainy_words and 186,000 for
+ * puvainy_rename, as measured on x86-64 by examples/stack.c. A thread with 256 KiB has enough.
+ */
+#ifndef PUVAINY_H
+#define PUVAINY_H
+
+#include <stddef.h>
+#include <stdint.h>
+
+#ifdef __cplusplus
+extern "C" {
+#endif
+
+/* The numbers of a slot. The slots are the workspace's length divided by 40, rounded down; at most
+ * 65,535 are used. */
+#define PUVAINY_SLOT 40
+#define PUVAINY_MOST_SLOTS 65535
+
+/* What an answer's length is added to. */
+#define PUVAINY_ANSWER 100
+
+/* A shortest chain of lines from the smaller side to the larger, with its proof text, or that there
+ * is none within the limits. */
+size_t puvainy_find(const uint8_t *job, size_t job_len,
+                    uint8_t *output, size_t output_len,
+                    uint32_t *workspace, size_t workspace_len);
+
+/* The words of both sides, and whether they are the same. */
+size_t puvainy_words(const uint8_t *job, size_t job_len,
+                     uint8_t *output, size_t output_len);
+
+/* The equation and its words under their least renamings. */
+size_t puvainy_rename(const uint8_t *job, size_t job_len,
+                      uint8_t *output, size_t output_len);
+
+#ifdef __cplusplus
+}
+#endif
+
+#endif

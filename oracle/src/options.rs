@@ -1,0 +1,37 @@
+//! Words of a command line that say which calls to make.
+
+use std::slice::Iter;
+use std::str::FromStr;
+
+use crate::generate::{KINDS, Plan};
+
+pub type Failure = Box<dyn std::error::Error>;
+
+/// Takes an option of a plan, with its value from the words that follow; says no if it is none.
+pub fn take(plan: &mut Plan, option: &str, rest: &mut Iter<&str>) -> Result<bool, Failure> {
+    match option {
+        "--seed" => plan.seed = value(option, rest)?,
+        "--count" => plan.count = value(option, rest)?,
+        "--light" => plan.light = true,
+        "--max-job" => plan.most_bytes = value(option, rest)?,
+        "--max-slots" => plan.most_slots = value(option, rest)?,
+        "--max-room" => plan.most_room = value(option, rest)?,
+        "--kind" => {
+            let name: String = value(option, rest)?;
+            let kind = KINDS.iter().position(|kind| kind.name == name);
+            plan.kind = Some(kind.ok_or_else(|| format!("there is no kind {name}"))?);
+        }
+        _ => return Ok(false),
+    }
+    Ok(true)
+}
+
+/// The value that follows an option.
+pub fn value<T: FromStr>(option: &str, rest: &mut Iter<&str>) -> Result<T, Failure> {
+    let parsed = rest.next().and_then(|word| word.parse().ok());
+    parsed.ok_or_else(|| format!("{option} needs a value").into())
+}
+
+pub fn unknown(option: &str) -> Failure {
+    format!("there is no option {option}").into()
+}
