@@ -17,7 +17,7 @@ use terms::term::Comparison;
 use terms::term::compare;
 
 // The slots one after another: 0, 1, and so on.
-fn number_slots(order: &mut [u32])
+pub fn number_slots(order: &mut [u32])
     requires { ⌜ length (now order) ≤ 4294967296 ⌝ }
     ensures { λ _. ⌜ now (order .exit) ≡ count-from (length (now (order .entry))) 0 ⌝ }
 {
