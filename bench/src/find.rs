@@ -7,7 +7,7 @@ use upstream::search_bounded_rewrite;
 
 use crate::job::Job;
 use crate::ours::{MOST_SLOTS, Workspace};
-use crate::table::row;
+use crate::table::{head, row};
 
 const PROGRAM: [usize; 4] = [3, 7, 3, 1_000];
 const LARGEST: [usize; 4] = [16, 31, 15, 4_096];
@@ -26,7 +26,7 @@ const SMALL: [Case; 5] = [
 
 /// At the same limits, with slots enough for any search.
 const MIDDLE: [Case; 5] = [
-    ("none, one letter", "v0", "v1"),
+    ("none, case E's sides", "+ v0 0", "+ v0 * 0 v1"),
     ("none, two letters", "+ v0 v1", "* v0 v1"),
     ("none, three letters", "+ v0 * v1 v2", "* v0 + v1 v2"),
     ("proved, distributed", "+ * v0 v1 * v0 v2", "* v0 + v2 v1"),
@@ -59,6 +59,7 @@ const LARGE: [Case; 7] = [
 ];
 
 pub fn rows(workspace: &mut Workspace) {
+    head();
     for case in SMALL {
         let settings = ("program", PROGRAM, PROGRAM_SLOTS, 200);
         one(case, settings, workspace);

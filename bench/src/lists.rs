@@ -6,7 +6,7 @@ use oracle::{Call, Entry, PROGRAM_ROOM, checked};
 
 use crate::job::Job;
 use crate::ours::Workspace;
-use crate::table::row;
+use crate::table::{head, row};
 
 /// Two sides of 31 nodes with six letters and 324 words each.
 const JOB: Job = Job {
@@ -16,6 +16,7 @@ const JOB: Job = Job {
 };
 
 pub fn rows(workspace: &mut Workspace) {
+    head();
     let text = JOB.text();
     let equation = JOB.equation();
     compare(Entry::Words, &text, workspace);

@@ -1,6 +1,6 @@
 //! The three entries beside the Rust, in one process, on the same jobs. Each pair's answers are compared first.
 //!
-//! With the argument `ours`, the search at the largest limits alone, on our side alone, for a profiler.
+//! With an argument, one part alone: `find`, `lists`, `noted`, or `ours`, the search at the largest limits on our side, for a profiler.
 
 mod find;
 mod job;
@@ -11,12 +11,16 @@ mod table;
 
 fn main() {
     let mut workspace = ours::Workspace::new();
-    if std::env::args().nth(1).as_deref() == Some("ours") {
-        find::ours_alone(&mut workspace);
-        return;
+    match std::env::args().nth(1).as_deref() {
+        None => {
+            find::rows(&mut workspace);
+            lists::rows(&mut workspace);
+            noted::rows(&mut workspace);
+        }
+        Some("find") => find::rows(&mut workspace),
+        Some("lists") => lists::rows(&mut workspace),
+        Some("noted") => noted::rows(&mut workspace),
+        Some("ours") => find::ours_alone(&mut workspace),
+        Some(other) => panic!("no part is called {other}"),
     }
-    table::head();
-    find::rows(&mut workspace);
-    lists::rows(&mut workspace);
-    noted::rows(&mut workspace);
 }

@@ -6,7 +6,7 @@ use std::time::Duration;
 
 pub fn head() {
     let (rust, ours, ratio) = ("Rust µs", "ours µs", "ratio");
-    println!("{:<52} {rust:>14} {ours:>12} {ratio:>8}", "");
+    println!("\n{:<56} {rust:>14} {ours:>12} {ratio:>8}", "");
 }
 
 /// One line of the table: the best of several rounds of each, turn by turn.
@@ -25,7 +25,7 @@ pub fn row<R, O>(
     let theirs = theirs.as_secs_f64() * 1e6 / f64::from(many);
     let own = own.as_secs_f64() * 1e6 / f64::from(often);
     println!(
-        "{what:<52} {theirs:>14.1} {own:>12.1} {:>8.1}",
+        "{what:<56} {theirs:>14.1} {own:>12.1} {:>8.1}",
         theirs / own
     );
 }
