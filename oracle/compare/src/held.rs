@@ -3,7 +3,6 @@
 use oracle::generate::Random;
 use oracle::{Call, Entry, Given, checked};
 
-use crate::entries;
 use crate::lent::Buffer;
 
 /// How many numbers a slot has.

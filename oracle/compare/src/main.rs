@@ -1,6 +1,5 @@
 //! Drives the static library on generated calls and holds each to the oracle's answer.
 
-mod entries;
 mod held;
 mod lent;
 
