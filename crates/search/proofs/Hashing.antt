@@ -6,9 +6,8 @@ use mathlib.Core.List.{List}
 use lib.ListN.{length, drop, getD, drop-of-length-le}
 use Rattle.terms.proofs.Positions.{drop-one}
 use Rattle.search.specs.Search.{Noted}
-use Rattle.search.specs.Index.{slots-of, hash, bucket, head-of}
-use Rattle.search.specs.Slots.{noted-at, home, Slots, Heads}
-use Rattle.search.specs.Traced.{Shows}
+use Rattle.search.specs.Index.{slots-of, hash, bucket-at, head-of, hash-of}
+use Rattle.search.specs.Slots.{home, Slots, Heads}
 
 module _ (xs : List ℕ) (i h : ℕ) where
   pub hash-next : i < length xs → hash (drop i xs) h ≡ hash (drop (i + 1) xs) ((h * 4101 + getD xs i 0) % 4294967296)
@@ -33,27 +32,25 @@ module _ (ws : List ℕ) (count b : ℕ) where
       let l = (rw e at (S .index .head k q)) .last k q e .1 in
       omega arith)
 
-  module _ (h : head-of ws b < count) (xs : List ℕ) (Sh : Shows ws (head-of ws b) xs) where
-    -- the run in the slot is that of the noted term
-    home-shown : (ns : List Noted) → Slots ws ns → length ns ≡ count → home ws ns (head-of ws b) ≡ bucket (slots-of (length ws)) xs
-    home-shown ns S c =
-        let t = noted-at ns (head-of ws b) .term in
-        ap (bucket (slots-of (length ws))) (sym (Sh .exact t (S .slot (head-of ws b) (omega arith) .run) .whole))
+  module _ (h : head-of ws b < count) where
+    -- the hash in the slot is that of the noted term
+    home-hashed : (ns : List Noted) → Slots ws ns → length ns ≡ count → home ws ns (head-of ws b) ≡ bucket-at (slots-of (length ws)) (hash-of ws (head-of ws b))
+    home-hashed ns S c = ap (bucket-at (slots-of (length ws))) (sym (S .index .hashed (head-of ws b) (omega arith)))
 
-    pub heads-foreign : (bucket (slots-of (length ws)) xs ≡ b → ⊥) → Heads ws count b count
+    pub heads-foreign : (bucket-at (slots-of (length ws)) (hash-of ws (head-of ws b)) ≡ b → ⊥) → Heads ws count b count
     heads-foreign f =
         heads-none (λ ns k S c p e.
         let q : k < length ns = omega arith in
         let N = rw e at (S .index .head k q) in
-        f (sym (home-shown ns S c) ∙ N .own (omega arith)))
+        f (sym (home-hashed ns S c) ∙ N .own (omega arith)))
 
-    pub heads-here : bucket (slots-of (length ws)) xs ≡ b → Heads ws count b (head-of ws b)
+    pub heads-here : bucket-at (slots-of (length ws)) (hash-of ws (head-of ws b)) ≡ b → Heads ws count b (head-of ws b)
     heads-here f =
         record {
           exact = λ ns S c.
               record {
                 within = omega arith;
-                own = λ p. home-shown ns S c ∙ f;
+                own = λ p. home-hashed ns S c ∙ f;
                 last = λ k p e. let q : k < length ns = omega arith in rw c at ((rw e at (S .index .head k q)) .last k q e);
               };
         }

@@ -46,6 +46,9 @@ loop-again c =
     let s = c .before .before .before .args .s .now in
     (omega arith, mod-lt (l .h * 4101 + getD s (l .i) 0) (omega arith), l .inv .2 ∙ hash-next s (l .i) (l .h) (omega arith))
 
+cast-result : tie.Need-cast-result Inv-loop μ-loop
+cast-result c = search needs
+
 returns : tie.Need-returns Inv-loop μ-loop
 returns c =
     let l = c .before .loop in
@@ -66,4 +69,5 @@ hash-spec =
     add-i
     loop-less
     loop-again
+    cast-result
     returns)
