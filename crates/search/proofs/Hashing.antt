@@ -1,13 +1,18 @@
--- The hash of a run, a number at a time, and what the head of a bucket says.
+-- The hash of a run, a number at a time, what the head of a bucket says, and what a comparison with a noted run says.
 use Prim.Native.Nat.{ℕ, _+_, _*_, _%_, _≤_, _<_}
 use native.Mathlib.Omega.{arith}
 use mathlib.Core.Path.{_≡_, sym, ap, _∙_}
+use mathlib.Core.Bool.{Bool, false}
 use mathlib.Core.List.{List}
 use lib.ListN.{length, drop, getD, drop-of-length-le}
+use Rattle.terms.specs.Run.{run}
+use Rattle.terms.specs.Promises.{Equals}
 use Rattle.terms.proofs.Positions.{drop-one}
 use Rattle.search.specs.Search.{Noted}
 use Rattle.search.specs.Index.{slots-of, hash, bucket-at, head-of, hash-of}
-use Rattle.search.specs.Slots.{home, Slots, Heads}
+use Rattle.search.specs.Slots.{noted-at, home, Slots, Heads, Compares}
+use Rattle.search.specs.Traced.{Shows}
+use Rattle.search.proofs.Noting.{told-apart}
 
 module _ (xs : List ℕ) (i h : ℕ) where
   pub hash-next : i < length xs → hash (drop i xs) h ≡ hash (drop (i + 1) xs) ((h * 4101 + getD xs i 0) % 4294967296)
@@ -54,3 +59,15 @@ module _ (ws : List ℕ) (count b : ℕ) where
                 last = λ k p e. let q : k < length ns = omega arith in rw c at ((rw e at (S .index .head k q)) .last k q e);
               };
         }
+
+-- a run with hash h against that in slot k
+module _ {ws : List ℕ} {k : ℕ} {xs : List ℕ} {h : ℕ} where
+  pub compared : {ys : List ℕ} {b : Bool} → Shows ws k ys → Equals xs ys b → Compares ws k xs h b
+  compared Sh e = record { exact = λ ns t S p r q. e .terms t (noted-at ns k .term) r (Sh .exact (noted-at ns k .term) (S .slot k p .run)) }
+
+  pub hash-differs : (hash-of ws k ≡ h → ⊥) → Compares ws k xs h false
+  hash-differs f =
+      record {
+        exact = λ ns t S p r q.
+            sym (told-apart t (noted-at ns k .term) (λ e. f (S .index .hashed k p ∙ rw (← e, ← (r .whole)) (sym q))));
+      }

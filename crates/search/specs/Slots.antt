@@ -5,7 +5,7 @@ use mathlib.Core.Path.{_≡_}
 use mathlib.Core.Bool.{Bool}
 use mathlib.Core.List.{List, [], _∷_, _++_}
 use lib.ListN.{length, take, getD, set}
-use Rattle.terms.specs.Term.{Term, zero, size}
+use Rattle.terms.specs.Term.{Term, zero, size, same}
 use Rattle.terms.specs.Run.{run}
 use Rattle.terms.specs.Held.{IsRun, Holds}
 use Rattle.search.specs.Line.{Line}
@@ -85,6 +85,10 @@ pub record Finds (ws : List ℕ) (count : ℕ) (xs : List ℕ) (r : Bool) : Type
 -- of `newest`: the newest of the first `count` slots in bucket b
 pub record Heads (ws : List ℕ) (count b r : ℕ) : Type 0 where
   pub exact : (ns : List Noted) → Slots ws ns → length ns ≡ count → Newest (home ws ns) b count r
+
+-- of `has_run`, for a run with hash h
+pub record Compares (ws : List ℕ) (k : ℕ) (xs : List ℕ) (h : ℕ) (r : Bool) : Type 0 where
+  pub exact : (ns : List Noted) (t : Term) → Slots ws ns → k < length ns → IsRun xs t → h ≡ hash xs 0 → r ≡ same t (noted-at ns k .term)
 
 -- of `write_slot`: slot k is written, those before it stay, and so do numbers 6 and 7 of all
 pub record Writes (before after : List ℕ) (k : ℕ) (xs : List ℕ) (o : Origin) (d : ℕ) : Type 0 where

@@ -89,8 +89,7 @@ pub fn listed(ws: &[u32], count: usize, s: &[u32]) -> bool
     let h = index::hash(s);
     let mut k = index::newest(ws, end, index::bucket_at(h, buckets));
     while k < end {
-        let run = path::run_of(ws, k);
-        if term::equal(s, run) {
+        if index::has_run(ws, k, s, h) {
             return true;
         }
         end = k;

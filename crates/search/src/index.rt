@@ -3,11 +3,13 @@
 // bucket, or to the slot itself, and number 39 is the hash of its run. Nothing is cleared beforehand: a head counts only if it leads to a
 // noted slot of its bucket.
 ghost use mathlib.Core.Path.{_≡_};
-ghost use Prim.Native.Nat.{_*_, _≤_, _<_};
+ghost use Prim.Native.Nat.{_+_, _*_, _≤_, _<_};
 ghost use lib.ListN.{length};
 ghost use Rattle.search.specs.Index.{slots-of, hash, bucket-at};
-ghost use Rattle.search.specs.Slots.{SLOT, Heads};
+ghost use Rattle.search.specs.Slots.{SLOT, Heads, Compares};
 use crate::bounded_search::SLOT;
+use crate::path;
+use terms::term;
 
 // How many slots of a workspace of `n` numbers are used, and how many buckets there are.
 pub fn slots_of(n: usize) -> usize
@@ -56,4 +58,15 @@ pub fn newest(ws: &[u32], count: u32, b: usize) -> u32
         return k;
     }
     count
+}
+
+// Whether slot `k` has the run `s`, whose hash is `h`: the runs are compared only where the hash is the same.
+pub fn has_run(ws: &[u32], k: u32, s: &[u32], h: u32) -> bool
+    requires { ⌜ SLOT * k + SLOT ≤ length (now ws) ⌝ }
+    ensures { λ r. ⌜ Compares (now (ws .entry)) k (now (s .entry)) h r ⌝ }
+{
+    if ws[SLOT * (k as usize) + 39] == h {
+        return term::equal(s, path::run_of(ws, k));
+    }
+    false
 }

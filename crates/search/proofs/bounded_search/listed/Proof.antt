@@ -40,21 +40,18 @@ loop-holds c =
     let e = rw (d .slots-of .ensures, b .before .hash .ensures) at (b .bucket-at .ensures .0) in
     (omega arith, going-starts (a .ws .now) (a .count) (a .s .now), leading-starts (a .s .now) e (c .newest .ensures))
 
-run-of-requires : tie.Need-run-of-requires Inv-loop μ-loop
-run-of-requires c κs = search needs
-
-equal-requires : tie.Need-equal-requires Inv-loop μ-loop
-equal-requires c κs = search needs
+has-run-requires : tie.Need-has-run-requires Inv-loop μ-loop
+has-run-requires c κs = search needs
 
 -- what the comparison says
-told : (c : tie.After-equal Inv-loop μ-loop) →
-    let l = c .before .before .before in
+told : (c : tie.After-has-run Inv-loop μ-loop) →
+    let l = c .before .before in
     let a = l .before .before .before .before .before .before .before .before .args in
-    Tells (a .ws .now) (a .count) (a .s .now) (l .loop .k) (c .equal .result)
+    Tells (a .ws .now) (a .count) (a .s .now) (l .loop .k) (c .has-run .result)
 told c =
-    let l = c .before .before .before in
+    let l = c .before .before in
     let v = l .loop .inv in
-    tells (v .1) (v .2) (v .0) (c .before .before .loop-test .taken) (c .before .run-of .ensures) (c .equal .result) (c .equal .ensures)
+    tells (v .1) (v .2) (v .0) (c .before .loop-test .taken) (l .before .before .before .hash .ensures) (c .has-run .result) (c .has-run .ensures)
 
 returns-2 : tie.Need-returns-2 Inv-loop μ-loop
 returns-2 c = rw (c .if2 .taken) at (told (c .before))
@@ -80,7 +77,7 @@ loop-less c = search needs
 loop-again : tie.Need-loop-again Inv-loop μ-loop
 loop-again c =
     let e = c .before in
-    let l = e .before .before .before in
+    let l = e .before .before in
     let v = l .before .loop .inv in
     (omega arith, rw (e .if2 .left) at (told (e .before)), leading-next (v .1) (v .2) (v .0) (l .loop-test .taken))
 
@@ -100,8 +97,7 @@ listed-spec =
     bucket-at-requires
     newest-requires
     loop-holds
-    run-of-requires
-    equal-requires
+    has-run-requires
     returns-2
     cast-k
     mul-k
