@@ -1,27 +1,41 @@
 -- The hash of a run, a number at a time, what the head of a bucket says, and what a comparison with a noted run says.
-use Prim.Native.Nat.{ℕ, _+_, _*_, _%_, _≤_, _<_}
+use Prim.Native.Nat.{ℕ, _+_, _*_, _≤_, _<_}
 use native.Mathlib.Omega.{arith}
+use native.Mathlib.Nat.{mod-lt, mul-lt-mul-of-pos-right}
 use mathlib.Core.Path.{_≡_, sym, ap, _∙_}
 use mathlib.Core.Bool.{Bool, false}
-use mathlib.Core.List.{List}
+use mathlib.Core.List.{List, [], _∷_}
 use lib.ListN.{length, drop, getD, drop-of-length-le}
 use Rattle.terms.specs.Run.{run}
 use Rattle.terms.specs.Promises.{Equals}
 use Rattle.terms.proofs.Positions.{drop-one}
 use Rattle.search.specs.Search.{Noted}
-use Rattle.search.specs.Index.{slots-of, hash, bucket-at, head-of, hash-of}
+use Rattle.search.specs.Index.{slots-of, mix, hash, bucket-at, head-of, hash-of}
 use Rattle.search.specs.Slots.{noted-at, home, Slots, Heads, Compares}
 use Rattle.search.specs.Traced.{Shows}
 use Rattle.search.proofs.Noting.{told-apart}
 
 module _ (xs : List ℕ) (i h : ℕ) where
-  pub hash-next : i < length xs → hash (drop i xs) h ≡ hash (drop (i + 1) xs) ((h * 4101 + getD xs i 0) % 4294967296)
+  pub hash-next : i < length xs → hash (drop i xs) h ≡ hash (drop (i + 1) xs) (mix h (getD xs i 0))
   unfolding hash
   hash-next p = rw (drop-one xs i p)
 
   pub hash-ends : length xs ≤ i → hash (drop i xs) h ≡ h
   unfolding hash
   hash-ends p = rw (drop-of-length-le xs p)
+
+pub mix-small : (h x : ℕ) → mix h x < 4294967296
+mix-small h x = mod-lt (h * 2654435769 + x * 1640531521) (omega arith)
+
+pub hash-small : (xs : List ℕ) (h : ℕ) → h < 4294967296 → hash xs h < 4294967296
+unfolding hash
+hash-small [] h p = p
+hash-small (x ∷ xs) h p = hash-small xs (mix h x) (mix-small h x)
+
+pub bucket-small : {n h : ℕ} → 0 < n → h < 4294967296 → bucket-at n h < n
+bucket-small {n} {h} p q =
+    let r : h * n < 4294967296 * n = mul-lt-mul-of-pos-right q p in
+    omega arith
 
 -- what the head of bucket b says
 module _ (ws : List ℕ) (count b : ℕ) where

@@ -1,7 +1,7 @@
 -- A slot noted: it is written, and the index leads to it. What is said of the index is what three stores to it leave.
 use Prim.Native.Nat.{ℕ, _+_, _*_, _≤_, _<_}
 use native.Mathlib.Omega.{arith}
-use native.Mathlib.Nat.{add-zero, eq-or-lt-of-le, le-of-suc-le-suc, mod-lt}
+use native.Mathlib.Nat.{add-zero, eq-or-lt-of-le, le-of-suc-le-suc}
 use mathlib.Core.Path.{_≡_, refl, sym, ap, _∙_}
 use mathlib.Core.Logic.{_⊎_, inl, inr}
 use mathlib.Core.List.{List, [], _∷_, _++_}
@@ -20,6 +20,7 @@ use Rattle.search.specs.Slots.{Spells, origin-of, Marks, noted-at, Comes
 use Rattle.search.specs.declared.bounded_search.Step.{Step}
 use Rattle.search.specs.declared.bounded_search.Origin.{Origin}
 use Rattle.search.specs.declared.bounded_search.Origin.the-variants.{Start, From}
+use Rattle.search.proofs.Hashing.{hash-small, bucket-small}
 use Rattle.search.proofs.Slots.{noted-before, noted-last, slot-more}
 
 equal? : (a b : ℕ) → (a ≡ b) ⊎ (a ≡ b → ⊥)
@@ -105,7 +106,7 @@ module _ {ws ws′ : List ℕ} (ns : List Noted) (n : Noted) {xs : List ℕ} {o 
   inside : SLOT * b + 6 < length ws
   inside =
       let h : 0 < slots-of (length ws) = omega (arith, E .room) in
-      omega (arith, mod-lt (hash xs 0) h)
+      omega (arith, bucket-small h (hash-small xs 0 (omega arith)))
 
   home-still : (j : ℕ) → j < count → home ws ns j ≡ home ws′ more j
   home-still j h = rw (long, noted-before ns n j h)

@@ -12,14 +12,18 @@ SLOT = 40
 abbrev pub slots-of : ℕ → ℕ
 slots-of n = min 65535 (n / SLOT)
 
+-- a number x taken into h; the two factors together are below 2^32, so that the sum is below 2^64 where h and x are below 2^32
+abbrev pub mix : ℕ → ℕ → ℕ
+mix h x = (h * 2654435769 + x * 1640531521) % 4294967296
+
 -- the numbers of a list, one after the other, taken into h
 unfoldable pub hash : List ℕ → ℕ → ℕ
 hash [] h = h
-hash (x ∷ xs) h = hash xs ((h * 4101 + x) % 4294967296)
+hash (x ∷ xs) h = hash xs (mix h x)
 
--- the bucket of a hash among n, and of a run
+-- the bucket of a hash below 2^32 among n, and of a run
 abbrev pub bucket-at : ℕ → ℕ → ℕ
-bucket-at n h = h % n
+bucket-at n h = (h * n) / 4294967296
 
 abbrev pub bucket : ℕ → List ℕ → ℕ
 bucket n xs = bucket-at n (hash xs 0)

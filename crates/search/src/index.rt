@@ -30,18 +30,18 @@ pub fn hash(s: &[u32]) -> u32
     let mut i = 0;
     while i < s.len() {
         let x = s[i] as usize;
-        h = (h * 4101 + x) % 4294967296;
+        h = (h * 2654435769 + x * 1640531521) % 4294967296;
         i += 1;
     }
     h as u32
 }
 
-// The bucket of a hash.
+// The bucket of a hash: its place among all 2^32 hashes, scaled to the buckets, so that nothing is divided by their number.
 pub fn bucket_at(h: u32, buckets: usize) -> usize
-    requires { ⌜ 0 < buckets ⌝ }
+    requires { ⌜ (0 < buckets) × (buckets ≤ 65535) ⌝ }
     ensures { λ r. ⌜ (r ≡ bucket-at buckets h) × (r < buckets) ⌝ }
 {
-    (h as usize) % buckets
+    (h as usize) * buckets / 4294967296
 }
 
 // The newest of the first `count` slots whose run is in a bucket, or `count` if none is.
