@@ -1,7 +1,7 @@
--- A slot noted: it is written, and the index leads to it. What is said of the index is what two stores to it leave.
+-- A slot noted: it is written, and the index leads to it. What is said of the index is what three stores to it leave.
 use Prim.Native.Nat.{ℕ, _+_, _*_, _≤_, _<_}
 use native.Mathlib.Omega.{arith}
-use native.Mathlib.Nat.{add-zero, eq-or-lt-of-le, le-of-suc-le-suc, mod-lt}
+use native.Mathlib.Nat.{add-zero, eq-or-lt-of-le, le-of-suc-le-suc}
 use mathlib.Core.Path.{_≡_, refl, sym, ap, _∙_}
 use mathlib.Core.Logic.{_⊎_, inl, inr}
 use mathlib.Core.List.{List, [], _∷_, _++_}
@@ -11,14 +11,16 @@ use Rattle.terms.specs.Term.{Term}
 use Rattle.terms.specs.Run.{run}
 use Rattle.terms.specs.Held.{IsRun, Holds}
 use Rattle.terms.specs.Theory.Order.{below?}
+use Rattle.terms.proofs.Positions.{front-getD}
 use Rattle.terms.proofs.Held.{front-holds}
 use Rattle.search.specs.Line.{Line}
 use Rattle.search.specs.Search.{Noted, entry}
-use Rattle.search.specs.Index.{SLOT, slots-of, hash, bucket, head-of, next-of, Newest}
+use Rattle.search.specs.Index.{SLOT, slots-of, hash, bucket, head-of, next-of, hash-of, Newest}
 use Rattle.search.specs.Slots.{Spells, origin-of, Marks, noted-at, Comes, Slot, home, Slots, Enters, Starts, Notes}
 use Rattle.search.specs.declared.bounded_search.Step.{Step}
 use Rattle.search.specs.declared.bounded_search.Origin.{Origin}
 use Rattle.search.specs.declared.bounded_search.Origin.the-variants.{Start, From}
+use Rattle.search.proofs.Hashing.{hash-small, bucket-small}
 use Rattle.search.proofs.Slots.{noted-before, noted-last, slot-more}
 
 equal? : (a b : ℕ) → (a ≡ b) ⊎ (a ≡ b → ⊥)
@@ -30,20 +32,24 @@ equal? a b = go (below? a b) (below? b a)
     go (inr h) (inr q) = inl (omega arith)
 
 -- a number of the index stored, number i of slot j: each slot keeps what it has
-module _ (ws : List ℕ) (j i v : ℕ) (low : 6 ≤ i) (high : i ≤ 7) where
+module _ (ws : List ℕ) (j i v : ℕ) (low : 6 ≤ i) (high : i < SLOT) (off : (i < 8) ⊎ (39 ≤ i)) where
   run-stored : (k : ℕ) (t : Term) → Spells ws k t → Spells (set ws (SLOT * j + i) v) k t
   run-stored k t s =
       record {
         count = getD-set-other ws (SLOT * j + i) (SLOT * k) v 0 (λ e. omega arith) ∙ s .count;
         small = s .small;
-        held = go (below? (SLOT * j + i) (SLOT * k + 8));
+        held = go (below? (SLOT * j + i) (SLOT * k + 8)) off;
       }
     where
-      go : (SLOT * j + i < SLOT * k + 8) ⊎ (SLOT * k + 8 ≤ SLOT * j + i) → Holds (set ws (SLOT * j + i) v) (SLOT * k + 8) t
-      go (inl h) =
-          record { fine = s .held .fine; rest = s .held .rest; here = drop-set-lt (SLOT * k + 8) ws (SLOT * j + i) v h ∙ s .held .here }
-      go (inr h) =
+      past : SLOT * k + 39 ≤ SLOT * j + i → Holds (set ws (SLOT * j + i) v) (SLOT * k + 8) t
+      past h =
           front-holds ws (set ws (SLOT * j + i) v) (SLOT * j + i) (take-set-le (SLOT * j + i) ws (SLOT * j + i) v (omega arith)) (omega (arith, s .small)) (s .held)
+
+      go : (SLOT * j + i < SLOT * k + 8) ⊎ (SLOT * k + 8 ≤ SLOT * j + i) → (i < 8) ⊎ (39 ≤ i) → Holds (set ws (SLOT * j + i) v) (SLOT * k + 8) t
+      go (inl h) p =
+          record { fine = s .held .fine; rest = s .held .rest; here = drop-set-lt (SLOT * k + 8) ws (SLOT * j + i) v h ∙ s .held .here }
+      go (inr h) (inl p) = past (omega arith)
+      go (inr h) (inr p) = past (omega arith)
 
   origin-stored : (k : ℕ) → origin-of (set ws (SLOT * j + i) v) k ≡ origin-of ws k
   origin-stored k =
@@ -82,11 +88,17 @@ module _ {ws ws′ : List ℕ} (ns : List Noted) (n : Noted) {xs : List ℕ} {o 
   abbrev b : ℕ
   b = bucket (slots-of (length ws)) xs
 
+  abbrev hashed : List ℕ
+  hashed = set (E .written) (SLOT * count + 39) (hash xs 0)
+
   abbrev linked : List ℕ
-  linked = set (E .written) (SLOT * count + 7) (E .older)
+  linked = set hashed (SLOT * count + 7) (E .older)
+
+  hashed-long : length hashed ≡ length ws
+  hashed-long = length-set (E .written) (SLOT * count + 39) (hash xs 0) ∙ E .writes .size
 
   linked-long : length linked ≡ length ws
-  linked-long = length-set (E .written) (SLOT * count + 7) (E .older) ∙ E .writes .size
+  linked-long = length-set hashed (SLOT * count + 7) (E .older) ∙ hashed-long
 
   long : length ws′ ≡ length ws
   long = ap length (E .links) ∙ length-set linked (SLOT * b + 6) count ∙ linked-long
@@ -94,7 +106,7 @@ module _ {ws ws′ : List ℕ} (ns : List Noted) (n : Noted) {xs : List ℕ} {o 
   inside : SLOT * b + 6 < length ws
   inside =
       let h : 0 < slots-of (length ws) = omega (arith, E .room) in
-      omega (arith, mod-lt (hash xs 0) h)
+      omega (arith, bucket-small h (hash-small xs 0 (omega arith)))
 
   home-still : (j : ℕ) → j < count → home ws ns j ≡ home ws′ more j
   home-still j h = rw (long, noted-before ns n j h)
@@ -109,21 +121,38 @@ module _ {ws ws′ : List ℕ} (ns : List Noted) (n : Noted) {xs : List ℕ} {o 
   head-still c h =
       rw (E .links)
       (getD-set-other linked (SLOT * b + 6) (SLOT * c + 6) count 0 (λ e. h (omega arith))
-      ∙ getD-set-other (E .written) (SLOT * count + 7) (SLOT * c + 6) (E .older) 0 (λ e. omega arith)
+      ∙ getD-set-other hashed (SLOT * count + 7) (SLOT * c + 6) (E .older) 0 (λ e. omega arith)
+      ∙ getD-set-other (E .written) (SLOT * count + 39) (SLOT * c + 6) (hash xs 0) 0 (λ e. omega arith)
       ∙ E .writes .index c 6 (omega arith) (omega arith))
 
   next-new : next-of ws′ count ≡ E .older
   next-new =
       rw (E .links)
       (getD-set-other linked (SLOT * b + 6) (SLOT * count + 7) count 0 (λ e. omega arith)
-      ∙ getD-set-same (E .written) (SLOT * count + 7) (E .older) 0 (omega (arith, E .room, E .writes .size)))
+      ∙ getD-set-same hashed (SLOT * count + 7) (E .older) 0 (omega (arith, E .room, hashed-long)))
 
   next-still : (k : ℕ) → k < count → next-of ws′ k ≡ next-of ws k
   next-still k h =
       rw (E .links)
       (getD-set-other linked (SLOT * b + 6) (SLOT * k + 7) count 0 (λ e. omega arith)
-      ∙ getD-set-other (E .written) (SLOT * count + 7) (SLOT * k + 7) (E .older) 0 (λ e. omega arith)
+      ∙ getD-set-other hashed (SLOT * count + 7) (SLOT * k + 7) (E .older) 0 (λ e. omega arith)
+      ∙ getD-set-other (E .written) (SLOT * count + 39) (SLOT * k + 7) (hash xs 0) 0 (λ e. omega arith)
       ∙ E .writes .index k 7 (omega arith) (omega arith))
+
+  -- the links leave the hash that is written
+  hash-stored : (k : ℕ) → hash-of ws′ k ≡ hash-of hashed k
+  hash-stored k =
+      rw (E .links)
+      (getD-set-other linked (SLOT * b + 6) (SLOT * k + 39) count 0 (λ e. omega arith)
+      ∙ getD-set-other hashed (SLOT * count + 7) (SLOT * k + 39) (E .older) 0 (λ e. omega arith))
+
+  hash-new : hash-of ws′ count ≡ hash xs 0
+  hash-new = hash-stored count ∙ getD-set-same (E .written) (SLOT * count + 39) (hash xs 0) 0 (omega (arith, E .room, E .writes .size))
+
+  hash-still : (k : ℕ) → k < count → hash-of ws′ k ≡ hash-of ws k
+  hash-still k h =
+      hash-stored k ∙ getD-set-other (E .written) (SLOT * count + 39) (SLOT * k + 39) (hash xs 0) 0 (λ e. omega arith)
+      ∙ front-getD ws (E .written) (SLOT * count) (SLOT * k + 39) (E .writes .kept) (omega arith)
 
   -- a slot is one of the old ones, or the new one
   old-or-new : (k : ℕ) → k < length more → (k ≡ count) ⊎ (k < count)
@@ -152,11 +181,22 @@ module _ {ws ws′ : List ℕ} (ns : List Noted) (n : Noted) {xs : List ℕ} {o 
       go (inr e) =
           rw (next-still k e, ← (home-still k e)) (newest-still (λ j p. home-still j (omega arith)) (S .index .next k e))
 
+  hashes : (k : ℕ) → k < length more → hash-of ws′ k ≡ hash (run (noted-at more k .term)) 0
+  hashes k h = go (old-or-new k h)
+    where
+      go : (k ≡ count) ⊎ (k < count) → hash-of ws′ k ≡ hash (run (noted-at more k .term)) 0
+      go (inl e) = rw (e, hash-new, noted-last ns n, ← (r .whole))
+      go (inr e) = rw (hash-still k e, noted-before ns n k e) (S .index .hashed k e)
+
   pub entered : Comes o more count n → d ≡ length (n .trail) → Slots ws′ more
   entered c e =
       record {
-        slot = λ k h. rw (E .links) (slot-stored linked b 6 count (omega arith) (omega arith) (slot-stored (E .written) count 7 (E .older) (omega arith) (omega arith) (slots k h)));
-        index = record { head = heads; next = nexts };
+        slot = λ k h.
+            rw (E .links)
+            (slot-stored linked b 6 count (omega arith) (omega arith) (inl (omega arith))
+            (slot-stored hashed count 7 (E .older) (omega arith) (omega arith) (inl (omega arith))
+            (slot-stored (E .written) count 39 (hash xs 0) (omega arith) (omega arith) (inr (omega arith)) (slots k h))));
+        index = record { head = heads; next = nexts; hashed = hashes };
       }
     where
       slots : (k : ℕ) → k < length more → Slot (E .written) more k (noted-at more k)
@@ -171,7 +211,7 @@ starts {ws} E = record { slots = λ t h. entered [] (record { term = t; trail = 
     none =
         record {
           slot = λ k q. absurd (omega arith);
-          index = record { head = λ k q. absurd (omega arith); next = λ k q. absurd (omega arith) };
+          index = record { head = λ k q. absurd (omega arith); next = λ k q. absurd (omega arith); hashed = λ k q. absurd (omega arith) };
         }
 
 pub notes : {ws ws′ : List ℕ} {count : ℕ} {xs : List ℕ} {s : Step} {d : ℕ} → Enters ws ws′ count xs (From s) d → Notes ws ws′ count xs s d

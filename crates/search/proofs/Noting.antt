@@ -9,13 +9,11 @@ use lib.ListN.{length, take}
 use lib.Seq.{take-suc, take-all}
 use Rattle.terms.specs.Term.{Term, zero, same}
 use Rattle.terms.specs.Held.{IsRun}
-use Rattle.terms.specs.Promises.{Equals}
 use Rattle.terms.specs.Theory.Reflects.{Reflects}
 use Rattle.terms.specs.Theory.TermOrder.{same-reflects}
 use Rattle.search.specs.Search.{Noted, is-noted}
-use Rattle.search.specs.Index.{slots-of, bucket, next-of, Newest}
-use Rattle.search.specs.Slots.{noted-at, home, Slots, Heads, Finds}
-use Rattle.search.specs.Traced.{Shows}
+use Rattle.search.specs.Index.{slots-of, hash, bucket, next-of, Newest}
+use Rattle.search.specs.Slots.{noted-at, home, Slots, Heads, Compares, Finds}
 
 -- a term noted before, or else as the last one
 
@@ -34,7 +32,7 @@ module _ (t : Term) (n : Noted) where
   noted-before [] e = rw (e, is-noted)
   noted-before (x ∷ ns) e = ap (λ b. elim (same t (x .term)) [ true ↦ true | false ↦ b ]) (noted-before ns e)
 
-told-apart : (s t : Term) → (s ≡ t → ⊥) → same s t ≡ false
+pub told-apart : (s t : Term) → (s ≡ t → ⊥) → same s t ≡ false
 told-apart s t h = go (same s t) (same-reflects s t)
   where
     go : (b : Bool) → Reflects (s ≡ t) b → b ≡ false
@@ -96,13 +94,13 @@ module _ {ws : List ℕ} {count : ℕ} {xs : List ℕ} {end k : ℕ} (G : Going 
         ∙ sym (passed t ns (suc k) (end - suc k) (omega arith) (λ j p q. other ns t S c r j (omega arith) (λ u v. omega arith)))
         ∙ ap (λ i. is-noted t (take i ns)) e ∙ G ns t S c r
 
-    module _ {ys : List ℕ} (Sh : Shows ws k ys) where
-      same-is : {b : Bool} → Equals xs ys b → (ns : List Noted) (t : Term) → Slots ws ns → length ns ≡ count → IsRun xs t → same t (noted-at ns k .term) ≡ b
-      same-is e ns t S c r = sym (e .terms t (noted-at ns k .term) r (Sh .exact (noted-at ns k .term) (S .slot k (omega arith) .run)))
+    module _ {x : ℕ} (e : x ≡ hash xs 0) where
+      same-is : {b : Bool} → Compares ws k xs x b → (ns : List Noted) (t : Term) → Slots ws ns → length ns ≡ count → IsRun xs t → same t (noted-at ns k .term) ≡ b
+      same-is C ns t S c r = sym (C .exact ns t S (omega arith) r e)
 
-      pub tells : (b : Bool) → Equals xs ys b → Tells ws count xs k b
-      tells true e = record { exact = λ ns t S c r. sym (last-noted t (noted-at ns k) (take k ns) (same-is e ns t S c r)) ∙ up-to ns t S c r }
-      tells false e = λ ns t S c r. sym (noted-before t (noted-at ns k) (take k ns) (same-is e ns t S c r)) ∙ up-to ns t S c r
+      pub tells : (b : Bool) → Compares ws k xs x b → Tells ws count xs k b
+      tells true C = record { exact = λ ns t S c r. sym (last-noted t (noted-at ns k) (take k ns) (same-is C ns t S c r)) ∙ up-to ns t S c r }
+      tells false C = λ ns t S c r. sym (noted-before t (noted-at ns k) (take k ns) (same-is C ns t S c r)) ∙ up-to ns t S c r
 
     pub leading-next : Leading ws count xs k (next-of ws k)
     leading-next ns S c = rw (L ns S c .own h) at (S .index .next k (omega arith))

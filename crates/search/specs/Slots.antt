@@ -1,11 +1,11 @@
 -- The noted terms in a workspace, 40 numbers to a slot: number 0 is the length of the term's run, 1 to 4 are its origin, 5 is its
--- distance, 6 and 7 are of the index, and the run stands from 8 on.
+-- distance, 6, 7 and 39 are of the index, and the run stands from 8 on.
 use Prim.Native.Nat.{ℕ, _+_, _*_, _≤_, _<_}
 use mathlib.Core.Path.{_≡_}
 use mathlib.Core.Bool.{Bool}
 use mathlib.Core.List.{List, [], _∷_, _++_}
 use lib.ListN.{length, take, getD, set}
-use Rattle.terms.specs.Term.{Term, zero, size}
+use Rattle.terms.specs.Term.{Term, zero, size, same}
 use Rattle.terms.specs.Run.{run}
 use Rattle.terms.specs.Held.{IsRun, Holds}
 use Rattle.search.specs.Line.{Line}
@@ -13,7 +13,7 @@ use Rattle.search.specs.Search.{Noted, is-noted, entry}
 use Rattle.search.specs.Coded.{name-of, direction-of}
 use Rattle.search.specs.Place.{place-at}
 use Rattle.search.specs.Origins.{origin-at}
-use Rattle.search.specs.Index.{slots-of, bucket, head-of, next-of, Newest}
+use Rattle.search.specs.Index.{slots-of, hash, bucket, head-of, next-of, hash-of, Newest}
 pub use Rattle.search.specs.Index.{SLOT}
 use Rattle.search.specs.declared.bounded_search.Step.{Step}
 use Rattle.search.specs.declared.bounded_search.Origin.{Origin}
@@ -64,11 +64,12 @@ pub record Slot (ws : List ℕ) (ns : List Noted) (k : ℕ) (n : Noted) : Type 0
 abbrev pub home : List ℕ → List Noted → ℕ → ℕ
 home ws ns k = bucket (slots-of (length ws)) (run (noted-at ns k .term))
 
--- the head of a noted term's bucket is the newest slot in it, and each slot leads to the next older one in its bucket; nothing is said of
--- the head of a bucket that no noted term has
+-- the head of a noted term's bucket is the newest slot in it, and each slot leads to the next older one in its bucket and has the hash of
+-- its run; nothing is said of the head of a bucket that no noted term has
 pub record Indexed (ws : List ℕ) (ns : List Noted) : Type 0 where
   pub head : (k : ℕ) → k < length ns → Newest (home ws ns) (home ws ns k) (length ns) (head-of ws (home ws ns k))
   pub next : (k : ℕ) → k < length ns → Newest (home ws ns) (home ws ns k) k (next-of ws k)
+  pub hashed : (k : ℕ) → k < length ns → hash-of ws k ≡ hash (run (noted-at ns k .term)) 0
 
 -- the first slots have the noted terms, in noting order; nothing is said of the other numbers but for the index
 pub record Slots (ws : List ℕ) (ns : List Noted) : Type 0 where
@@ -85,6 +86,10 @@ pub record Finds (ws : List ℕ) (count : ℕ) (xs : List ℕ) (r : Bool) : Type
 pub record Heads (ws : List ℕ) (count b r : ℕ) : Type 0 where
   pub exact : (ns : List Noted) → Slots ws ns → length ns ≡ count → Newest (home ws ns) b count r
 
+-- of `has_run`, for a run with hash h
+pub record Compares (ws : List ℕ) (k : ℕ) (xs : List ℕ) (h : ℕ) (r : Bool) : Type 0 where
+  pub exact : (ns : List Noted) (t : Term) → Slots ws ns → k < length ns → IsRun xs t → h ≡ hash xs 0 → r ≡ same t (noted-at ns k .term)
+
 -- of `write_slot`: slot k is written, those before it stay, and so do numbers 6 and 7 of all
 pub record Writes (before after : List ℕ) (k : ℕ) (xs : List ℕ) (o : Origin) (d : ℕ) : Type 0 where
   pub size : length after ≡ length before
@@ -94,14 +99,14 @@ pub record Writes (before after : List ℕ) (k : ℕ) (xs : List ℕ) (o : Origi
   pub origin : origin-of after k ≡ o
   pub distance : distance-of after k ≡ d
 
--- of `note_slot`: slot k is written, leads to the newest older one in its bucket, and is the head now
+-- of `note_slot`: slot k is written, with the hash of its run, leads to the newest older one in its bucket, and is the head now
 pub record Enters (before after : List ℕ) (k : ℕ) (xs : List ℕ) (o : Origin) (d : ℕ) : Type 0 where
   pub room : SLOT * k + SLOT ≤ length before
   pub written : List ℕ
   pub writes : Writes before written k xs o d
   pub older : ℕ
   pub newest : Heads before k (bucket (slots-of (length before)) xs) older
-  pub links : after ≡ set (set written (SLOT * k + 7) older) (SLOT * bucket (slots-of (length before)) xs + 6) k
+  pub links : after ≡ set (set (set written (SLOT * k + 39) (hash xs 0)) (SLOT * k + 7) older) (SLOT * bucket (slots-of (length before)) xs + 6) k
 
 -- of `note_start`
 pub record Starts (after xs : List ℕ) : Type 0 where

@@ -1,6 +1,6 @@
 // The bounded search, with the noted terms in slots of 40 numbers.
-// Of a slot, number 0 is the length of a run, 1 to 4 are its origin, 5 is its distance, 6 and 7 are of the index, and the run stands from
-// number 8 on.
+// Of a slot, number 0 is the length of a run, 1 to 4 are its origin, 5 is its distance, 6, 7 and 39 are of the index, and the run
+// stands from number 8 on.
 ghost use mathlib.Core.Path.{_≡_};
 ghost use Prim.Native.Nat.{_+_, _*_, _≤_, _<_};
 ghost use lib.ListN.{length};
@@ -86,10 +86,10 @@ pub fn listed(ws: &[u32], count: usize, s: &[u32]) -> bool
         return false;
     }
     let mut end = count as u32;
-    let mut k = index::newest(ws, end, index::bucket_of(s, buckets));
+    let h = index::hash(s);
+    let mut k = index::newest(ws, end, index::bucket_at(h, buckets));
     while k < end {
-        let run = path::run_of(ws, k);
-        if term::equal(s, run) {
+        if index::has_run(ws, k, s, h) {
             return true;
         }
         end = k;
@@ -115,10 +115,12 @@ fn note_slot(ws: &mut [u32], k: usize, s: &[u32], o: Origin, distance: u32)
     requires { ⌜ (SLOT * k + SLOT ≤ length (now ws)) × (length (now s) ≤ 31) × (k < 65535) ⌝ }
     ensures { λ _. ⌜ Enters (now (ws .entry)) (now (ws .exit)) k (now (s .entry)) o distance ⌝ }
 {
-    let b = index::bucket_of(s, index::slots_of(ws.len()));
+    let h = index::hash(s);
+    let b = index::bucket_at(h, index::slots_of(ws.len()));
     let new = k as u32;
     let older = index::newest(ws, new, b);
     write_slot(ws, k, s, o, distance);
+    ws[SLOT * k + 39] = h;
     ws[SLOT * k + 7] = older;
     ws[SLOT * b + 6] = new;
 }

@@ -7,10 +7,10 @@ use Rattle.search.proofs.bounded_search.listed.Statement.{statement}
 use Rattle.search.proofs.bounded_search.listed.Tie as tie
 
 abbrev Inv-loop : tie.InvT-loop
-Inv-loop ws count s buckets end₀ k₀ end k = (end ≤ count) × Going ws count s end × Leading ws count s end k
+Inv-loop ws count s buckets end₀ h k₀ end k = (end ≤ count) × Going ws count s end × Leading ws count s end k
 
 abbrev μ-loop : tie.MeasureT-loop
-μ-loop ws count s buckets end₀ k₀ end k = end
+μ-loop ws count s buckets end₀ h k₀ end k = end
 
 slots-of-requires : tie.Need-slots-of-requires Inv-loop μ-loop
 slots-of-requires c κs = search needs
@@ -23,8 +23,11 @@ returns c =
 cast-end : tie.Need-cast-end Inv-loop μ-loop
 cast-end c = search needs
 
-bucket-of-requires : tie.Need-bucket-of-requires Inv-loop μ-loop
-bucket-of-requires c κs = search needs
+hash-requires : tie.Need-hash-requires Inv-loop μ-loop
+hash-requires c κs = search needs
+
+bucket-at-requires : tie.Need-bucket-at-requires Inv-loop μ-loop
+bucket-at-requires c κs = search needs
 
 newest-requires : tie.Need-newest-requires Inv-loop μ-loop
 newest-requires c κs = search needs
@@ -32,25 +35,23 @@ newest-requires c κs = search needs
 loop-holds : tie.Need-loop-holds Inv-loop μ-loop
 loop-holds c =
     let b = c .before in
-    let d = b .before .before in
+    let d = b .before .before .before in
     let a = d .before .before .before .args in
-    (omega arith, going-starts (a .ws .now) (a .count) (a .s .now), leading-starts (a .s .now) (rw (d .slots-of .ensures) at (b .bucket-of .ensures .0)) (c .newest .ensures))
+    let e = rw (d .slots-of .ensures, b .before .hash .ensures) at (b .bucket-at .ensures .0) in
+    (omega arith, going-starts (a .ws .now) (a .count) (a .s .now), leading-starts (a .s .now) e (c .newest .ensures))
 
-run-of-requires : tie.Need-run-of-requires Inv-loop μ-loop
-run-of-requires c κs = search needs
-
-equal-requires : tie.Need-equal-requires Inv-loop μ-loop
-equal-requires c κs = search needs
+has-run-requires : tie.Need-has-run-requires Inv-loop μ-loop
+has-run-requires c κs = search needs
 
 -- what the comparison says
-told : (c : tie.After-equal Inv-loop μ-loop) →
-    let l = c .before .before .before in
-    let a = l .before .before .before .before .before .before .before .args in
-    Tells (a .ws .now) (a .count) (a .s .now) (l .loop .k) (c .equal .result)
+told : (c : tie.After-has-run Inv-loop μ-loop) →
+    let l = c .before .before in
+    let a = l .before .before .before .before .before .before .before .before .args in
+    Tells (a .ws .now) (a .count) (a .s .now) (l .loop .k) (c .has-run .result)
 told c =
-    let l = c .before .before .before in
+    let l = c .before .before in
     let v = l .loop .inv in
-    tells (v .1) (v .2) (v .0) (c .before .before .loop-test .taken) (c .before .run-of .ensures) (c .equal .result) (c .equal .ensures)
+    tells (v .1) (v .2) (v .0) (c .before .loop-test .taken) (l .before .before .before .hash .ensures) (c .has-run .result) (c .has-run .ensures)
 
 returns-2 : tie.Need-returns-2 Inv-loop μ-loop
 returns-2 c = rw (c .if2 .taken) at (told (c .before))
@@ -76,7 +77,7 @@ loop-less c = search needs
 loop-again : tie.Need-loop-again Inv-loop μ-loop
 loop-again c =
     let e = c .before in
-    let l = e .before .before .before in
+    let l = e .before .before in
     let v = l .before .loop .inv in
     (omega arith, rw (e .if2 .left) at (told (e .before)), leading-next (v .1) (v .2) (v .0) (l .loop-test .taken))
 
@@ -92,11 +93,11 @@ listed-spec =
     slots-of-requires
     returns
     cast-end
-    bucket-of-requires
+    hash-requires
+    bucket-at-requires
     newest-requires
     loop-holds
-    run-of-requires
-    equal-requires
+    has-run-requires
     returns-2
     cast-k
     mul-k

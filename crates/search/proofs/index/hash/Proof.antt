@@ -1,11 +1,10 @@
 -- `hash` meets its contract. The loop's invariant: the numbers before the `i`-th are taken into `h`.
-use Prim.Native.Nat.{_≤_, _<_, _-_, _+_, _*_}
+use Prim.Native.Nat.{_≤_, _<_, _-_}
 use native.Mathlib.Omega.{arith}
-use native.Mathlib.Nat.{mod-lt}
 use mathlib.Core.Path.{_≡_, sym, _∙_}
 use lib.ListN.{length, drop, getD}
 use Rattle.search.specs.Index.{hash}
-use Rattle.search.proofs.Hashing.{hash-next, hash-ends}
+use Rattle.search.proofs.Hashing.{hash-next, hash-ends, mix-small}
 use borrow.Author.Needs.{needs}
 use Rattle.search.proofs.index.hash.Statement.{statement}
 use Rattle.search.proofs.index.hash.Tie as tie
@@ -31,6 +30,9 @@ cast-x c = omega (arith, c .shared-slice-known .given (c .before .before .loop .
 mul-h : tie.Need-mul-h Inv-loop μ-loop
 mul-h c = search needs
 
+mul-h-2 : tie.Need-mul-h-2 Inv-loop μ-loop
+mul-h-2 c = omega (arith, c .shared-slice-known .given (c .before .before .loop .i))
+
 add-h : tie.Need-add-h Inv-loop μ-loop
 add-h c = omega (arith, c .shared-slice-known .given (c .before .before .loop .i))
 
@@ -44,7 +46,10 @@ loop-again : tie.Need-loop-again Inv-loop μ-loop
 loop-again c =
     let l = c .before .before .loop in
     let s = c .before .before .before .args .s .now in
-    (omega arith, mod-lt (l .h * 4101 + getD s (l .i) 0) (omega arith), l .inv .2 ∙ hash-next s (l .i) (l .h) (omega arith))
+    (omega arith, mix-small (l .h) (getD s (l .i) 0), l .inv .2 ∙ hash-next s (l .i) (l .h) (omega arith))
+
+cast-result : tie.Need-cast-result Inv-loop μ-loop
+cast-result c = search needs
 
 returns : tie.Need-returns Inv-loop μ-loop
 returns c =
@@ -62,8 +67,10 @@ hash-spec =
     shared-slice-read-x
     cast-x
     mul-h
+    mul-h-2
     add-h
     add-i
     loop-less
     loop-again
+    cast-result
     returns)

@@ -1,0 +1,42 @@
+-- `has_run` meets its contract.
+use Rattle.search.proofs.Hashing.{compared, hash-differs}
+use borrow.Author.Needs.{needs}
+use Rattle.search.proofs.index.has_run.Statement.{statement}
+use Rattle.search.proofs.index.has_run.Tie as tie
+
+mul-if1 : tie.Need-mul-if1
+mul-if1 c = search needs
+
+add-if1 : tie.Need-add-if1
+add-if1 c = search needs
+
+mul-if1-2 : tie.Need-mul-if1-2
+mul-if1-2 c = search needs
+
+shared-slice-read-if1 : tie.Need-shared-slice-read-if1
+shared-slice-read-if1 c = search needs
+
+run-of-requires : tie.Need-run-of-requires
+run-of-requires c κs = search needs
+
+equal-requires : tie.Need-equal-requires
+equal-requires c κs = search needs
+
+returns : tie.Need-returns
+returns c = compared (c .before .run-of .ensures) (c .equal .ensures)
+
+returns-2 : tie.Need-returns-2
+returns-2 c = hash-differs (c .if1 .left)
+
+pub has-run-spec : {M : Type 1} → statement M
+has-run-spec =
+    tie.close
+    (tie.spec
+    mul-if1
+    add-if1
+    mul-if1-2
+    shared-slice-read-if1
+    run-of-requires
+    equal-requires
+    returns
+    returns-2)
