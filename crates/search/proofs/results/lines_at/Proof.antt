@@ -10,13 +10,13 @@ use Rattle.search.proofs.results.lines_at.Statement.{statement}
 use Rattle.search.proofs.results.lines_at.Tie as tie
 
 abbrev Inv-loop : tie.InvT-loop
-Inv-loop s place parent depth out₀ res₀ order₀ count kept₀ n₀ out res order kept n = (n ≤ 20) × (length out ≡ length out₀) × (length res ≡ length res₀) × (length order ≡ length order₀) × Adds s (length out₀) depth parent (in-turn (step-lines place parent) n) n res₀ order₀ count res order kept
+Inv-loop ws noted s place parent depth out₀ res₀ order₀ count kept₀ n₀ out res order kept n = (n ≤ 20) × (length out ≡ length out₀) × (length res ≡ length res₀) × (length order ≡ length order₀) × Adds ws noted s (length out₀) depth parent (in-turn (step-lines place parent) n) n res₀ order₀ count res order kept
 
 abbrev μ-loop : tie.MeasureT-loop
-μ-loop s place parent depth out₀ res₀ order₀ count kept₀ n₀ out res order kept n = 20 - n
+μ-loop ws noted s place parent depth out₀ res₀ order₀ count kept₀ n₀ out res order kept n = 20 - n
 
 loop-holds : tie.Need-loop-holds Inv-loop μ-loop
-loop-holds c = let a = c .before .before .before .before .args in (omega arith, refl, refl, refl, turns-none (step-lines (a .place) (a .parent)))
+loop-holds c = let a = c .before .before .before .before .before .args in (omega arith, refl, refl, refl, turns-none (step-lines (a .place) (a .parent)))
 
 law-of-requires : tie.Need-law-of-requires Inv-loop μ-loop
 law-of-requires c κs = search needs
@@ -41,10 +41,10 @@ loop-again c =
     let h = w .before in
     let l = h .before .loop in (
       omega (arith, h .loop-test .taken),
-      f .keep-line .kept .1 .1 .1 .0 ∙ l .inv .1,
-      f .keep-line .kept .1 .1 .1 .1 .0 ∙ l .inv .2,
-      f .keep-line .kept .1 .1 .1 .1 .1 .0 ∙ l .inv .3,
-      step-kept (h .before .before .before .before .before .before .args .place) (l .n) (l .inv .4) (w .law-of .result) (d .direction-of .result) (w .law-of .ensures) (d .direction-of .ensures) (l .inv .1)
+      f .keep-line .kept .1 .1 .1 .1 .1 .0 ∙ l .inv .1,
+      f .keep-line .kept .1 .1 .1 .1 .1 .1 .0 ∙ l .inv .2,
+      f .keep-line .kept .1 .1 .1 .1 .1 .1 .1 .0 ∙ l .inv .3,
+      step-kept (h .before .before .before .before .before .before .before .args .place) (l .n) (l .inv .4) (w .law-of .result) (d .direction-of .result) (w .law-of .ensures) (d .direction-of .ensures) (l .inv .1)
           (f .keep-line .ensures),
     )
 
@@ -58,7 +58,7 @@ same-length-3 : tie.Need-same-length-3 Inv-loop μ-loop
 same-length-3 c = search needs
 
 returns : tie.Need-returns Inv-loop μ-loop
-returns c = let l = c .before .loop in steps-all (c .before .before .before .before .before .before .args .place) (l .n) (l .inv .4) (omega arith) (omega arith)
+returns c = let l = c .before .loop in steps-all (c .before .before .before .before .before .before .before .args .place) (l .n) (l .inv .4) (omega arith) (omega arith)
 
 pub lines-at-spec : {M : Type 1} → statement M
 lines-at-spec =
