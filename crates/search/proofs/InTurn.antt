@@ -1,42 +1,38 @@
 -- The steps in turn at a place, law by law, forward before back, and the places in turn: the lines of a term in their order.
-use Prim.Native.Nat.{ℕ, _+_, _*_, _/_, _%_, _≤_, _<_}
+use Prim.Native.Nat.{ℕ, _+_, _*_, _/_, _%_, _≤_}
 use native.Mathlib.Omega.{arith}
 use native.Mathlib.Numerals.{add-one}
-use mathlib.Core.Path.{_≡_, refl, sym}
+use mathlib.Core.Path.{_≡_, sym}
 use mathlib.Core.List.{List, []}
 use lib.ListN.{length}
 use Rattle.terms.specs.Term.{Term, size}
 use Rattle.terms.specs.Held.{IsRun}
 use Rattle.terms.specs.Theory.Held.{size-of}
 use Rattle.search.specs.Law.{semiring}
-use Rattle.search.specs.Line.{Line, at-root, root-lines, results}
+use Rattle.search.specs.Line.{Line, at-root, root-lines, lines, allowed, results}
 use Rattle.search.specs.Place.{subterm-at, placed, lines-at, gather}
 use Rattle.search.specs.Coded.{law-at, law-of, direction-of, numbered-law, numbered-direction}
-use Rattle.search.specs.Bound.{BindsLaw}
-use Rattle.search.specs.Ordered.{none}
+use Rattle.search.specs.Ordered.{none, unknown}
 use Rattle.search.specs.Resulted.{tried-by, Adds, Resulted}
 use Rattle.search.specs.Theory.Positions.{gather-snoc, gather-map, lines-in-order}
 use Rattle.search.specs.declared.search.Law.{Law}
 use Rattle.search.specs.declared.search.Direction.{Direction}
-use Rattle.search.specs.declared.search.Binding.{Binding}
-use Rattle.search.specs.declared.search.Binding.the-variants.{Unbound}
-use Rattle.search.specs.declared.line.Filled.the-variants.{Nothing}
 use Rattle.search.specs.declared.bounded_search.Step.{Step}
-use Rattle.search.proofs.Trying.{tries-nothing}
-use Rattle.search.proofs.Resulting.{adds-none, adds-then, adds-as, adds-nothing}
+use Rattle.search.proofs.Unknown.{unknown-joined}
+use Rattle.search.proofs.Resulting.{adds-none, adds-then, adds-as}
 
 -- lines in turn: those of f at 0, at 1, .. below n
 abbrev pub in-turn : (ℕ → Term → List Line) → ℕ → Term → List Line
 in-turn f n t = gather (λ i. f i t) n
 
-module _ {xs : List ℕ} {room deep parent : ℕ} (f : ℕ → Term → List Line) {res order : List ℕ} {count : ℕ} where
-  pub turns-none : Adds xs room deep parent (in-turn f 0) 0 res order count res order count
+module _ {ws : List ℕ} {noted : ℕ} {xs : List ℕ} {room deep parent : ℕ} (f : ℕ → Term → List Line) {res order : List ℕ} {count : ℕ} where
+  pub turns-none : Adds ws noted xs room deep parent (in-turn f 0) 0 res order count res order count
   unfolding gather
   turns-none = adds-none res order count
 
-  pub turns-more : (n : ℕ) {most more : ℕ} (most′ : ℕ) {res₁ order₁ : List ℕ} {r₁ : ℕ} → Adds xs room deep parent (in-turn f n) most res order count res₁ order₁ r₁
-      → {room₁ : ℕ} → room₁ ≡ room → {res₂ order₂ : List ℕ} {r₂ : ℕ} → Adds xs room₁ deep parent (f n) more res₁ order₁ r₁ res₂ order₂ r₂ → most + more ≤ most′
-      → Adds xs room deep parent (in-turn f (n + 1)) most′ res order count res₂ order₂ r₂
+  pub turns-more : (n : ℕ) {most more : ℕ} (most′ : ℕ) {res₁ order₁ : List ℕ} {r₁ : ℕ} → Adds ws noted xs room deep parent (in-turn f n) most res order count res₁ order₁ r₁
+      → {room₁ : ℕ} → room₁ ≡ room → {res₂ order₂ : List ℕ} {r₂ : ℕ} → Adds ws noted xs room₁ deep parent (f n) more res₁ order₁ r₁ res₂ order₂ r₂ → most + more ≤ most′
+      → Adds ws noted xs room deep parent (in-turn f (n + 1)) most′ res order count res₂ order₂ r₂
   turns-more n most′ A q B h = adds-as (in-turn f (n + 1)) most′ (λ t k. rw add-one (sym (gather-snoc (λ i. f i t) n))) h (adds-then A (rw q at B))
 
 -- the twenty steps at a place: each law forward, then back
@@ -52,22 +48,17 @@ twenty-steps place parent t =
     let u = subterm-at t place in
     sym (gather-map (placed t place) (λ n. at-root u (law-of (numbered-law (n / 2))) (direction-of (numbered-direction (n % 2)))) 20)
 
-module _ {xs : List ℕ} {room deep parent : ℕ} (place n : ℕ) {res order : List ℕ} {count : ℕ} {res₁ order₁ : List ℕ} {r₁ : ℕ}
-    (A : Adds xs room deep parent (in-turn (step-lines place parent) n) n res order count res₁ order₁ r₁) where
+module _ {ws : List ℕ} {noted : ℕ} {xs : List ℕ} {room deep parent : ℕ} (place n : ℕ) {res order : List ℕ} {count : ℕ} {res₁ order₁ : List ℕ} {r₁ : ℕ}
+    (A : Adds ws noted xs room deep parent (in-turn (step-lines place parent) n) n res order count res₁ order₁ r₁) where
   module _ (w : Law) (d : Direction) (p : w ≡ numbered-law (n / 2)) (q : d ≡ numbered-direction (n % 2)) where
     abbrev step : Step
     step = record { law = w; direction = d; place = place; parent = parent }
 
-    pub step-kept : {room₁ : ℕ} → room₁ ≡ room → {res₂ order₂ : List ℕ} {r₂ : ℕ} → Adds xs room₁ deep parent (tried-by step) 1 res₁ order₁ r₁ res₂ order₂ r₂
-        → Adds xs room deep parent (in-turn (step-lines place parent) (n + 1)) (n + 1) res order count res₂ order₂ r₂
+    pub step-kept : {room₁ : ℕ} → room₁ ≡ room → {res₂ order₂ : List ℕ} {r₂ : ℕ} → Adds ws noted xs room₁ deep parent (tried-by step) 1 res₁ order₁ r₁ res₂ order₂ r₂
+        → Adds ws noted xs room deep parent (in-turn (step-lines place parent) (n + 1)) (n + 1) res order count res₂ order₂ r₂
     step-kept e B = turns-more (step-lines place parent) n (n + 1) A e (rw (p, q) at B) (omega arith)
 
-    -- a law with a letter left unbound, or that does not match, is passed over
-    pub step-passed : place < length xs → (b : Binding) → BindsLaw w d xs place b → b ≡ Unbound
-        → Adds xs room deep parent (in-turn (step-lines place parent) (n + 1)) (n + 1) res order count res₁ order₁ r₁
-    step-passed i b B e = step-kept refl (adds-nothing step xs room deep [] res₁ order₁ r₁ Nothing i (tries-nothing w d xs place b room [] B e) refl)
-
-  pub steps-all : 20 ≤ n → n ≤ 20 → Adds xs room deep parent (λ t. lines-at semiring t place) 20 res order count res₁ order₁ r₁
+  pub steps-all : 20 ≤ n → n ≤ 20 → Adds ws noted xs room deep parent (λ t. lines-at semiring t place) 20 res order count res₁ order₁ r₁
   steps-all h k =
       let e : n ≡ 20 = omega arith in
       adds-as (λ t. lines-at semiring t place) 20 (λ t q. rw e (twenty-steps place parent t)) (omega arith) A
@@ -77,18 +68,19 @@ module _ {xs : List ℕ} {room deep parent : ℕ} (place n : ℕ) {res order : L
 abbrev pub place-lines : ℕ → Term → List Line
 place-lines i t = lines-at semiring t i
 
-module _ {xs : List ℕ} {room deep parent : ℕ} {res order : List ℕ} (i : ℕ) {res₁ order₁ : List ℕ} {r₁ : ℕ}
-    (A : Adds xs room deep parent (in-turn place-lines i) (20 * i) res order 0 res₁ order₁ r₁) where
-  pub places-all : length xs ≤ 31 → i ≤ length xs → length xs ≤ i → Resulted xs parent room deep res₁ order₁ r₁
-  unfolding results
+module _ {ws : List ℕ} {noted : ℕ} {xs : List ℕ} {room deep parent : ℕ} {res order : List ℕ} (i : ℕ) {res₁ order₁ : List ℕ} {r₁ : ℕ}
+    (A : Adds ws noted xs room deep parent (in-turn place-lines i) (20 * i) res order 0 res₁ order₁ r₁) where
+  pub places-all : length xs ≤ 31 → i ≤ length xs → length xs ≤ i → Resulted ws noted xs parent room deep res₁ order₁ r₁
+  unfolding results unknown
   places-all short low high =
       record {
         few = omega (arith, A .high);
-        exact = λ t m h k q e d.
-            let c : i ≡ size t = omega (arith, size-of h) in
-            rw (lines-in-order semiring t, ← c) (A .exact t m [] h e d (record { named = none; rising = tt }));
+        exact = λ ns t m S c h k q e d.
+            let f : i ≡ size t = omega (arith, size-of h) in
+            rw (unknown-joined ns [] (allowed m (lines semiring t)) tt, lines-in-order semiring t, ← f)
+            (A .exact ns t m [] S c h e d (record { named = none; rising = tt }));
       }
 
 -- no more is asked where a run or a limit is too large
-pub resulted-never : {xs : List ℕ} {parent room deep : ℕ} (res order : List ℕ) → ((t : Term) → IsRun xs t → size t ≤ 31 → room ≤ 31 → ⊥) → Resulted xs parent room deep res order 0
-resulted-never res order f = record { few = omega arith; exact = λ t m h k q e d. absurd (f t h k q) }
+pub resulted-never : {ws : List ℕ} {noted : ℕ} {xs : List ℕ} {parent room deep : ℕ} (res order : List ℕ) → ((t : Term) → IsRun xs t → size t ≤ 31 → room ≤ 31 → ⊥) → Resulted ws noted xs parent room deep res order 0
+resulted-never res order f = record { few = omega arith; exact = λ ns t m S c h k q e d. absurd (f t h k q) }

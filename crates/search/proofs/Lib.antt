@@ -19,6 +19,7 @@ pub mod Indexing
 pub mod Hashing
 pub mod Noting
 pub mod Rising
+pub mod Unknown
 pub mod Sorting
 pub mod Keeping
 pub mod Tracing

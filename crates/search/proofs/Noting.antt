@@ -18,7 +18,7 @@ use Rattle.search.specs.Slots.{noted-at, home, Slots, Heads, Compares, F
 -- a term noted before, or else as the last one
 
 module _ (t : Term) (n : Noted) where
-  last-noted : (ns : List Noted) → same t (n .term) ≡ true → is-noted t (ns ++ (n ∷ [])) ≡ true
+  pub last-noted : (ns : List Noted) → same t (n .term) ≡ true → is-noted t (ns ++ (n ∷ [])) ≡ true
   unfolding is-noted
   last-noted [] e = rw (e, is-noted)
   last-noted (x ∷ ns) e = go (same t (x .term)) (last-noted ns e)
@@ -27,7 +27,7 @@ module _ (t : Term) (n : Noted) where
       go true h = refl
       go false h = h
 
-  noted-before : (ns : List Noted) → same t (n .term) ≡ false → is-noted t (ns ++ (n ∷ [])) ≡ is-noted t ns
+  pub noted-before : (ns : List Noted) → same t (n .term) ≡ false → is-noted t (ns ++ (n ∷ [])) ≡ is-noted t ns
   unfolding is-noted
   noted-before [] e = rw (e, is-noted)
   noted-before (x ∷ ns) e = ap (λ b. elim (same t (x .term)) [ true ↦ true | false ↦ b ]) (noted-before ns e)

@@ -13,7 +13,7 @@ use lib.Seq.{length-take-le}
 use Rattle.terms.specs.Lists.{_∈_, here, there, not-in-nil, cons-cases, of-map, only-one}
 use Rattle.terms.specs.Term.{Term, letter, zero, one, add, mul, size, depth, same}
 use Rattle.terms.specs.Held.{IsRun}
-use Rattle.terms.specs.Sort.{lost, insert, insert-all}
+use Rattle.terms.specs.Sort.{lost, insert}
 use Rattle.terms.specs.Promises.{Deep}
 use Rattle.terms.specs.Theory.Held.{size-of}
 use Rattle.search.specs.Law as law
@@ -22,8 +22,9 @@ use Rattle.search.specs.Line.{Line, Limits, by-result, within, allowed, 
 use Rattle.search.specs.Place.{subterm-at, placed}
 use Rattle.search.specs.Coded.{law-of, direction-of}
 use Rattle.search.specs.Spliced.{kept, tried, Gives, Tries}
-use Rattle.search.specs.Slots.{Marks}
-use Rattle.search.specs.Ordered.{Ordered, Keeps}
+use Rattle.search.specs.Search.{Noted}
+use Rattle.search.specs.Slots.{Marks, Slots}
+use Rattle.search.specs.Ordered.{Ordered, unknown, joined, Keeps}
 use Rattle.search.specs.Resulted.{tried-by, TooDeep, Adds}
 use Rattle.search.specs.declared.search.Law.{Law}
 use Rattle.search.specs.declared.search.Direction.{Direction}
@@ -31,6 +32,7 @@ use Rattle.search.specs.declared.bounded_search.Step.{Step}
 use Rattle.search.specs.declared.line.Filled.{Filled}
 use Rattle.search.specs.declared.line.Filled.the-variants.{To, Nothing}
 use Rattle.search.proofs.Coded.{law-named}
+use Rattle.search.proofs.Unknown.{unknown-append}
 
 -- the lines that keep the limits
 
@@ -121,93 +123,100 @@ line-marks s t h z k =
 
 -- lines one after another
 
-module _ {xs : List ℕ} {room deep from : ℕ} where
-  pub adds-none : (res order : List ℕ) (count : ℕ) → Adds xs room deep from (λ t. []) 0 res order count res order count
-  unfolding allowed
-  adds-none res order count = record { low = omega arith; high = omega arith; exact = λ t m ys h s d O. O }
+module _ {ws : List ℕ} {noted : ℕ} {xs : List ℕ} {room deep from : ℕ} where
+  pub adds-none : (res order : List ℕ) (count : ℕ) → Adds ws noted xs room deep from (λ t. []) 0 res order count res order count
+  unfolding allowed unknown
+  adds-none res order count = record { low = omega arith; high = omega arith; exact = λ ns t m ys S c h s d O. O }
 
   pub adds-then : {new new′ : Term → List Line} {most most′ : ℕ} {res order res′ order′ res″ order″ : List ℕ} {count r r′ : ℕ}
-      → Adds xs room deep from new most res order count res′ order′ r → Adds xs room deep from new′ most′ res′ order′ r res″ order″ r′
-      → Adds xs room deep from (λ t. new t ++ new′ t) (most + most′) res order count res″ order″ r′
+      → Adds ws noted xs room deep from new most res order count res′ order′ r → Adds ws noted xs room deep from new′ most′ res′ order′ r res″ order″ r′
+      → Adds ws noted xs room deep from (λ t. new t ++ new′ t) (most + most′) res order count res″ order″ r′
   adds-then {new} {new′} A B =
       record {
         low = omega (arith, A .low, B .low);
         high = omega (arith, A .high, B .high);
-        exact = λ t m ys h s d O.
-            rw (allowed-append m (new t) (new′ t), foldl-append (λ l x. insert lost by-result x l) ys (allowed m (new t)) (allowed m (new′ t)))
-            (B .exact t m (insert-all lost by-result ys (allowed m (new t))) h s d (A .exact t m ys h s d O));
+        exact = λ ns t m ys S c h s d O.
+            let xs = allowed m (new t) in
+            let ys′ = allowed m (new′ t) in
+            rw (allowed-append m (new t) (new′ t), unknown-append ns xs ys′, foldl-append (λ l x. insert lost by-result x l) ys (unknown ns xs) (unknown ns ys′))
+            (B .exact ns t m (joined ns ys xs) S c h s d (A .exact ns t m ys S c h s d O));
       }
 
   -- the same lines, said another way
   pub adds-as : {new : Term → List Line} (new′ : Term → List Line) {most : ℕ} (most′ : ℕ) {res order res′ order′ : List ℕ} {count r : ℕ}
-      → ((t : Term) → IsRun xs t → new t ≡ new′ t) → most ≤ most′ → Adds xs room deep from new most res order count res′ order′ r
-      → Adds xs room deep from new′ most′ res order count res′ order′ r
+      → ((t : Term) → IsRun xs t → new t ≡ new′ t) → most ≤ most′ → Adds ws noted xs room deep from new most res order count res′ order′ r
+      → Adds ws noted xs room deep from new′ most′ res order count res′ order′ r
   adds-as new′ most′ e h A =
-      record { low = A .low; high = omega (arith, A .high); exact = λ t m ys k s d O. rw (← (e t k)) (A .exact t m ys k s d O) }
+      record { low = A .low; high = omega (arith, A .high); exact = λ ns t m ys S c k s d O. rw (← (e t k)) (A .exact ns t m ys S c k s d O) }
 
 -- a step tried
 
 pub tries-within : {w : Law} {d : Direction} {xs : List ℕ} {at room : ℕ} {out : List ℕ} {f : Filled} {k : ℕ} → Tries w d xs at room out f → f ≡ To k → k ≤ room
 tries-within T e = (rw e at T) .within .1
 
-module _ (s : Step) (xs : List ℕ) (room deep : ℕ) (out res order : List ℕ) (count : ℕ) (f : Filled) (inside : s .place < length xs)
+module _ (ws : List ℕ) (noted : ℕ) (s : Step) (xs : List ℕ) (room deep : ℕ) (out res order : List ℕ) (count : ℕ) (f : Filled) (inside : s .place < length xs)
     (T : Tries (s .law) (s .direction) xs (s .place) room out f) where
+  -- the slots have the results with those of zs
+  abbrev Gains : List ℕ → List ℕ → ℕ → List Noted → Term → Limits → List Line → List Line → Type 0
+  Gains res′ order′ r ns t m ys zs =
+      Ordered t (s .parent) res count (take count order) ys → Ordered t (s .parent) res′ r (take r order′) (joined ns ys (allowed m zs))
+
   -- the line that is tried decides what the limits allow
   by-tried : (res′ order′ : List ℕ) (r : ℕ) → count ≤ r → r ≤ count + 1
-      → ((t : Term) (m : Limits) (ys : List Line) → m .size ≡ room → m .depth ≡ deep → Ordered t (s .parent) res count (take count order) ys
-      → (zs : List Line) → Gives out f zs → ((z : Line) → z ∈ zs → Marks s t z) → Ordered t (s .parent) res′ r (take r order′) (insert-all lost by-result ys (allowed m zs)))
-      → Adds xs room deep (s .parent) (tried-by s) 1 res order count res′ order′ r
+      → ((ns : List Noted) (t : Term) (m : Limits) (ys : List Line) → Slots ws ns → length ns ≡ noted → m .size ≡ room → m .depth ≡ deep
+      → (zs : List Line) → Gives out f zs → ((z : Line) → z ∈ zs → Marks s t z) → Gains res′ order′ r ns t m ys zs)
+      → Adds ws noted xs room deep (s .parent) (tried-by s) 1 res order count res′ order′ r
   unfolding tried
   by-tried res′ order′ r low high g =
       record {
         low = low;
         high = high;
-        exact = λ t m ys h e d O.
+        exact = λ ns t m ys S c h e d O.
             let i : s .place < size t = omega (arith, size-of h) in
             rw (← (ap (λ z. allowed m (kept z (tried-by s t))) (sym e) ∙ allowed-kept m (tried-by s t)))
-            (g t m ys e d O (kept room (tried-by s t)) (T .exact t h i) (λ z k. line-marks s t i z (kept-member room (tried-by s t) z k)));
+            (g ns t m ys S c e d (kept room (tried-by s t)) (T .exact t h i) (λ z k. line-marks s t i z (kept-member room (tried-by s t) z k)) O);
       }
 
-  pub adds-nothing : f ≡ Nothing → Adds xs room deep (s .parent) (tried-by s) 1 res order count res order count
-  unfolding allowed
-  adds-nothing e = by-tried res order count (omega arith) (omega arith) (λ t m ys q d O zs G M. go t m ys O zs (rw e at G))
+  pub adds-nothing : f ≡ Nothing → Adds ws noted xs room deep (s .parent) (tried-by s) 1 res order count res order count
+  unfolding allowed unknown
+  adds-nothing e = by-tried res order count (omega arith) (omega arith) (λ ns t m ys S c q d zs G M. go ns t m ys zs (rw e at G))
     where
-      go : (t : Term) (m : Limits) (ys : List Line) → Ordered t (s .parent) res count (take count order) ys → (zs : List Line) → Gives out Nothing zs
-          → Ordered t (s .parent) res count (take count order) (insert-all lost by-result ys (allowed m zs))
-      go t m ys O [] G = O
-      go t m ys O (z ∷ zs) G = absurd G
+      go : (ns : List Noted) (t : Term) (m : Limits) (ys zs : List Line) → Gives out Nothing zs → Gains res order count ns t m ys zs
+      go ns t m ys [] G O = O
+      go ns t m ys (z ∷ zs) G O = absurd G
 
   module _ (k : ℕ) (e : f ≡ To k) (whole : length out ≡ room) where
     -- one line, whose result stands at the front of the buffer
     by-line : (res′ order′ : List ℕ) (r : ℕ) → count ≤ r → r ≤ count + 1
-        → ((t : Term) (m : Limits) (ys : List Line) (x : Line) → m .depth ≡ deep → Ordered t (s .parent) res count (take count order) ys → size (x .result) ≤ m .size
-        → IsRun (take k out) (x .result) → Marks s t x → Ordered t (s .parent) res′ r (take r order′) (insert-all lost by-result ys (allowed m (x ∷ []))))
-        → Adds xs room deep (s .parent) (tried-by s) 1 res order count res′ order′ r
-    by-line res′ order′ r low high g = by-tried res′ order′ r low high (λ t m ys q d O zs G M. go t m ys q d O zs (rw e at G) M)
+        → ((ns : List Noted) (t : Term) (m : Limits) (ys : List Line) (x : Line) → Slots ws ns → length ns ≡ noted → m .depth ≡ deep → size (x .result) ≤ m .size
+        → IsRun (take k out) (x .result) → Marks s t x → Gains res′ order′ r ns t m ys (x ∷ []))
+        → Adds ws noted xs room deep (s .parent) (tried-by s) 1 res order count res′ order′ r
+    by-line res′ order′ r low high g = by-tried res′ order′ r low high (λ ns t m ys S c q d zs G M. go ns t m ys S c q d zs (rw e at G) M)
       where
-        go : (t : Term) (m : Limits) (ys : List Line) → m .size ≡ room → m .depth ≡ deep → Ordered t (s .parent) res count (take count order) ys
-            → (zs : List Line) → Gives out (To k) zs → ((z : Line) → z ∈ zs → Marks s t z) → Ordered t (s .parent) res′ r (take r order′) (insert-all lost by-result ys (allowed m zs))
-        go t m ys q d O [] G M = absurd G
-        go t m ys q d O (x ∷ []) G M = g t m ys x d O (omega (arith, size-of G, length-take-le k out (omega (arith, tries-within T e)), tries-within T e)) G (M x (here refl))
-        go t m ys q d O (x ∷ y ∷ zs) G M = absurd G
+        go : (ns : List Noted) (t : Term) (m : Limits) (ys : List Line) → Slots ws ns → length ns ≡ noted → m .size ≡ room → m .depth ≡ deep
+            → (zs : List Line) → Gives out (To k) zs → ((z : Line) → z ∈ zs → Marks s t z) → Gains res′ order′ r ns t m ys zs
+        go ns t m ys S c q d [] G M = absurd G
+        go ns t m ys S c q d (x ∷ []) G M =
+            g ns t m ys x S c d (omega (arith, size-of G, length-take-le k out (omega (arith, tries-within T e)), tries-within T e)) G (M x (here refl))
+        go ns t m ys S c q d (x ∷ y ∷ zs) G M = absurd G
 
     module _ (b : Bool) (D : TooDeep (take k out) deep b) where
-      pub adds-too-deep : b ≡ true → Adds xs room deep (s .parent) (tried-by s) 1 res order count res order count
-      unfolding allowed
+      pub adds-too-deep : b ≡ true → Adds ws noted xs room deep (s .parent) (tried-by s) 1 res order count res order count
+      unfolding allowed unknown
       adds-too-deep h =
           by-line res order count (omega arith) (omega arith)
-          (λ t m ys x d O z H M.
+          (λ ns t m ys x S c d z H M O.
           let g = ltb-true deep (depth (x .result)) (sym (D .exact (x .result) H) ∙ h) in
           rw (allowed-out m x [] (within-deep m (x .result) (omega (arith, g, d)))) O)
 
-      pub adds-kept : b ≡ false → (res′ order′ : List ℕ) (r : ℕ) → Keeps (take k out) s res order res′ order′ count r
-          → Adds xs room deep (s .parent) (tried-by s) 1 res order count res′ order′ r
+      pub adds-kept : b ≡ false → (res′ order′ : List ℕ) (r : ℕ) → Keeps ws noted (take k out) s res order res′ order′ count r
+          → Adds ws noted xs room deep (s .parent) (tried-by s) 1 res order count res′ order′ r
       unfolding allowed
       adds-kept h res′ order′ r K =
           by-line res′ order′ r (K .low) (K .high)
-          (λ t m ys x d O z H M.
+          (λ ns t m ys x S c d z H M O.
           let g = ltb-false deep (depth (x .result)) (sym (D .exact (x .result) H) ∙ h) in
-          rw (allowed-in m x [] (within-both m (x .result) z (omega (arith, g, d)))) (K .sorts t ys x H M O))
+          rw (allowed-in m x [] (within-both m (x .result) z (omega (arith, g, d)))) (K .sorts ns t ys x S c H M O))
 
 -- whether a result is too deep
 

@@ -20,7 +20,7 @@ use Rattle.search.specs.Ordered.{inserted}
 abbrev pub line-at : List Line → ℕ → Line
 line-at ys p = getD ys p (record { law = add-assoc; direction = forward; place = []; result = zero })
 
-abbrev Rising : List Line → Type 0
+abbrev pub Rising : List Line → Type 0
 Rising = Sorted lost by-result
 
 pub rising-inserted : (x : Line) (ys : List Line) → Rising ys → Rising (inserted x ys)
@@ -33,7 +33,7 @@ rising-inserted x (y ∷ ys) s =
     (λ e. rw (insert-gt lost by-result {x = x} {y = y} ys e)
     (below-insert lost by-result y x ys (rw (flip-gt term-order e) tt) (s .0), rising-inserted x ys (s .1)))
 
-below : (c : Ordering) → T (before lost c) → c ≡ lt
+pub below : (c : Ordering) → T (before lost c) → c ≡ lt
 below lt t = refl
 below eq t = absurd t
 below gt t = absurd t

@@ -3,7 +3,7 @@ use Prim.Native.Nat.{ℕ, _+_, _-_, _≤_, _<_}
 use native.Mathlib.Omega.{arith}
 use native.Mathlib.Nat.{sub-zero}
 use native.Mathlib.Numerals.{add-one}
-use mathlib.Core.Path.{_≡_, refl, ap, _∙_}
+use mathlib.Core.Path.{_≡_, refl, sym, ap, _∙_}
 use mathlib.Core.List.{List, [], _∷_, _++_}
 use lib.ListN.{length, take, drop, getD, length-append, drop-of-length-le}
 use lib.Seq.{drop-cons, getD-take, length-take-le}
@@ -14,7 +14,7 @@ use Rattle.search.specs.Line.{Line, results}
 use Rattle.search.specs.Search as search
 use Rattle.search.specs.Search.{Noted, entry, note, unproved, run, begun}
 use Rattle.search.specs.Slots.{distance-of, noted-at, Slots}
-use Rattle.search.specs.Ordered.{Ordered}
+use Rattle.search.specs.Ordered.{Ordered, unknown}
 use Rattle.search.specs.Searched.{limits-of, Opens, Became, Takes, Arrives, Explores}
 use Rattle.search.specs.declared.bounded_search.Limits.{Limits}
 use Rattle.search.specs.declared.bounded_search.Taken.{Taken}
@@ -22,6 +22,7 @@ use Rattle.search.specs.declared.bounded_search.Taken.the-variants as ta
 use Rattle.search.specs.declared.bounded_search.Outcome.the-variants.{Proved, Unproved, Full}
 use Rattle.search.proofs.Slots.{noted-before, noted-last}
 use Rattle.search.proofs.Sorting.{line-at, ordered-length, ordered-at}
+use Rattle.search.proofs.Unknown.{note-unknown}
 use Rattle.search.proofs.Running.{note-known, note-right, note-new, note-new-grows, after, after-grows, run-limit, run-end, run-far, run-opens}
 
 -- o is the outcome of the search from s to t from where it is: `count` terms are noted, and the i-th is next to open
@@ -89,7 +90,7 @@ module _ {right : List ℕ} {m : Limits} {slots : ℕ} {ws₀ ws : List ℕ} {co
     pub ends-far : m .steps ≤ distance-of ws i → Explores right m slots ws₀ ws (Unproved i)
     ends-far far = stops (λ t ns S c. run-far next (m .steps) t i ns (omega arith) (m .nodes - i) (omega (arith, distance-here ns S c)))
 
-    pub opened : i < m .nodes → distance-of ws i < m .steps → {res order : List ℕ} {n : ℕ} → Opens ws i m res order n
+    pub opened : i < m .nodes → distance-of ws i < m .steps → {res order : List ℕ} {n : ℕ} → Opens ws count i m res order n
         → Opened right m ws₀ ws count i (distance-of ws i) res order n
     opened q near O s t S ht k =
         let g = St s t S ht k in
@@ -102,9 +103,11 @@ module _ {right : List ℕ} {m : Limits} {slots : ℕ} {ws₀ ws : List ℕ} {co
           counted = c;
           start = g .start;
           distance = e;
-          lines = next (x .term);
-          ordered = O .exact (x .term) (g .slots .slot i (omega arith) .run) k;
-          is = g .is ∙ run-opens next (m .steps) t i (g .ns) (omega arith) (m .nodes - i) (m .nodes - (i + 1)) (omega arith) (omega arith);
+          lines = unknown (g .ns) (next (x .term));
+          ordered = O .exact (g .ns) (x .term) (g .slots) c (g .slots .slot i (omega arith) .run) k;
+          is = g .is
+              ∙ run-opens next (m .steps) t i (g .ns) (omega arith) (m .nodes - i) (m .nodes - (i + 1)) (omega arith) (omega arith)
+              ∙ ap (following m t i) (sym (note-unknown t (x .trail) (g .ns) (next (x .term)) (g .ns) (λ u h. h)));
         }
 
 -- the j-th result is taken

@@ -22,9 +22,10 @@ use Rattle.search.specs.declared.bounded_search.Limits.{Limits}
 use Rattle.search.specs.declared.bounded_search.Taken.the-variants.{Known, Right, Full}
 use Rattle.search.specs.declared.bounded_search.Taken.the-variants as taken
 
-pub opens : (ws : List ℕ) (i : ℕ) (m : Limits) (xs : List ℕ) → Shows ws i xs → (res order : List ℕ) (r : ℕ) → Resulted xs i (m .size) (m .depth) res order r → Opens ws i m res order r
-opens ws i m xs W res order r R =
-    record { few = R .few; exact = λ t s k. R .exact t (limits-of m) (W .exact t s) (s .small) k refl refl }
+pub opens : (ws : List ℕ) (noted i : ℕ) (m : Limits) (xs : List ℕ) → Shows ws i xs → (res order : List ℕ) (r : ℕ) → Resulted ws noted xs i (m .size) (m .depth) res order r
+    → Opens ws noted i m res order r
+opens ws noted i m xs W res order r R =
+    record { few = R .few; exact = λ ns t S c s k. R .exact ns t (limits-of m) S c (W .exact t s) (s .small) k refl refl }
 
 -- xs is the run in slot k of res
 module _ (ws : List ℕ) (count slots : ℕ) (res : List ℕ) (k d : ℕ) (right xs : List ℕ) (W : Shows res k xs) (b : Bool) (F : Finds ws count xs b) where

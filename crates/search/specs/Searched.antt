@@ -14,7 +14,7 @@ use Rattle.search.specs.Search.{Noted, is-noted, entry, proved, unproved
 use Rattle.search.specs.Coded.{name-of}
 use Rattle.search.specs.Slots.{Spells, noted-at, Slots}
 pub use Rattle.search.specs.Index.{slots-of}
-use Rattle.search.specs.Ordered.{Result, Ordered}
+use Rattle.search.specs.Ordered.{Result, Ordered, unknown}
 use Rattle.search.specs.declared.bounded_search.Limits.{Limits}
 use Rattle.search.specs.declared.bounded_search.Taken.{Taken}
 use Rattle.search.specs.declared.bounded_search.Taken.the-variants as taken
@@ -27,9 +27,10 @@ limits-of m = record { steps = m .steps; size = m .size; depth = m .depth; nodes
 -- what the functions promise
 
 -- of `open_slot`
-pub record Opens (ws : List ℕ) (i : ℕ) (m : Limits) (res order : List ℕ) (r : ℕ) : Type 0 where
+pub record Opens (ws : List ℕ) (noted i : ℕ) (m : Limits) (res order : List ℕ) (r : ℕ) : Type 0 where
   pub few : r ≤ 620
-  pub exact : (t : Term) → Spells ws i t → m .size ≤ 31 → Ordered t i res r (take r order) (results semiring (limits-of m) t)
+  pub exact : (ns : List Noted) (t : Term) → Slots ws ns → length ns ≡ noted → Spells ws i t → m .size ≤ 31
+      → Ordered t i res r (take r order) (unknown ns (results semiring (limits-of m) t))
 
 -- a slot is left for what is noted
 abbrev pub HasRoom : Taken → ℕ → ℕ → Type 0

@@ -149,14 +149,21 @@ pub struct Limits {
     pub nodes: usize,
 }
 
-// The results of the term noted in slot `i`.
-fn open_slot(ws: &[u32], i: usize, limits: Limits, res: &mut [u32], order: &mut [u32]) -> usize
-    requires { ⌜ (i < 65535) × (SLOT * 620 ≤ length (now res)) × (620 ≤ length (now order)) ⌝ }
-    ensures { λ r. ⌜ Opens (now (ws .entry)) i limits (now (res .exit)) (now (order .exit)) r ⌝ }
+// The results of the term noted in slot `i` that are not among the first `noted`.
+fn open_slot(
+    ws: &[u32],
+    noted: usize,
+    i: usize,
+    limits: Limits,
+    res: &mut [u32],
+    order: &mut [u32],
+) -> usize
+    requires { ⌜ (SLOT * noted ≤ length (now ws)) × (noted ≤ 65535) × (i < 65535) × (SLOT * 620 ≤ length (now res)) × (620 ≤ length (now order)) ⌝ }
+    ensures { λ r. ⌜ Opens (now (ws .entry)) noted i limits (now (res .exit)) (now (order .exit)) r ⌝ }
 {
     let k = i as u32;
     let s = path::run_of(ws, k);
-    results::results_of(s, k, limits.size, limits.depth, res, order)
+    results::results_of(ws, noted, s, k, limits.size, limits.depth, res, order)
 }
 
 // What became of a result: it was noted before, or it is noted now and may be right, or no slot is left for it.
@@ -232,7 +239,7 @@ fn explore(
         if limits.steps <= distance as usize {
             break;
         }
-        let count = open_slot(ws, i, limits, res, order);
+        let count = open_slot(ws, noted, i, limits, res, order);
         let mut j = 0;
         while j < count {
             let k = order[j];

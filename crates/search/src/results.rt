@@ -1,14 +1,12 @@
-// The results of an opened term, in slots like those of noted terms, and in term order. They stand apart from the search, which asks for
-// them once for each term that it opens.
+// The results of an opened term that are not noted, in slots like those of noted terms, and in term order. They stand apart from the
+// search, which asks for them once for each term that it opens.
 ghost use Prim.Native.Nat.{_+_, _*_, _≤_, _<_};
 ghost use lib.ListN.{length};
 ghost use Rattle.search.specs.Law.{semiring};
 ghost use Rattle.search.specs.Place.{lines-at};
-ghost use Rattle.search.specs.Bound.{BindsLaw};
 ghost use Rattle.search.specs.Slots.{SLOT};
 ghost use Rattle.search.specs.Ordered.{Spotted, Keeps};
 ghost use Rattle.search.specs.Resulted.{tried-by, TooDeep, Adds, Resulted};
-ghost use Rattle.search.specs.declared.search.Binding.the-variants.{Bound};
 use crate::bounded_search;
 use crate::bounded_search::Origin;
 use crate::bounded_search::SLOT;
@@ -17,8 +15,6 @@ use crate::line;
 use crate::line::Filled;
 use crate::path;
 use crate::search;
-use crate::search::Binding;
-use crate::search::Spans;
 use terms::term;
 use terms::term::Comparison;
 
@@ -46,11 +42,22 @@ fn spot_of(res: &[u32], order: &[u32], s: &[u32]) -> Spot
     Spot::At(low)
 }
 
-// Puts a result among the first `count`, which are in term order, unless it is there already.
-fn keep(s: &[u32], step: Step, res: &mut [u32], order: &mut [u32], count: usize) -> usize
-    requires { ⌜ (length (now s) ≤ 31) × (SLOT * count + SLOT ≤ length (now res)) × (count < length (now order)) × (count < 620) ⌝ }
-    ensures { λ r. ⌜ Keeps (now (s .entry)) step (now (res .entry)) (now (order .entry)) (now (res .exit)) (now (order .exit)) count r ⌝ }
+// Puts a result among the first `count`, which are in term order, unless it is there already or is one of the first `noted` in `ws`.
+fn keep(
+    ws: &[u32],
+    noted: usize,
+    s: &[u32],
+    step: Step,
+    res: &mut [u32],
+    order: &mut [u32],
+    count: usize,
+) -> usize
+    requires { ⌜ (SLOT * noted ≤ length (now ws)) × (noted ≤ 65535) × (length (now s) ≤ 31) × (SLOT * count + SLOT ≤ length (now res)) × (count < length (now order)) × (count < 620) ⌝ }
+    ensures { λ r. ⌜ Keeps (now (ws .entry)) noted (now (s .entry)) step (now (res .entry)) (now (order .entry)) (now (res .exit)) (now (order .exit)) count r ⌝ }
 {
+    if bounded_search::listed(ws, noted, s) {
+        return count;
+    }
     let Spot::At(p) = spot_of(&res[..], &order[..count], s) else {
         return count;
     };
@@ -70,35 +77,38 @@ fn too_deep(s: &[u32], limit: usize) -> bool
     limit < term::depth(s)
 }
 
-// Keeps the line of a step whose law is bound: its result goes among the first `count`, which are in term order, if the buffer has
-// room for it and it keeps the depth.
+// Keeps the line of a step, if there is one: its result goes among the first `count`, which are in term order, if the buffer has
+// room for it, it keeps the depth and it is not noted.
 fn keep_line(
+    ws: &[u32],
+    noted: usize,
     step: Step,
     s: &[u32],
-    z: Spans,
     depth: usize,
     out: &mut [u32],
     res: &mut [u32],
     order: &mut [u32],
     count: usize,
 ) -> usize
-    requires { ⌜ (step .place < length (now s)) × BindsLaw (step .law) (step .direction) (now s) (step .place) (Bound z) × (length (now out) ≤ 31) × (SLOT * count + SLOT ≤ length (now res)) × (count < length (now order)) × (count < 620) ⌝ }
-    ensures { λ r. ⌜ Adds (now (s .entry)) (length (now (out .entry))) depth (step .parent) (tried-by step) 1 (now (res .entry)) (now (order .entry)) count (now (res .exit)) (now (order .exit)) r ⌝ }
+    requires { ⌜ (SLOT * noted ≤ length (now ws)) × (noted ≤ 65535) × (step .place < length (now s)) × (length (now out) ≤ 31) × (SLOT * count + SLOT ≤ length (now res)) × (count < length (now order)) × (count < 620) ⌝ }
+    ensures { λ r. ⌜ Adds (now (ws .entry)) noted (now (s .entry)) (length (now (out .entry))) depth (step .parent) (tried-by step) 1 (now (res .entry)) (now (order .entry)) count (now (res .exit)) (now (order .exit)) r ⌝ }
 {
     let law = step.law;
     let direction = step.direction;
     let at = step.place as usize;
-    let Filled::To(m) = line::put_line(law, direction, s, at, z, out) else {
+    let Filled::To(m) = line::try_law(law, direction, s, at, out) else {
         return count;
     };
     if too_deep(&out[..m], depth) {
         return count;
     }
-    keep(&out[..m], step, res, order, count)
+    keep(ws, noted, &out[..m], step, res, order, count)
 }
 
-// Tries each law at a place, forward before back. One with a letter left unbound is passed over.
+// Tries each law at a place, forward before back.
 fn lines_at(
+    ws: &[u32],
+    noted: usize,
     s: &[u32],
     place: u32,
     parent: u32,
@@ -108,34 +118,31 @@ fn lines_at(
     order: &mut [u32],
     count: usize,
 ) -> usize
-    requires { ⌜ (place < length (now s)) × (length (now out) ≤ 31) × (SLOT * (count + 20) ≤ length (now res)) × (count + 20 ≤ length (now order)) × (count ≤ 600) ⌝ }
-    ensures { λ r. ⌜ Adds (now (s .entry)) (length (now (out .entry))) depth parent (λ t. lines-at semiring t place) 20 (now (res .entry)) (now (order .entry)) count (now (res .exit)) (now (order .exit)) r ⌝ }
+    requires { ⌜ (SLOT * noted ≤ length (now ws)) × (noted ≤ 65535) × (place < length (now s)) × (length (now out) ≤ 31) × (SLOT * (count + 20) ≤ length (now res)) × (count + 20 ≤ length (now order)) × (count ≤ 600) ⌝ }
+    ensures { λ r. ⌜ Adds (now (ws .entry)) noted (now (s .entry)) (length (now (out .entry))) depth parent (λ t. lines-at semiring t place) 20 (now (res .entry)) (now (order .entry)) count (now (res .exit)) (now (order .exit)) r ⌝ }
 {
-    let at = place as usize;
     let mut kept = count;
     let mut n = 0;
     while n < 20 {
         let law = search::law_of(n / 2);
         let direction = search::direction_of(n % 2);
         n += 1;
-        let binding = line::bind_law(law, direction, s, at);
-        let Binding::Bound(z) = binding else {
-            continue;
-        };
         let step = Step {
             law,
             direction,
             place,
             parent,
         };
-        kept = keep_line(step, s, z, depth, out, res, order, kept);
+        kept = keep_line(ws, noted, step, s, depth, out, res, order, kept);
     }
     kept
 }
 
-// The results of the term of a run that keep size and depth, in term order: `order` names their slots. At most 620 lines are tried,
-// one for each of 31 places, each law and each direction.
+// The results of the term of a run that keep size and depth and are not noted, in term order: `order` names their slots. At most 620
+// lines are tried, one for each of 31 places, each law and each direction.
 pub fn results_of(
+    ws: &[u32],
+    noted: usize,
     s: &[u32],
     parent: u32,
     size: usize,
@@ -143,8 +150,8 @@ pub fn results_of(
     res: &mut [u32],
     order: &mut [u32],
 ) -> usize
-    requires { ⌜ (SLOT * 620 ≤ length (now res)) × (620 ≤ length (now order)) ⌝ }
-    ensures { λ r. ⌜ Resulted (now (s .entry)) parent size depth (now (res .exit)) (now (order .exit)) r ⌝ }
+    requires { ⌜ (SLOT * noted ≤ length (now ws)) × (noted ≤ 65535) × (SLOT * 620 ≤ length (now res)) × (620 ≤ length (now order)) ⌝ }
+    ensures { λ r. ⌜ Resulted (now (ws .entry)) noted (now (s .entry)) parent size depth (now (res .exit)) (now (order .exit)) r ⌝ }
 {
     if 31 < s.len() {
         return 0;
@@ -157,6 +164,8 @@ pub fn results_of(
     let mut i = 0;
     while i < s.len() {
         count = lines_at(
+            ws,
+            noted,
             s,
             i as u32,
             parent,

@@ -35,7 +35,7 @@ module _ (c : tie.At-loop Inv-loop μ-loop Inv-outer μ-outer) where
       let a = b .before .before .before .before .before .args in
       let e = s .open-slot in
       let o = b .outer in
-      Opened (a .right .now) (a .limits) (a .ws .now) (o .ws) (o .noted) (o .i) (distance-of (o .ws) (o .i)) (e .last .1 .1 .1 .0) (e .last .1 .1 .1 .1 .0) (e .result)
+      Opened (a .right .now) (a .limits) (a .ws .now) (o .ws) (o .noted) (o .i) (distance-of (o .ws) (o .i)) (e .last .1 .1 .1 .1 .0) (e .last .1 .1 .1 .1 .1 .0) (e .result)
   opened-here =
       let s = c .before .before .before .before .before in
       let far = s .before .before .before .before in
@@ -44,12 +44,12 @@ module _ (c : tie.At-loop Inv-loop μ-loop Inv-outer μ-outer) where
       let o = b .before .outer in
       opened (o .inv .6) (o .inv .1) (b .outer-test .taken) (omega (arith, limit .if1 .left)) (omega (arith, far .if2 .left)) (s .open-slot .ensures)
 
-  room : let e = c .before .before .before .before .before .open-slot in e .result ≤ length (e .last .1 .1 .1 .1 .0)
+  room : let e = c .before .before .before .before .before .open-slot in e .result ≤ length (e .last .1 .1 .1 .1 .1 .0)
   room =
       let s = c .before .before .before .before .before in
       let b = s .before .before .before .before .before .before .before .before .before .before in
       let e = s .open-slot in
-      omega (arith, e .ensures .few, e .kept .1 .1 .1 .1 .0, b .outer .inv .4, b .before .before .before .before .before .pre .4)
+      omega (arith, e .ensures .few, e .kept .1 .1 .1 .1 .1 .0, b .outer .inv .4, b .before .before .before .before .before .pre .4)
 
 outer-holds : tie.Need-outer-holds Inv-loop μ-loop Inv-outer μ-outer
 outer-holds c = search (starts, needs)
@@ -156,8 +156,8 @@ outer-again c =
       omega (arith, v .inv .1),
       v .inv .2,
       v .inv .3 ∙ o .inv .2,
-      e .kept .1 .1 .1 .0 ∙ o .inv .3,
-      e .kept .1 .1 .1 .1 .0 ∙ o .inv .4,
+      e .kept .1 .1 .1 .1 .0 ∙ o .inv .3,
+      e .kept .1 .1 .1 .1 .1 .0 ∙ o .inv .4,
       refl,
       all-taken (v .inv .4) (opened-here l) (omega (arith, c .loop-test .left)) (room l),
     )

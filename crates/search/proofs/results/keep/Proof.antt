@@ -1,10 +1,16 @@
--- `keep` meets its contract: the result is there already, or its slot is written and its number put in.
+-- `keep` meets its contract: the result is noted, or it is there already, or its slot is written and its number put in.
 use native.Mathlib.Omega.{arith}
 use lib.ListN.{length-take}
-use Rattle.search.proofs.Keeping.{keeps-already, keeps-more}
+use Rattle.search.proofs.Keeping.{keeps-known, keeps-already, keeps-more}
 use borrow.Author.Needs.{needs}
 use Rattle.search.proofs.results.keep.Statement.{statement}
 use Rattle.search.proofs.results.keep.Tie as tie
+
+listed-requires : tie.Need-listed-requires
+listed-requires c κs = search needs
+
+returns : tie.Need-returns
+returns c = search (keeps-known, needs)
 
 slice-reshare-prefix-spot-of : tie.Need-slice-reshare-prefix-spot-of
 slice-reshare-prefix-spot-of c = search needs
@@ -27,11 +33,14 @@ same-length c = search needs
 same-length-2 : tie.Need-same-length-2
 same-length-2 c = search needs
 
-returns : tie.Need-returns
-returns c =
+returns-2 : tie.Need-returns-2
+returns-2 c =
     let p = c .before .before in
-    let a = p .before .before .before .before .before .before .args in
-    keeps-already (a .s .now) (a .step) (a .res .now) (a .order .now) (a .count) (p .spot-of .result) (p .spot-of .ensures) (c .enum-told .given .1)
+    let h = p .before .before .before in
+    let f = h .before in
+    let a = f .before .before .before .before .before .args in
+    keeps-already (a .ws .now) (a .noted) (a .s .now) (a .step) (a .res .now) (a .order .now) (a .count) (f .listed .result) (f .listed .ensures) (h .if1 .left)
+    (p .spot-of .result) (p .spot-of .ensures) (c .enum-told .given .1)
 
 write-slot-requires : tie.Need-write-slot-requires
 write-slot-requires c κs = search needs
@@ -57,21 +66,26 @@ same-length-3 c = search needs
 same-length-4 : tie.Need-same-length-4
 same-length-4 c = search needs
 
-returns-2 : tie.Need-returns-2
-returns-2 c =
+returns-3 : tie.Need-returns-3
+returns-3 c =
     let q = c .before .before in
     let w = q .before .before .before .before in
-    let f = w .before .before .before in
-    let p = f .before .before in
-    let b = p .before .before .before .before .before .before in
+    let e = w .before .before .before in
+    let p = e .before .before in
+    let h = p .before .before .before in
+    let f = h .before in
+    let b = f .before .before .before .before .before in
     let a = b .args in
-    keeps-more (a .s .now) (a .step) (a .res .now) (a .order .now) (a .count) (p .spot-of .result) (p .spot-of .ensures)
-    (f .p .given .0 .0) (f .p .given .1) (b .pre .2) (w .write-slot .last .0) (q .shift .last .0) (w .write-slot .ensures) (q .shift .ensures) (q .shift .kept .0)
+    keeps-more (a .ws .now) (a .noted) (a .s .now) (a .step) (a .res .now) (a .order .now) (a .count) (f .listed .result) (f .listed .ensures) (h .if1 .left)
+    (p .spot-of .result) (p .spot-of .ensures) (e .p .given .0 .0) (e .p .given .1) (b .pre .4) (w .write-slot .last .0) (q .shift .last .0)
+    (w .write-slot .ensures) (q .shift .ensures) (q .shift .kept .0)
 
 pub keep-spec : {M : Type 1} → statement M
 keep-spec =
     tie.close
     (tie.spec
+    listed-requires
+    returns
     slice-reshare-prefix-spot-of
     slice-aggregate-spot-of
     spot-of-requires
@@ -79,7 +93,7 @@ keep-spec =
     enum-told
     same-length
     same-length-2
-    returns
+    returns-2
     write-slot-requires
     add-end
     slice-relend-prefix-shift
@@ -88,4 +102,4 @@ keep-spec =
     shift-requires
     same-length-3
     same-length-4
-    returns-2)
+    returns-3)

@@ -12,16 +12,16 @@ use Rattle.search.proofs.results.results_of.Statement.{statement}
 use Rattle.search.proofs.results.results_of.Tie as tie
 
 abbrev Inv-loop : tie.InvT-loop
-Inv-loop s parent size depth res₀ order₀ out₀ count₀ i₀ res order out count i = (i ≤ length s) × (length res ≡ length res₀) × (length order ≡ length order₀) × (length out ≡ 31) × Adds s size depth parent (in-turn place-lines i) (20 * i) res₀ order₀ 0 res order count
+Inv-loop ws noted s parent size depth res₀ order₀ out₀ count₀ i₀ res order out count i = (i ≤ length s) × (length res ≡ length res₀) × (length order ≡ length order₀) × (length out ≡ 31) × Adds ws noted s size depth parent (in-turn place-lines i) (20 * i) res₀ order₀ 0 res order count
 
 abbrev μ-loop : tie.MeasureT-loop
-μ-loop s parent size depth res₀ order₀ out₀ count₀ i₀ res order out count i = length s - i
+μ-loop ws noted s parent size depth res₀ order₀ out₀ count₀ i₀ res order out count i = length s - i
 
 returns : tie.Need-returns Inv-loop μ-loop
-returns c = let a = c .before .before .before .before .args in resulted-never (a .res .now) (a .order .now) (λ t h k q. omega (arith, size-of h))
+returns c = let a = c .before .before .before .before .before .args in resulted-never (a .res .now) (a .order .now) (λ t h k q. omega (arith, size-of h))
 
 returns-2 : tie.Need-returns-2 Inv-loop μ-loop
-returns-2 c = let a = c .before .before .before .before .before .args in resulted-never (a .res .now) (a .order .now) (λ t h k q. omega arith)
+returns-2 c = let a = c .before .before .before .before .before .before .args in resulted-never (a .res .now) (a .order .now) (λ t h k q. omega arith)
 
 loop-holds : tie.Need-loop-holds Inv-loop μ-loop
 loop-holds c = (omega arith, refl, refl, refl, turns-none place-lines)
@@ -48,12 +48,12 @@ loop-again : tie.Need-loop-again Inv-loop μ-loop
 loop-again c =
     let l = c .before .before .before .before .before .before .before .before .before .before .loop in
     let f = c .before .before .before .before .before .lines-at in
-    let a = c .before .before .before .before .before .before .before .before .before .before .before .before .before .before .before .before .args in
+    let a = c .before .before .before .before .before .before .before .before .before .before .before .before .before .before .before .before .before .args in
     let e : length (take (a .size) (l .out)) ≡ a .size = length-take-le (a .size) (l .out) (omega arith) in (
       omega arith,
-      f .kept .1 .1 .1 .1 .1 .0 ∙ l .inv .1,
-      f .kept .1 .1 .1 .1 .1 .1 .0 ∙ l .inv .2,
-      length-front (l .out) (f .last .1 .1 .1 .1 .0) (a .size) (f .kept .1 .1 .1 .1 .0) ∙ l .inv .3,
+      f .kept .1 .1 .1 .1 .1 .1 .1 .0 ∙ l .inv .1,
+      f .kept .1 .1 .1 .1 .1 .1 .1 .1 .0 ∙ l .inv .2,
+      length-front (l .out) (f .last .1 .1 .1 .1 .1 .1 .0) (a .size) (f .kept .1 .1 .1 .1 .1 .1 .0) ∙ l .inv .3,
       turns-more place-lines (l .i) (20 * (l .i + 1)) (l .inv .4) e (f .ensures) (omega arith),
     )
 

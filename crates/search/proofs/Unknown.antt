@@ -1,0 +1,140 @@
+-- The lines whose results are not noted: in term order, and taken in turn.
+use mathlib.Core.Path.{_≡_, refl, sym, ap, _∙_}
+use mathlib.Core.Bool.{Bool, true, false}
+use mathlib.Core.List.{List, [], _∷_, _++_}
+use lib.Dec.{T}
+use Rattle.terms.specs.Compare.{lt}
+use Rattle.terms.specs.Term.{Term, same}
+use Rattle.terms.specs.Sort.{lost, insert, insert-all, repeat, before, Below}
+use Rattle.terms.specs.Theory.Order.{cases}
+use Rattle.terms.specs.Theory.Insert.{insert-lt, insert-eq, insert-gt}
+use Rattle.terms.specs.Theory.Sorted.{insert-below}
+use Rattle.terms.specs.Theory.TermOrder.{term-order}
+use Rattle.search.specs.Line.{Line, by-result}
+use Rattle.search.specs.Search.{Noted, is-noted, entry, Turn, ended, note}
+use Rattle.search.specs.Ordered.{inserted, unknown, joined}
+use Rattle.search.proofs.Noting.{last-noted, noted-before}
+use Rattle.search.proofs.Rising.{Rising, below, rising-inserted}
+use Rattle.search.proofs.Running.{note-known}
+
+-- by whether a term is noted
+told : {P : Type 0} (b : Bool) → (b ≡ true → P) → (b ≡ false → P) → P
+told true f g = f refl
+told false f g = g refl
+
+module _ (ns : List Noted) where
+  module _ (x : Line) (xs : List Line) where
+    pub unknown-in : is-noted (x .result) ns ≡ false → unknown ns (x ∷ xs) ≡ x ∷ unknown ns xs
+    unfolding unknown
+    unknown-in e = rw (e, unknown)
+
+    pub unknown-out : is-noted (x .result) ns ≡ true → unknown ns (x ∷ xs) ≡ unknown ns xs
+    unfolding unknown
+    unknown-out e = rw (e, unknown)
+
+  pub unknown-append : (xs ys : List Line) → unknown ns (xs ++ ys) ≡ unknown ns xs ++ unknown ns ys
+  unfolding unknown
+  unknown-append [] ys = refl
+  unknown-append (x ∷ xs) ys = go (is-noted (x .result) ns) (unknown-append xs ys)
+    where
+      go : (b : Bool) → unknown ns (xs ++ ys) ≡ unknown ns xs ++ unknown ns ys
+          → elim b [ true ↦ unknown ns (xs ++ ys) | false ↦ x ∷ unknown ns (xs ++ ys) ] ≡ elim b [ true ↦ unknown ns xs | false ↦ x ∷ unknown ns xs ] ++ unknown ns ys
+      go true e = e
+      go false e = ap (λ l. x ∷ l) e
+
+  -- in term order
+
+  below-rest : (x y : Line) (ys : List Line) → T (before lost (by-result x y)) → Below lost by-result y ys → Below lost by-result x ys
+  below-rest x y [] h b = tt
+  below-rest x y (z ∷ zs) h b = rw (term-order .transitive (below (by-result x y) h) (below (by-result y z) b)) tt
+
+  below-unknown : (x : Line) (ys : List Line) → Below lost by-result x ys → Rising ys → Below lost by-result x (unknown ns ys)
+  unfolding unknown
+  below-unknown x [] b s = tt
+  below-unknown x (y ∷ ys) b s =
+      told (is-noted (y .result) ns)
+      (λ e. rw (unknown-out y ys e) (below-unknown x ys (below-rest x y ys b (s .0)) (s .1)))
+      (λ e. rw (unknown-in y ys e) b)
+
+  module _ (x : Line) where
+    known-inserted : is-noted (x .result) ns ≡ true → (ys : List Line) → unknown ns (inserted x ys) ≡ unknown ns ys
+    unfolding insert repeat
+    known-inserted k [] = unknown-out x [] k
+    known-inserted k (y ∷ ys) =
+        cases (by-result x y)
+        (λ e. rw (insert-lt lost by-result {x = x} {y = y} ys e) (unknown-out x (y ∷ ys) k))
+        (λ e. rw (insert-eq lost by-result {x = x} {y = y} ys e))
+        (λ e. rw (insert-gt lost by-result {x = x} {y = y} ys e)
+        (told (is-noted (y .result) ns)
+        (λ b. unknown-out y (inserted x ys) b ∙ known-inserted k ys ∙ sym (unknown-out y ys b))
+        (λ b. unknown-in y (inserted x ys) b ∙ ap (λ l. y ∷ l) (known-inserted k ys) ∙ sym (unknown-in y ys b))))
+
+    new-inserted : is-noted (x .result) ns ≡ false → (ys : List Line) → Rising ys → unknown ns (inserted x ys) ≡ inserted x (unknown ns ys)
+    unfolding insert repeat unknown
+    new-inserted k [] s = unknown-in x [] k
+    new-inserted k (y ∷ ys) s =
+        cases (by-result x y)
+        (λ e. ap (unknown ns) (insert-lt lost by-result {x = x} {y = y} ys e)
+        ∙ unknown-in x (y ∷ ys) k
+        ∙ sym (insert-below lost by-result (unknown ns (y ∷ ys)) (below-unknown x (y ∷ ys) (rw e tt) s)))
+        (λ e.
+        let b : is-noted (y .result) ns ≡ false = ap (λ u. is-noted u ns) (sym (term-order .tie e)) ∙ k in
+        ap (unknown ns) (insert-eq lost by-result {x = x} {y = y} ys e)
+        ∙ unknown-in y ys b
+        ∙ sym (ap (inserted x) (unknown-in y ys b) ∙ insert-eq lost by-result {x = x} {y = y} (unknown ns ys) e))
+        (λ e.
+        ap (unknown ns) (insert-gt lost by-result {x = x} {y = y} ys e)
+        ∙ told (is-noted (y .result) ns)
+        (λ b. unknown-out y (inserted x ys) b ∙ new-inserted k ys (s .1) ∙ ap (inserted x) (sym (unknown-out y ys b)))
+        (λ b.
+        unknown-in y (inserted x ys) b
+        ∙ ap (λ l. y ∷ l) (new-inserted k ys (s .1))
+        ∙ sym (ap (inserted x) (unknown-in y ys b) ∙ insert-gt lost by-result {x = x} {y = y} (unknown ns ys) e)))
+
+  -- what is noted may be left out before or after the lines are put in order
+  pub unknown-joined : (ys xs : List Line) → Rising ys → unknown ns (insert-all lost by-result ys xs) ≡ joined ns (unknown ns ys) xs
+  unfolding unknown
+  unknown-joined ys [] s = refl
+  unknown-joined ys (x ∷ xs) s =
+      told (is-noted (x .result) ns)
+      (λ k.
+      unknown-joined (inserted x ys) xs (rising-inserted x ys s)
+      ∙ ap (λ l. joined ns l xs) (known-inserted x k ys)
+      ∙ sym (ap (insert-all lost by-result (unknown ns ys)) (unknown-out x xs k)))
+      (λ k.
+      unknown-joined (inserted x ys) xs (rising-inserted x ys s)
+      ∙ ap (λ l. joined ns l xs) (new-inserted x k ys s)
+      ∙ sym (ap (insert-all lost by-result (unknown ns ys)) (unknown-in x xs k)))
+
+-- taken in turn
+
+still-noted : (t : Term) (n : Noted) (ns : List Noted) → is-noted t ns ≡ true → is-noted t (ns ++ (n ∷ [])) ≡ true
+still-noted t n ns e = told (same t (n .term)) (λ q. last-noted t n ns q) (λ q. noted-before t n ns q ∙ e)
+
+module _ (right : Term) (trail : List Line) (ns : List Noted) where
+  -- a result that is noted before any is taken is passed over in its turn
+  pub note-unknown : (xs : List Line) (ys : List Noted) → ((t : Term) → is-noted t ns ≡ true → is-noted t ys ≡ true)
+      → note right trail (unknown ns xs) ys ≡ note right trail xs ys
+  unfolding note unknown
+  note-unknown [] ys h = refl
+  note-unknown (x ∷ xs) ys h =
+      told (is-noted (x .result) ns)
+      (λ e.
+      ap (λ l. note right trail l ys) (unknown-out ns x xs e)
+      ∙ note-unknown xs ys h
+      ∙ sym (note-known right trail x xs ys (h (x .result) e)))
+      (λ e.
+      ap (λ l. note right trail l ys) (unknown-in ns x xs e)
+      ∙ go (is-noted (x .result) ys) (same (x .result) right) (note-unknown xs ys h) (note-unknown xs more (λ t k. still-noted t (entry trail x) ys (h t k))))
+    where
+      more : List Noted
+      more = ys ++ (entry trail x ∷ [])
+
+      turn : Bool → Bool → List Line → Turn
+      turn b c zs = elim b [ true ↦ note right trail zs ys | false ↦ elim c [ true ↦ ended (entry trail x) more | false ↦ note right trail zs more ] ]
+
+      go : (b c : Bool) → note right trail (unknown ns xs) ys ≡ note right trail xs ys → note right trail (unknown ns xs) more ≡ note right trail xs more
+          → turn b c (unknown ns xs) ≡ turn b c xs
+      go true c p q = p
+      go false true p q = refl
+      go false false p q = q
