@@ -183,7 +183,7 @@ fn splice(q: &[u32], s: &[u32], z: Spans, at: usize, end: usize, out: &mut [u32]
 
 // The line of a law at the subterm that starts at `at`, by the parts that its letters stand for there. The run of its result
 // stands at the front of the buffer; there is none where the result is s itself or the buffer is too short.
-pub fn put_line(
+fn put_line(
     law: Law,
     direction: Direction,
     s: &[u32],
@@ -203,4 +203,17 @@ pub fn put_line(
         Direction::Forward => splice(&sides[9..right], s, z, at, end, out),
         Direction::Back => splice(&sides[1..left], s, z, at, end, out),
     }
+}
+
+// The line of a law at the subterm that starts at `at`: the run of its result stands at the front of the buffer. There is none where
+// the law does not match or leaves a letter unbound, where the result is s itself or where the buffer is too short.
+pub fn try_law(law: Law, direction: Direction, s: &[u32], at: usize, out: &mut [u32]) -> Filled
+    requires { ⌜ at ≤ length (now s) ⌝ }
+    ensures { λ r. ⌜ Tries law direction (now (s .entry)) at (length (now (out .entry))) (now (out .exit)) r ⌝ }
+{
+    let binding = bind_law(law, direction, s, at);
+    let Binding::Bound(z) = binding else {
+        return Filled::Nothing;
+    };
+    put_line(law, direction, s, at, z, out)
 }
