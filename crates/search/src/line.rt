@@ -2,9 +2,9 @@
 ghost use Prim.Native.Nat.{_≤_};
 ghost use lib.ListN.{length};
 ghost use Rattle.search.specs.Span.{Within};
-ghost use Rattle.search.specs.Bound.{BindsAll, BindsSide, Begins, Misses, BindsLaw};
+ghost use Rattle.search.specs.Bound.{BindsAll, BindsSide, Begins, BindsLaw, Misses};
 ghost use Rattle.search.specs.Filled.{Fills};
-ghost use Rattle.search.specs.Spliced.{Finishes, Splices, Tries};
+ghost use Rattle.search.specs.Spliced.{Finishes, Splices, Tries, Outgrows};
 ghost use Rattle.search.specs.declared.search.Binding.the-variants.{Bound};
 use crate::search;
 use crate::search::ADD;
@@ -205,12 +205,28 @@ fn put_line(
     }
 }
 
+// Whether a law makes each term of `len` nodes one of more than `room`: one whose side to be matched is a letter adds two nodes.
+fn outgrows(law: Law, direction: Direction, len: usize, room: usize) -> bool
+    ensures { λ r. ⌜ Outgrows law direction len room r ⌝ }
+{
+    if 3 <= first_of(law, direction) {
+        return false;
+    }
+    if room <= len {
+        return true;
+    }
+    room - len < 2
+}
+
 // The line of a law at the subterm that starts at `at`: the run of its result stands at the front of the buffer. There is none where
 // the law does not match or leaves a letter unbound, where the result is s itself or where the buffer is too short.
 pub fn try_law(law: Law, direction: Direction, s: &[u32], at: usize, out: &mut [u32]) -> Filled
     requires { ⌜ at ≤ length (now s) ⌝ }
     ensures { λ r. ⌜ Tries law direction (now (s .entry)) at (length (now (out .entry))) (now (out .exit)) r ⌝ }
 {
+    if outgrows(law, direction, s.len(), out.len()) {
+        return Filled::Nothing;
+    }
     let binding = bind_law(law, direction, s, at);
     let Binding::Bound(z) = binding else {
         return Filled::Nothing;
