@@ -12,6 +12,7 @@ pub mod Splicing
 pub mod Knowing
 pub mod Rewriting
 pub mod Trying
+pub mod Firsts
 pub mod Directing
 pub mod Origins
 pub mod Slots

@@ -1,7 +1,7 @@
 -- A law of the table at one place, forward or back: its row has the sides that the line is made of.
-use Prim.Native.Nat.{ℕ, _+_, _-_}
+use Prim.Native.Nat.{ℕ, _+_, _-_, _<_}
 use native.Mathlib.Omega.{arith}
-use mathlib.Core.Path.{_≡_, _∙_}
+use mathlib.Core.Path.{_≡_, refl, _∙_}
 use mathlib.Core.Logic.{inl, inr}
 use mathlib.Core.Bool.{Bool, true, false, cond}
 use mathlib.Core.Option.{Option, none, some}
@@ -87,6 +87,14 @@ module _ (room : ℕ) (t : Term) (at : ℕ) (w : law.Law) (d : line.Direction) w
       go : (b : Bool) → Gives out Nothing (kept room (map (placed t at) (cond b [] (record { law = w .name; direction = d; place = []; result = u } ∷ []))))
       go true = tt
       go false = rw (lt-leb (size (replace-at t at u)) room h) tt
+
+  -- a result that has no room is no line
+  pub tried-long : (u : Term) → rewrite (from d w) (to d w) (subterm-at t at) ≡ some u → room < size (replace-at t at u) → tried room t at w d ≡ []
+  tried-long u e h = tried-is (some u) e ∙ none-given (made (some u)) (gives-put [] Nothing u (inr h))
+    where
+      none-given : (ls : List Line) → Gives [] Nothing ls → ls ≡ []
+      none-given [] G = refl
+      none-given (x ∷ ls) G = absurd G
 
 module _ (w : Law) (d : Direction) (xs : List ℕ) (at : ℕ) where
   pub binds-law : (p q : List ℕ) (r : Binding) → Side p (from (direction-of d) (law-of w)) → Side q (to (direction-of d) (law-of w)) → BindsSide p q xs at r → BindsLaw w d xs at r

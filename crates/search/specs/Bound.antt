@@ -1,12 +1,13 @@
 -- A law's letters bound at one place: the side that is read matches there, and each letter of the side that is put in is known.
-use Prim.Native.Nat.{ℕ, _<_}
+use Prim.Native.Nat.{ℕ, _+_, _≤_, _<_}
 use mathlib.Core.Path.{_≡_}
 use mathlib.Core.Bool.{Bool, true, false}
 use mathlib.Core.Option.{Option, none, some}
 use mathlib.Core.List.{List}
-use lib.ListN.{length}
+use lib.ListN.{length, getD}
 use Rattle.terms.specs.Term.{Term, size}
-use Rattle.terms.specs.Held.{IsRun, Holds}
+use Rattle.terms.specs.Run.{run}
+use Rattle.terms.specs.Held.{Fine, IsRun, Holds}
 use Rattle.search.specs.Match.{Bindings, unbound, match, put}
 use Rattle.search.specs.Line.{from, to, rewrite}
 use Rattle.search.specs.Place.{subterm-at}
@@ -44,7 +45,17 @@ pub record BindsSide (p q xs : List ℕ) (at : ℕ) (r : Binding) : Type 0 where
   pub within : BoundWithin (length xs) r
   pub exact : (u v t : Term) → IsRun p u → Pattern u → IsRun q v → Pattern v → Holds xs at t → Answers xs u v t r
 
+-- of `first_of`: a term whose run begins with another number than n is not rewritten; if n is a letter of a law, each term is, to one
+-- with two nodes more
+pub record Begins (w : Law) (d : Direction) (n : ℕ) : Type 0 where
+  pub other : (t : Term) → Fine t → 3 ≤ n → (getD (run t) 0 0 ≡ n → ⊥) → rewrite (from (direction-of d) (law-of w)) (to (direction-of d) (law-of w)) t ≡ none
+  pub letter : (t : Term) → n < 3 → (u : Term) × (rewrite (from (direction-of d) (law-of w)) (to (direction-of d) (law-of w)) t ≡ some u) × (size u ≡ size t + 2)
+
 -- of `bind_law`
 pub record BindsLaw (w : Law) (d : Direction) (xs : List ℕ) (at : ℕ) (r : Binding) : Type 0 where
   pub within : BoundWithin (length xs) r
   pub exact : (t : Term) → IsRun xs t → at < size t → Answers xs (from (direction-of d) (law-of w)) (to (direction-of d) (law-of w)) (subterm-at t at) r
+
+-- of `misses`: where it is true the law is not bound
+pub record Misses (w : Law) (d : Direction) (xs : List ℕ) (at : ℕ) (r : Bool) : Type 0 where
+  pub exact : r ≡ true → BindsLaw w d xs at Unbound

@@ -2,7 +2,7 @@
 use Prim.Native.Nat.{ℕ, _+_, _-_, _≤_, _<_}
 use mathlib.Core.Path.{_≡_}
 use mathlib.Core.Logic.{_⊎_}
-use mathlib.Core.Bool.{true, false, cond}
+use mathlib.Core.Bool.{Bool, true, false, cond}
 use mathlib.Core.Option.{some}
 use mathlib.Core.List.{List, [], _∷_, _++_, map}
 use lib.Dec.{leb}
@@ -69,3 +69,7 @@ Gives out Nothing (x ∷ xs) = ⊥
 pub record Tries (w : Law) (d : Direction) (xs : List ℕ) (at room : ℕ) (out : List ℕ) (r : Filled) : Type 0 where
   pub within : Between 0 room r
   pub exact : (t : Term) → IsRun xs t → at < size t → Gives out r (tried room t at (law-of w) (direction-of d))
+
+-- of `outgrows`: where it is true the law has no line with room for its result at any place of a term of n nodes
+pub record Outgrows (w : Law) (d : Direction) (n room : ℕ) (r : Bool) : Type 0 where
+  pub exact : r ≡ true → (t : Term) (i : ℕ) → size t ≡ n → i < size t → tried room t i (law-of w) (direction-of d) ≡ []

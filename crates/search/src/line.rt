@@ -2,14 +2,16 @@
 ghost use Prim.Native.Nat.{_≤_};
 ghost use lib.ListN.{length};
 ghost use Rattle.search.specs.Span.{Within};
-ghost use Rattle.search.specs.Bound.{BindsAll, BindsSide, BindsLaw};
+ghost use Rattle.search.specs.Bound.{BindsAll, BindsSide, Begins, BindsLaw, Misses};
 ghost use Rattle.search.specs.Filled.{Fills};
-ghost use Rattle.search.specs.Spliced.{Finishes, Splices, Tries};
+ghost use Rattle.search.specs.Spliced.{Finishes, Splices, Tries, Outgrows};
 ghost use Rattle.search.specs.declared.search.Binding.the-variants.{Bound};
 use crate::search;
+use crate::search::ADD;
 use crate::search::Binding;
 use crate::search::Direction;
 use crate::search::Law;
+use crate::search::MUL;
 use crate::search::Spans;
 use terms::term;
 
@@ -47,12 +49,64 @@ fn bind_side(p: &[u32], q: &[u32], s: &[u32], at: usize) -> Binding
     Binding::Unbound
 }
 
+const NONE: u32 = 4100;
+
+// For each law, forward and then back, the number that a run begins with where it is bound: 0 where any may, and NONE, which no run
+// has, where a letter of the side put in is always left unbound.
+const FIRST: [u32; 20] = [
+    ADD,
+    ADD,
+    ADD,
+    ADD,
+    0,
+    ADD,
+    MUL,
+    MUL,
+    0,
+    MUL,
+    0,
+    MUL,
+    ADD,
+    MUL,
+    ADD,
+    MUL,
+    NONE,
+    MUL,
+    NONE,
+    MUL,
+];
+
+// The number that a run begins with where a law is bound.
+fn first_of(law: Law, direction: Direction) -> u32
+    ensures { λ r. ⌜ Begins law direction r ⌝ }
+{
+    let n = 2 * search::law_number(law) + search::direction_number(direction);
+    FIRST[n as usize]
+}
+
+// Whether the number at `at` tells that a law is not bound there.
+fn misses(law: Law, direction: Direction, s: &[u32], at: usize) -> bool
+    ensures { λ r. ⌜ Misses law direction (now (s .entry)) at r ⌝ }
+{
+    let first = first_of(law, direction);
+    if first < 3 {
+        return false;
+    }
+    if s.len() <= at {
+        return false;
+    }
+    s[at] != first
+}
+
 // What the letters of a law stand for at the subterm that starts at `at`. A law that does not match there, or leaves a letter
 // of the side put in unbound, is unbound.
 pub fn bind_law(law: Law, direction: Direction, s: &[u32], at: usize) -> Binding
     requires { ⌜ at ≤ length (now s) ⌝ }
     ensures { λ r. ⌜ BindsLaw law direction (now (s .entry)) at r ⌝ }
 {
+    if misses(law, direction, s, at) {
+        return Binding::Unbound;
+    }
     let row = search::row_of(law);
     let left = 1 + row[0] as usize;
     let right = 9 + row[8] as usize;
@@ -151,12 +205,28 @@ fn put_line(
     }
 }
 
+// Whether a law makes each term of `len` nodes one of more than `room`: one whose side to be matched is a letter adds two nodes.
+fn outgrows(law: Law, direction: Direction, len: usize, room: usize) -> bool
+    ensures { λ r. ⌜ Outgrows law direction len room r ⌝ }
+{
+    if 3 <= first_of(law, direction) {
+        return false;
+    }
+    if room <= len {
+        return true;
+    }
+    room - len < 2
+}
+
 // The line of a law at the subterm that starts at `at`: the run of its result stands at the front of the buffer. There is none where
 // the law does not match or leaves a letter unbound, where the result is s itself or where the buffer is too short.
 pub fn try_law(law: Law, direction: Direction, s: &[u32], at: usize, out: &mut [u32]) -> Filled
     requires { ⌜ at ≤ length (now s) ⌝ }
     ensures { λ r. ⌜ Tries law direction (now (s .entry)) at (length (now (out .entry))) (now (out .exit)) r ⌝ }
 {
+    if outgrows(law, direction, s.len(), out.len()) {
+        return Filled::Nothing;
+    }
     let binding = bind_law(law, direction, s, at);
     let Binding::Bound(z) = binding else {
         return Filled::Nothing;

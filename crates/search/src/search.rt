@@ -98,9 +98,9 @@ const ZERO: u32 = 4096;
 
 const ONE: u32 = 4097;
 
-const ADD: u32 = 4098;
+pub const ADD: u32 = 4098;
 
-const MUL: u32 = 4099;
+pub const MUL: u32 = 4099;
 
 // The sides of a law: at 0 and at 8 how many numbers the left and the right one have, and after that the side's run.
 pub fn row_of(law: Law) -> [u32; 16]

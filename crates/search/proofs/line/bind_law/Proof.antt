@@ -1,8 +1,15 @@
 -- `bind_law` meets its contract: the row of the law has its sides.
 use Rattle.search.proofs.Trying.{from-forward, to-forward, from-back, to-back, binds-law}
+use Rattle.search.proofs.Firsts.{misses-unbound}
 use borrow.Author.Needs.{needs}
 use Rattle.search.proofs.line.bind_law.Statement.{statement}
 use Rattle.search.proofs.line.bind_law.Tie as tie
+
+misses-requires : tie.Need-misses-requires
+misses-requires c κs = search needs
+
+returns : tie.Need-returns
+returns c = search (misses-unbound, needs)
 
 row-of-requires : tie.Need-row-of-requires
 row-of-requires c κs = search needs
@@ -76,16 +83,18 @@ part-bind-side-end-4 c = search needs
 bind-side-requires-2 : tie.Need-bind-side-requires-2
 bind-side-requires-2 c κs = search needs
 
-returns : tie.Need-returns
-returns c = search (binds-law, from-forward, to-forward, needs)
-
 returns-2 : tie.Need-returns-2
-returns-2 c = search (binds-law, from-back, to-back, needs)
+returns-2 c = search (binds-law, from-forward, to-forward, needs)
+
+returns-3 : tie.Need-returns-3
+returns-3 c = search (binds-law, from-back, to-back, needs)
 
 pub bind-law-spec : {M : Type 1} → statement M
 bind-law-spec =
     tie.close
     (tie.spec
+    misses-requires
+    returns
     row-of-requires
     array-read-left
     cast-left
@@ -110,5 +119,5 @@ bind-law-spec =
     part-bind-side-start-4
     part-bind-side-end-4
     bind-side-requires-2
-    returns
-    returns-2)
+    returns-2
+    returns-3)
