@@ -1,8 +1,9 @@
 -- The steps in turn at a place, law by law, forward before back, and the places in turn: the lines of a term in their order.
-use Prim.Native.Nat.{ℕ, _+_, _*_, _/_, _%_, _≤_}
+use Prim.Native.Nat.{ℕ, _+_, _*_, _/_, _%_, _≤_, _<_}
 use native.Mathlib.Omega.{arith}
 use native.Mathlib.Numerals.{add-one}
-use mathlib.Core.Path.{_≡_, sym}
+use mathlib.Core.Path.{_≡_, refl, sym}
+use mathlib.Core.Bool.{Bool, true}
 use mathlib.Core.List.{List, []}
 use lib.ListN.{length}
 use Rattle.terms.specs.Term.{Term, size}
@@ -12,14 +13,21 @@ use Rattle.search.specs.Law.{semiring}
 use Rattle.search.specs.Line.{Line, at-root, root-lines, lines, allowed, results}
 use Rattle.search.specs.Place.{subterm-at, placed, lines-at, gather}
 use Rattle.search.specs.Coded.{law-at, law-of, direction-of, numbered-law, numbered-direction}
+use Rattle.search.specs.Bound.{BindsLaw}
+use Rattle.search.specs.Spliced.{Tries, Outgrows}
 use Rattle.search.specs.Ordered.{none, unknown}
 use Rattle.search.specs.Resulted.{tried-by, Adds, Resulted}
 use Rattle.search.specs.Theory.Positions.{gather-snoc, gather-map, lines-in-order}
 use Rattle.search.specs.declared.search.Law.{Law}
 use Rattle.search.specs.declared.search.Direction.{Direction}
+use Rattle.search.specs.declared.search.Binding.{Binding}
+use Rattle.search.specs.declared.search.Binding.the-variants.{Unbound}
 use Rattle.search.specs.declared.bounded_search.Step.{Step}
+use Rattle.search.specs.declared.line.Filled.the-variants.{Nothing}
 use Rattle.search.proofs.Unknown.{unknown-joined}
-use Rattle.search.proofs.Resulting.{adds-none, adds-then, adds-as}
+use Rattle.search.proofs.Trying.{tries-nothing}
+use Rattle.search.proofs.Firsts.{tries-outgrown}
+use Rattle.search.proofs.Resulting.{adds-none, adds-then, adds-as, adds-nothing}
 
 -- lines in turn: those of f at 0, at 1, .. below n
 abbrev pub in-turn : (ℕ → Term → List Line) → ℕ → Term → List Line
@@ -57,6 +65,20 @@ module _ {ws : List ℕ} {noted : ℕ} {xs : List ℕ} {room deep parent : ℕ} 
     pub step-kept : {room₁ : ℕ} → room₁ ≡ room → {res₂ order₂ : List ℕ} {r₂ : ℕ} → Adds ws noted xs room₁ deep parent (tried-by step) 1 res₁ order₁ r₁ res₂ order₂ r₂
         → Adds ws noted xs room deep parent (in-turn (step-lines place parent) (n + 1)) (n + 1) res order count res₂ order₂ r₂
     step-kept e B = turns-more (step-lines place parent) n (n + 1) A e (rw (p, q) at B) (omega arith)
+
+    -- a law with no line is passed over
+    passed : place < length xs → Tries w d xs place room [] Nothing → Adds ws noted xs room deep parent (in-turn (step-lines place parent) (n + 1)) (n + 1) res order count res₁ order₁ r₁
+    passed i T = step-kept refl (adds-nothing ws noted step xs room deep [] res₁ order₁ r₁ Nothing i T refl)
+
+    -- one with a letter left unbound, or that does not match
+    pub step-passed : place < length xs → (b : Binding) → BindsLaw w d xs place b → b ≡ Unbound
+        → Adds ws noted xs room deep parent (in-turn (step-lines place parent) (n + 1)) (n + 1) res order count res₁ order₁ r₁
+    step-passed i b B e = passed i (tries-nothing w d xs place b room [] B e)
+
+    -- one whose result has no room
+    pub step-outgrown : place < length xs → (room₁ : ℕ) → room₁ ≡ room → (b : Bool) → Outgrows w d (length xs) room₁ b → b ≡ true
+        → Adds ws noted xs room deep parent (in-turn (step-lines place parent) (n + 1)) (n + 1) res order count res₁ order₁ r₁
+    step-outgrown i room₁ f b O e = passed i (tries-outgrown w d xs place room [] b (rw f at O) e)
 
   pub steps-all : 20 ≤ n → n ≤ 20 → Adds ws noted xs room deep parent (λ t. lines-at semiring t place) 20 res order count res₁ order₁ r₁
   steps-all h k =

@@ -65,7 +65,7 @@ Gives out (To m) (x ∷ y ∷ xs) = ⊥
 Gives out Nothing [] = Unit {0}
 Gives out Nothing (x ∷ xs) = ⊥
 
--- of `put_line` and `try_law`
+-- of `put_line`
 pub record Tries (w : Law) (d : Direction) (xs : List ℕ) (at room : ℕ) (out : List ℕ) (r : Filled) : Type 0 where
   pub within : Between 0 room r
   pub exact : (t : Term) → IsRun xs t → at < size t → Gives out r (tried room t at (law-of w) (direction-of d))

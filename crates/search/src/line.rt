@@ -183,7 +183,7 @@ fn splice(q: &[u32], s: &[u32], z: Spans, at: usize, end: usize, out: &mut [u32]
 
 // The line of a law at the subterm that starts at `at`, by the parts that its letters stand for there. The run of its result
 // stands at the front of the buffer; there is none where the result is s itself or the buffer is too short.
-fn put_line(
+pub fn put_line(
     law: Law,
     direction: Direction,
     s: &[u32],
@@ -206,7 +206,7 @@ fn put_line(
 }
 
 // Whether a law makes each term of `len` nodes one of more than `room`: one whose side to be matched is a letter adds two nodes.
-fn outgrows(law: Law, direction: Direction, len: usize, room: usize) -> bool
+pub fn outgrows(law: Law, direction: Direction, len: usize, room: usize) -> bool
     ensures { λ r. ⌜ Outgrows law direction len room r ⌝ }
 {
     if 3 <= first_of(law, direction) {
@@ -216,20 +216,4 @@ fn outgrows(law: Law, direction: Direction, len: usize, room: usize) -> bool
         return true;
     }
     room - len < 2
-}
-
-// The line of a law at the subterm that starts at `at`: the run of its result stands at the front of the buffer. There is none where
-// the law does not match or leaves a letter unbound, where the result is s itself or where the buffer is too short.
-pub fn try_law(law: Law, direction: Direction, s: &[u32], at: usize, out: &mut [u32]) -> Filled
-    requires { ⌜ at ≤ length (now s) ⌝ }
-    ensures { λ r. ⌜ Tries law direction (now (s .entry)) at (length (now (out .entry))) (now (out .exit)) r ⌝ }
-{
-    if outgrows(law, direction, s.len(), out.len()) {
-        return Filled::Nothing;
-    }
-    let binding = bind_law(law, direction, s, at);
-    let Binding::Bound(z) = binding else {
-        return Filled::Nothing;
-    };
-    put_line(law, direction, s, at, z, out)
 }

@@ -4,9 +4,11 @@ ghost use Prim.Native.Nat.{_+_, _*_, _≤_, _<_};
 ghost use lib.ListN.{length};
 ghost use Rattle.search.specs.Law.{semiring};
 ghost use Rattle.search.specs.Place.{lines-at};
+ghost use Rattle.search.specs.Bound.{BindsLaw};
 ghost use Rattle.search.specs.Slots.{SLOT};
 ghost use Rattle.search.specs.Ordered.{Spotted, Keeps};
 ghost use Rattle.search.specs.Resulted.{tried-by, TooDeep, Adds, Resulted};
+ghost use Rattle.search.specs.declared.search.Binding.the-variants.{Bound};
 use crate::bounded_search;
 use crate::bounded_search::Origin;
 use crate::bounded_search::SLOT;
@@ -15,6 +17,8 @@ use crate::line;
 use crate::line::Filled;
 use crate::path;
 use crate::search;
+use crate::search::Binding;
+use crate::search::Spans;
 use terms::term;
 use terms::term::Comparison;
 
@@ -77,26 +81,27 @@ fn too_deep(s: &[u32], limit: usize) -> bool
     limit < term::depth(s)
 }
 
-// Keeps the line of a step, if there is one: its result goes among the first `count`, which are in term order, if the buffer has
+// Keeps the line of a step whose law is bound: its result goes among the first `count`, which are in term order, if the buffer has
 // room for it, it keeps the depth and it is not noted.
 fn keep_line(
     ws: &[u32],
     noted: usize,
     step: Step,
     s: &[u32],
+    z: Spans,
     depth: usize,
     out: &mut [u32],
     res: &mut [u32],
     order: &mut [u32],
     count: usize,
 ) -> usize
-    requires { ⌜ (SLOT * noted ≤ length (now ws)) × (noted ≤ 65535) × (step .place < length (now s)) × (length (now out) ≤ 31) × (SLOT * count + SLOT ≤ length (now res)) × (count < length (now order)) × (count < 620) ⌝ }
+    requires { ⌜ (SLOT * noted ≤ length (now ws)) × (noted ≤ 65535) × (step .place < length (now s)) × BindsLaw (step .law) (step .direction) (now s) (step .place) (Bound z) × (length (now out) ≤ 31) × (SLOT * count + SLOT ≤ length (now res)) × (count < length (now order)) × (count < 620) ⌝ }
     ensures { λ r. ⌜ Adds (now (ws .entry)) noted (now (s .entry)) (length (now (out .entry))) depth (step .parent) (tried-by step) 1 (now (res .entry)) (now (order .entry)) count (now (res .exit)) (now (order .exit)) r ⌝ }
 {
     let law = step.law;
     let direction = step.direction;
     let at = step.place as usize;
-    let Filled::To(m) = line::try_law(law, direction, s, at, out) else {
+    let Filled::To(m) = line::put_line(law, direction, s, at, z, out) else {
         return count;
     };
     if too_deep(&out[..m], depth) {
@@ -105,7 +110,7 @@ fn keep_line(
     keep(ws, noted, &out[..m], step, res, order, count)
 }
 
-// Tries each law at a place, forward before back.
+// Tries each law at a place, forward before back. One with a letter left unbound is passed over, and so is one whose result has no room.
 fn lines_at(
     ws: &[u32],
     noted: usize,
@@ -121,19 +126,27 @@ fn lines_at(
     requires { ⌜ (SLOT * noted ≤ length (now ws)) × (noted ≤ 65535) × (place < length (now s)) × (length (now out) ≤ 31) × (SLOT * (count + 20) ≤ length (now res)) × (count + 20 ≤ length (now order)) × (count ≤ 600) ⌝ }
     ensures { λ r. ⌜ Adds (now (ws .entry)) noted (now (s .entry)) (length (now (out .entry))) depth parent (λ t. lines-at semiring t place) 20 (now (res .entry)) (now (order .entry)) count (now (res .exit)) (now (order .exit)) r ⌝ }
 {
+    let at = place as usize;
     let mut kept = count;
     let mut n = 0;
     while n < 20 {
         let law = search::law_of(n / 2);
         let direction = search::direction_of(n % 2);
         n += 1;
+        if line::outgrows(law, direction, s.len(), out.len()) {
+            continue;
+        }
+        let binding = line::bind_law(law, direction, s, at);
+        let Binding::Bound(z) = binding else {
+            continue;
+        };
         let step = Step {
             law,
             direction,
             place,
             parent,
         };
-        kept = keep_line(ws, noted, step, s, depth, out, res, order, kept);
+        kept = keep_line(ws, noted, step, s, z, depth, out, res, order, kept);
     }
     kept
 }

@@ -9,8 +9,8 @@ use Rattle.search.proofs.results.keep_line.Tie as tie
 cast-at : tie.Need-cast-at
 cast-at c = search needs
 
-try-law-requires : tie.Need-try-law-requires
-try-law-requires c κs = search needs
+put-line-requires : tie.Need-put-line-requires
+put-line-requires c κs = search needs
 
 enum-known-m : tie.Need-enum-known-m
 enum-known-m c = search needs
@@ -25,10 +25,10 @@ returns : tie.Need-returns
 returns c = search (adds-nothing, needs)
 
 slice-reshare-prefix-too-deep : tie.Need-slice-reshare-prefix-too-deep
-slice-reshare-prefix-too-deep c = omega (arith, tries-within (c .before .before .before .before .before .try-law .ensures) (c .before .m .given .1))
+slice-reshare-prefix-too-deep c = omega (arith, tries-within (c .before .before .before .before .before .put-line .ensures) (c .before .m .given .1))
 
 slice-aggregate-too-deep : tie.Need-slice-aggregate-too-deep
-slice-aggregate-too-deep c = simp length-take (omega (arith, tries-within (c .before .before .before .before .before .before .try-law .ensures) (c .before .before .m .given .1)))
+slice-aggregate-too-deep c = simp length-take (omega (arith, tries-within (c .before .before .before .before .before .before .put-line .ensures) (c .before .before .m .given .1)))
 
 too-deep-requires : tie.Need-too-deep-requires
 too-deep-requires c κs = search needs
@@ -40,13 +40,13 @@ returns-2 : tie.Need-returns-2
 returns-2 c = search (adds-too-deep, needs)
 
 slice-reshare-prefix-keep : tie.Need-slice-reshare-prefix-keep
-slice-reshare-prefix-keep c = omega (arith, tries-within (c .before .before .before .before .before .before .before .before .try-law .ensures) (c .before .before .before .before .m .given .1))
+slice-reshare-prefix-keep c = omega (arith, tries-within (c .before .before .before .before .before .before .before .before .put-line .ensures) (c .before .before .before .before .m .given .1))
 
 slice-aggregate-keep : tie.Need-slice-aggregate-keep
-slice-aggregate-keep c = simp length-take (omega (arith, tries-within (c .before .before .before .before .before .before .before .before .before .try-law .ensures) (c .before .before .before .before .before .m .given .1)))
+slice-aggregate-keep c = simp length-take (omega (arith, tries-within (c .before .before .before .before .before .before .before .before .before .put-line .ensures) (c .before .before .before .before .before .m .given .1)))
 
 keep-requires : tie.Need-keep-requires
-keep-requires c κs = simp length-take (omega (arith, tries-within (c .before .before .before .before .before .before .before .before .before .before .before .try-law .ensures) (c .before .before .before .before .before .before .before .m .given .1)))
+keep-requires c κs = simp length-take (omega (arith, tries-within (c .before .before .before .before .before .before .before .before .before .before .before .put-line .ensures) (c .before .before .before .before .before .before .before .m .given .1)))
 
 same-length-3 : tie.Need-same-length-3
 same-length-3 c = search needs
@@ -65,7 +65,7 @@ keep-line-spec =
     tie.close
     (tie.spec
     cast-at
-    try-law-requires
+    put-line-requires
     enum-known-m
     enum-told
     same-length
