@@ -34,7 +34,7 @@ module _ (t : Term) (n : Noted) where
   noted-before [] e = rw (e, is-noted)
   noted-before (x ∷ ns) e = ap (λ b. elim (same t (x .term)) [ true ↦ true | false ↦ b ]) (noted-before ns e)
 
-told-apart : (s t : Term) → (s ≡ t → ⊥) → same s t ≡ false
+pub told-apart : (s t : Term) → (s ≡ t → ⊥) → same s t ≡ false
 told-apart s t h = go (same s t) (same-reflects s t)
   where
     go : (b : Bool) → Reflects (s ≡ t) b → b ≡ false
