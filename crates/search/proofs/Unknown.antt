@@ -6,7 +6,6 @@ use mathlib.Core.Bool.{Bool, true, false}
 use mathlib.Core.List.{List, [], _∷_, _++_}
 use lib.Dec.{T}
 use lib.ListN.{length}
-use Rattle.terms.specs.Compare.{lt}
 use Rattle.terms.specs.Term.{Term, same}
 use Rattle.terms.specs.Sort.{lost, insert, insert-all, repeat, before, Below}
 use Rattle.terms.specs.Theory.Order.{irreflexive, cases}
@@ -20,7 +19,7 @@ use Rattle.search.proofs.Noting.{last-noted, noted-before, told-apart}
 use Rattle.search.proofs.Rising.{line-at, Rising, below, rising-at, rising-inserted}
 use Rattle.search.proofs.Running.{note-known}
 
--- by whether a term is noted
+-- by what a test gives
 told : {P : Type 0} (b : Bool) → (b ≡ true → P) → (b ≡ false → P) → P
 told true f g = f refl
 told false f g = g refl
