@@ -44,6 +44,13 @@ first-least y [] s p h = absurd (omega arith)
 first-least y (z ∷ zs) s ℕ.zero h = below (by-result y z) (s .0)
 first-least y (z ∷ zs) s (suc p) h = term-order .transitive (below (by-result y z) (s .0)) (first-least z zs (s .1) p (omega arith))
 
+-- each is before those behind it
+pub rising-at : (ys : List Line) → Rising ys → (j p : ℕ) → j < p → p < length ys → by-result (line-at ys j) (line-at ys p) ≡ lt
+rising-at [] s j p h k = absurd (omega arith)
+rising-at (y ∷ ys) s j ℕ.zero h k = absurd (omega arith)
+rising-at (y ∷ ys) s ℕ.zero (suc p) h k = first-least y ys s p (omega arith)
+rising-at (y ∷ ys) s (suc j) (suc p) h k = rising-at ys (s .1) j p (omega arith) (omega arith)
+
 -- a line that is not before the p-th goes in behind those before the p-th
 pub goes-past : (x : Line) (ys : List Line) → Rising ys → (p : ℕ) → p < length ys → (by-result x (line-at ys p) ≡ lt → ⊥)
     → inserted x ys ≡ take p ys ++ inserted x (drop p ys)

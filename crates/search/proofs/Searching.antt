@@ -4,6 +4,7 @@ use native.Mathlib.Omega.{arith}
 use native.Mathlib.Nat.{sub-zero}
 use native.Mathlib.Numerals.{add-one}
 use mathlib.Core.Path.{_≡_, refl, sym, ap, _∙_}
+use mathlib.Core.Bool.{false}
 use mathlib.Core.List.{List, [], _∷_, _++_}
 use lib.ListN.{length, take, drop, getD, length-append, drop-of-length-le}
 use lib.Seq.{drop-cons, getD-take, length-take-le}
@@ -12,7 +13,7 @@ use Rattle.terms.specs.Held.{IsRun}
 use Rattle.search.specs.Law.{semiring}
 use Rattle.search.specs.Line.{Line, results}
 use Rattle.search.specs.Search as search
-use Rattle.search.specs.Search.{Noted, entry, note, unproved, run, begun}
+use Rattle.search.specs.Search.{Noted, is-noted, entry, note, unproved, run, begun}
 use Rattle.search.specs.Slots.{distance-of, noted-at, Slots}
 use Rattle.search.specs.Ordered.{Ordered, unknown}
 use Rattle.search.specs.Searched.{limits-of, Opens, Became, Takes, Arrives, Explores}
@@ -22,8 +23,8 @@ use Rattle.search.specs.declared.bounded_search.Taken.the-variants as ta
 use Rattle.search.specs.declared.bounded_search.Outcome.the-variants.{Proved, Unproved, Full}
 use Rattle.search.proofs.Slots.{noted-before, noted-last}
 use Rattle.search.proofs.Sorting.{line-at, ordered-length, ordered-at}
-use Rattle.search.proofs.Unknown.{note-unknown}
-use Rattle.search.proofs.Running.{note-known, note-right, note-new, note-new-grows, after, after-grows, run-limit, run-end, run-far, run-opens}
+use Rattle.search.proofs.Unknown.{Fresh, fresh-unknown, fresh-rest, note-unknown}
+use Rattle.search.proofs.Running.{note-right, note-new, note-new-grows, after, after-grows, run-limit, run-end, run-far, run-opens}
 
 -- o is the outcome of the search from s to t from where it is: `count` terms are noted, and the i-th is next to open
 pub record Stands (o : search.Outcome) (m : Limits) (s t : Term) (ws : List ℕ) (count i : ℕ) : Type 0 where
@@ -45,6 +46,7 @@ pub record Midway (o : search.Outcome) (m : Limits) (s t : Term) (ws : List ℕ)
   pub distance : d ≡ length (noted-at ns i .trail)
   pub lines : List Line
   pub ordered : Ordered (noted-at ns i .term) i res n (take n order) lines
+  pub fresh : Fresh ns lines j
   pub is : o ≡ following m t i (note t (noted-at ns i .trail) (drop j lines) ns)
 
 -- what holds of every search that starts with what a workspace has, ws₀
@@ -105,6 +107,7 @@ module _ {right : List ℕ} {m : Limits} {slots : ℕ} {ws₀ ws : List ℕ} {co
           distance = e;
           lines = unknown (g .ns) (next (x .term));
           ordered = O .exact (g .ns) (x .term) (g .slots) c (g .slots .slot i (omega arith) .run) k;
+          fresh = fresh-unknown (g .ns) (next (x .term));
           is = g .is
               ∙ run-opens next (m .steps) t i (g .ns) (omega arith) (m .nodes - i) (m .nodes - (i + 1)) (omega arith) (omega arith)
               ∙ ap (following m t i) (sym (note-unknown t (x .trail) (g .ns) (next (x .term)) (g .ns) (λ u h. h)));
@@ -129,8 +132,14 @@ module _ {right : List ℕ} {m : Limits} {slots : ℕ} {ws : List ℕ} {count i 
     long : length (take n order) ≡ n
     long = length-take-le n order room
 
+    among : j < length (g .lines)
+    among = omega (arith, ordered-length (g .ordered), long)
+
     next-line : drop j (g .lines) ≡ x ∷ rest
-    next-line = rw add-one (drop-cons (g .lines) j (line-at [] 0) (omega (arith, ordered-length (g .ordered), long)))
+    next-line = rw add-one (drop-cons (g .lines) j (line-at [] 0) among)
+
+    new : is-noted (x .result) (g .ns) ≡ false
+    new = g .fresh j (omega arith) among
 
     goes : o ≡ following m t i (note t (parent .trail) (x ∷ rest) (g .ns))
     goes = g .is ∙ ap (λ l. following m t i (note t (parent .trail) l (g .ns))) next-line
@@ -140,20 +149,6 @@ module _ {right : List ℕ} {m : Limits} {slots : ℕ} {ws : List ℕ} {count i 
         let e : getD (take n order) j 0 ≡ getD order j 0 = getD-take n order j 0 h in
         let R = ordered-at (g .ordered) j (omega (arith, long)) .1 in
         T .exact (g .ns) i x t (g .slots) (g .counted) inside (rw e at R) (g .distance) ht
-
-    known : r ≡ taken.Known → Midway o m s t ws′ count i d res order n (j + 1)
-    known e =
-        let (b, S) = rw e at became in
-        record {
-          ns = g .ns;
-          slots = S;
-          counted = g .counted;
-          start = g .start;
-          distance = g .distance;
-          lines = g .lines;
-          ordered = g .ordered;
-          is = goes ∙ ap (following m t i) (note-known t (parent .trail) x rest (g .ns) b);
-        }
 
     -- one more noted term leaves the parent as it is
     parent-still : noted-at more i ≡ parent
@@ -167,7 +162,7 @@ module _ {right : List ℕ} {m : Limits} {slots : ℕ} {ws : List ℕ} {count i 
 
     noted : r ≡ taken.Noted → Midway o m s t ws′ (count + 1) i d res order n (j + 1)
     noted e =
-        let (b, c, S) = rw e at became in
+        let (c, S) = rw e at became in
         record {
           ns = more;
           slots = S;
@@ -176,12 +171,13 @@ module _ {right : List ℕ} {m : Limits} {slots : ℕ} {ws : List ℕ} {count i 
           distance = rw parent-still (g .distance);
           lines = g .lines;
           ordered = rw parent-still (g .ordered);
-          is = rw parent-still (goes ∙ ap (following m t i) (note-new t (parent .trail) x rest (g .ns) b c));
+          fresh = fresh-rest (g .ns) (parent .trail) (g .lines) j (g .ordered .rising) (g .fresh);
+          is = rw parent-still (goes ∙ ap (following m t i) (note-new t (parent .trail) x rest (g .ns) new c));
         }
 
     met : r ≡ taken.Right → Arrives slots ws′ s (i + 1) (count + 1) o
     met e =
-        let (b, c, S) = rw e at became in
+        let (c, S) = rw e at became in
         let k : count + 1 - 1 ≡ length (g .ns) = omega (arith, g .counted) in
         record {
           some = omega arith;
@@ -190,26 +186,22 @@ module _ {right : List ℕ} {m : Limits} {slots : ℕ} {ws : List ℕ} {count i 
           held = S;
           count = counted-more;
           start = start-still;
-          is = goes ∙ ap (following m t i) (note-right t (parent .trail) x rest (g .ns) b c)
+          is = goes ∙ ap (following m t i) (note-right t (parent .trail) x rest (g .ns) new c)
               ∙ rw (k, noted-last (g .ns) (entry (parent .trail) x), counted-more);
         }
 
     full : r ≡ taken.Full → slots < search.noted o
     full e =
-        let (b, c) = rw e at became in
         let turn = note t (parent .trail) (x ∷ rest) (g .ns) in
         rw goes
         (omega (
           arith,
-          c,
-          note-new-grows t (parent .trail) x rest (g .ns) b,
+          rw e at became,
+          note-new-grows t (parent .trail) x rest (g .ns) new,
           after-grows (results semiring (limits-of m)) (m .steps) t (m .nodes - (i + 1)) (i + 1) turn,
         ))
 
   module _ {ws₁ : List ℕ} {count₁ : ℕ} (Tu : Progress right m i d res order n ws₁ count₁ ws count j) where
-    pub progress-known : r ≡ taken.Known → Progress right m i d res order n ws₁ count₁ ws′ count (j + 1)
-    progress-known e o s t ht g = known o s t ht (Tu o s t ht g) e
-
     pub progress-noted : r ≡ taken.Noted → Progress right m i d res order n ws₁ count₁ ws′ (count + 1) (j + 1)
     progress-noted e o s t ht g = noted o s t ht (Tu o s t ht g) e
 

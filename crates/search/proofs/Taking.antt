@@ -1,4 +1,4 @@
--- A noted term opened, and a result taken: it is noted already, or there is no slot for it, or it is noted now, and is right or not.
+-- A noted term opened, and a result taken: there is no slot for it, or it is noted now, and is right or not.
 use Prim.Native.Nat.{ℕ, _+_, _≤_, _<_}
 use native.Mathlib.Omega.{arith}
 use mathlib.Core.Path.{_≡_, refl, sym, ap, subst₂, _∙_}
@@ -9,8 +9,8 @@ use Rattle.terms.specs.Held.{IsRun}
 use Rattle.terms.specs.Promises.{Equals}
 use Rattle.terms.specs.Theory.Held.{size-of}
 use Rattle.search.specs.Line.{Line}
-use Rattle.search.specs.Search.{Noted, is-noted, entry}
-use Rattle.search.specs.Slots.{Marks, noted-at, Slots, Finds, Notes}
+use Rattle.search.specs.Search.{Noted, entry}
+use Rattle.search.specs.Slots.{Marks, noted-at, Slots, Notes}
 use Rattle.search.specs.Ordered.{Result}
 use Rattle.search.specs.Traced.{Originates, Shows}
 use Rattle.search.specs.Resulted.{Resulted}
@@ -19,7 +19,7 @@ use Rattle.search.specs.declared.bounded_search.Step.{Step}
 use Rattle.search.specs.declared.bounded_search.Origin.{Origin}
 use Rattle.search.specs.declared.bounded_search.Origin.the-variants.{Start, From}
 use Rattle.search.specs.declared.bounded_search.Limits.{Limits}
-use Rattle.search.specs.declared.bounded_search.Taken.the-variants.{Known, Right, Full}
+use Rattle.search.specs.declared.bounded_search.Taken.the-variants.{Right, Full}
 use Rattle.search.specs.declared.bounded_search.Taken.the-variants as taken
 
 pub opens : (ws : List ℕ) (noted i : ℕ) (m : Limits) (xs : List ℕ) → Shows ws i xs → (res order : List ℕ) (r : ℕ) → Resulted ws noted xs i (m .size) (m .depth) res order r
@@ -27,29 +27,22 @@ pub opens : (ws : List ℕ) (noted i : ℕ) (m : Limits) (xs : List ℕ) → Sho
 opens ws noted i m xs W res order r R =
     record { few = R .few; exact = λ ns t S c s k. R .exact ns t (limits-of m) S c (W .exact t s) (s .small) k refl refl }
 
--- xs is the run in slot k of res
-module _ (ws : List ℕ) (count slots : ℕ) (res : List ℕ) (k d : ℕ) (right xs : List ℕ) (W : Shows res k xs) (b : Bool) (F : Finds ws count xs b) where
-  module _ (ns : List Noted) (i : ℕ) (x : Line) (R : Result (noted-at ns i .term) i res k x) where
-    result-run : IsRun xs (x .result)
-    result-run = W .exact (x .result) (R .run)
+module _ (ws : List ℕ) (count slots : ℕ) (res : List ℕ) (k d : ℕ) (right : List ℕ) where
+  pub takes-full : slots ≤ count → Takes ws count slots res k d right Full ws
+  takes-full h = record { room = tt; exact = λ ns i x t S c p R e ht. omega arith }
 
-    looked-up : Slots ws ns → length ns ≡ count → is-noted (x .result) ns ≡ b
-    looked-up S c = sym (F .exact ns (x .result) S c result-run)
-
-  pub takes-known : b ≡ true → Takes ws count slots res k d right Known ws
-  takes-known j = record { room = tt; exact = λ ns i x t S c p R e ht. (looked-up ns i x R S c ∙ j, S) }
-
-  module _ (j : b ≡ false) where
-    pub takes-full : slots ≤ count → Takes ws count slots res k d right Full ws
-    takes-full h = record { room = tt; exact = λ ns i x t S c p R e ht. (looked-up ns i x R S c ∙ j, omega arith) }
+  -- xs is the run in slot k of res
+  module _ (xs : List ℕ) (W : Shows res k xs) where
+    result-run : (ns : List Noted) (i : ℕ) (x : Line) → Result (noted-at ns i .term) i res k x → IsRun xs (x .result)
+    result-run ns i x R = W .exact (x .result) (R .run)
 
     -- no slot has so long a run
-    pub takes-long : 31 < length xs → Takes ws count slots res k d right Known ws
+    pub takes-long : 31 < length xs → Takes ws count slots res k d right Full ws
     takes-long h = record { room = tt; exact = λ ns i x t S c p R e ht. absurd (omega (arith, size-of (result-run ns i x R), R .run .small)) }
 
     module _ (o : Origin) (O : Originates res k o) where
       -- no result is the start
-      pub takes-start : o ≡ Start → Takes ws count slots res k d right Known ws
+      pub takes-start : o ≡ Start → Takes ws count slots res k d right Full ws
       takes-start g =
           record {
             room = tt;
@@ -70,19 +63,17 @@ module _ (ws : List ℕ) (count slots : ℕ) (res : List ℕ) (k d : ℕ) (right
             rw h at
             (N .slots ns x S c (omega arith) (subst₂ (λ y n. Marks y (noted-at ns n .term) x) (sym q) (sym h) (R .marks)) (result-run ns i x R) (rw h (ap (λ n. n + 1) e)))
 
-        module _ (h : count < slots) (b′ : Bool) (E : Equals xs right b′) where
-          pub takes-right : b′ ≡ true → Takes ws count slots res k d right Right ws′
+        module _ (h : count < slots) (b : Bool) (E : Equals xs right b) where
+          pub takes-right : b ≡ true → Takes ws count slots res k d right Right ws′
           takes-right v =
               record {
                 room = h;
-                exact = λ ns i x t S c p R e ht.
-                    (looked-up ns i x R S c ∙ j, sym (E .terms (x .result) t (result-run ns i x R) ht) ∙ v, slots-more ns i x S c p R e);
+                exact = λ ns i x t S c p R e ht. (sym (E .terms (x .result) t (result-run ns i x R) ht) ∙ v, slots-more ns i x S c p R e);
               }
 
-          pub takes-noted : b′ ≡ false → Takes ws count slots res k d right taken.Noted ws′
+          pub takes-noted : b ≡ false → Takes ws count slots res k d right taken.Noted ws′
           takes-noted v =
               record {
                 room = h;
-                exact = λ ns i x t S c p R e ht.
-                    (looked-up ns i x R S c ∙ j, sym (E .terms (x .result) t (result-run ns i x R) ht) ∙ v, slots-more ns i x S c p R e);
+                exact = λ ns i x t S c p R e ht. (sym (E .terms (x .result) t (result-run ns i x R) ht) ∙ v, slots-more ns i x S c p R e);
               }

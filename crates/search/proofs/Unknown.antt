@@ -1,23 +1,25 @@
 -- The lines whose results are not noted: in term order, and taken in turn.
+use Prim.Native.Nat.{ℕ, suc, _+_, _≤_, _<_}
+use native.Mathlib.Omega.{arith}
 use mathlib.Core.Path.{_≡_, refl, sym, ap, _∙_}
 use mathlib.Core.Bool.{Bool, true, false}
 use mathlib.Core.List.{List, [], _∷_, _++_}
 use lib.Dec.{T}
-use Rattle.terms.specs.Compare.{lt}
+use lib.ListN.{length}
 use Rattle.terms.specs.Term.{Term, same}
 use Rattle.terms.specs.Sort.{lost, insert, insert-all, repeat, before, Below}
-use Rattle.terms.specs.Theory.Order.{cases}
+use Rattle.terms.specs.Theory.Order.{irreflexive, cases}
 use Rattle.terms.specs.Theory.Insert.{insert-lt, insert-eq, insert-gt}
 use Rattle.terms.specs.Theory.Sorted.{insert-below}
 use Rattle.terms.specs.Theory.TermOrder.{term-order}
 use Rattle.search.specs.Line.{Line, by-result}
 use Rattle.search.specs.Search.{Noted, is-noted, entry, Turn, ended, note}
 use Rattle.search.specs.Ordered.{inserted, unknown, joined}
-use Rattle.search.proofs.Noting.{last-noted, noted-before}
-use Rattle.search.proofs.Rising.{Rising, below, rising-inserted}
+use Rattle.search.proofs.Noting.{last-noted, noted-before, told-apart}
+use Rattle.search.proofs.Rising.{line-at, Rising, below, rising-at, rising-inserted}
 use Rattle.search.proofs.Running.{note-known}
 
--- by whether a term is noted
+-- by what a test gives
 told : {P : Type 0} (b : Bool) → (b ≡ true → P) → (b ≡ false → P) → P
 told true f g = f refl
 told false f g = g refl
@@ -107,6 +109,29 @@ module _ (ns : List Noted) where
       ∙ sym (ap (insert-all lost by-result (unknown ns ys)) (unknown-in x xs k)))
 
 -- taken in turn
+
+-- the results from the j-th on are not noted
+abbrev pub Fresh : List Noted → List Line → ℕ → Type 0
+Fresh ns xs j = (p : ℕ) → j ≤ p → p < length xs → is-noted (line-at xs p .result) ns ≡ false
+
+pub fresh-unknown : (ns : List Noted) (xs : List Line) → Fresh ns (unknown ns xs) 0
+unfolding unknown
+fresh-unknown ns [] = λ p h k. absurd (omega arith)
+fresh-unknown ns (x ∷ xs) =
+    told (is-noted (x .result) ns)
+    (λ e. rw (unknown-out ns x xs e) (fresh-unknown ns xs))
+    (λ e. rw (unknown-in ns x xs e) (first e (fresh-unknown ns xs)))
+  where
+    first : is-noted (x .result) ns ≡ false → Fresh ns (unknown ns xs) 0 → Fresh ns (x ∷ unknown ns xs) 0
+    first e f ℕ.zero h k = e
+    first e f (suc p) h k = f p (omega arith) (omega arith)
+
+-- none of the rest is the j-th, which is noted now
+pub fresh-rest : (ns : List Noted) (trail : List Line) (xs : List Line) (j : ℕ) → Rising xs → Fresh ns xs j → Fresh (ns ++ (entry trail (line-at xs j) ∷ [])) xs (j + 1)
+fresh-rest ns trail xs j s f p h k =
+    noted-before (line-at xs p .result) (entry trail (line-at xs j)) ns
+    (told-apart (line-at xs p .result) (line-at xs j .result) (λ e. irreflexive term-order (rising-at xs s j p (omega arith) k) (sym e)))
+    ∙ f p (omega arith) k
 
 still-noted : (t : Term) (n : Noted) (ns : List Noted) → is-noted t ns ≡ true → is-noted t (ns ++ (n ∷ [])) ≡ true
 still-noted t n ns e = told (same t (n .term)) (λ q. last-noted t n ns q) (λ q. noted-before t n ns q ∙ e)

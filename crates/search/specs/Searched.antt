@@ -10,7 +10,7 @@ use Rattle.search.specs.Law.{semiring}
 use Rattle.search.specs.Line as line
 use Rattle.search.specs.Line.{Line, results}
 use Rattle.search.specs.Search as search
-use Rattle.search.specs.Search.{Noted, is-noted, entry, proved, unproved, whole-line, begun}
+use Rattle.search.specs.Search.{Noted, entry, proved, unproved, whole-line, begun}
 use Rattle.search.specs.Coded.{name-of}
 use Rattle.search.specs.Slots.{Spells, noted-at, Slots}
 pub use Rattle.search.specs.Index.{slots-of}
@@ -34,17 +34,15 @@ pub record Opens (ws : List ℕ) (noted i : ℕ) (m : Limits) (res order : List 
 
 -- a slot is left for what is noted
 abbrev pub HasRoom : Taken → ℕ → ℕ → Type 0
-HasRoom taken.Known count slots = Unit {0}
 HasRoom taken.Noted count slots = count < slots
 HasRoom taken.Right count slots = count < slots
 HasRoom taken.Full count slots = Unit {0}
 
 -- a line on the noted term n, taken in a search to t; ws has the noted terms afterwards
 abbrev pub Became : Taken → ℕ → List ℕ → List Noted → Noted → Line → Term → Type 0
-Became taken.Known slots ws ns n x t = (is-noted (x .result) ns ≡ true) × Slots ws ns
-Became taken.Noted slots ws ns n x t = (is-noted (x .result) ns ≡ false) × (same (x .result) t ≡ false) × Slots ws (ns ++ (entry (n .trail) x ∷ []))
-Became taken.Right slots ws ns n x t = (is-noted (x .result) ns ≡ false) × (same (x .result) t ≡ true) × Slots ws (ns ++ (entry (n .trail) x ∷ []))
-Became taken.Full slots ws ns n x t = (is-noted (x .result) ns ≡ false) × (slots ≤ length ns)
+Became taken.Noted slots ws ns n x t = (same (x .result) t ≡ false) × Slots ws (ns ++ (entry (n .trail) x ∷ []))
+Became taken.Right slots ws ns n x t = (same (x .result) t ≡ true) × Slots ws (ns ++ (entry (n .trail) x ∷ []))
+Became taken.Full slots ws ns n x t = slots ≤ length ns
 
 -- of `take_result`: slot k of res has a result of a noted term, whose distance is d
 pub record Takes (ws : List ℕ) (count slots : ℕ) (res : List ℕ) (k d : ℕ) (right : List ℕ) (r : Taken) (ws′ : List ℕ) : Type 0 where

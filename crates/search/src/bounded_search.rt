@@ -166,15 +166,15 @@ fn open_slot(
     results::results_of(ws, noted, s, k, limits.size, limits.depth, res, order)
 }
 
-// What became of a result: it was noted before, or it is noted now and may be right, or no slot is left for it.
+// What became of a result: it is noted now and may be right, or no slot is left for it.
 pub enum Taken {
-    Known,
     Noted,
     Right,
     Full,
 }
 
-// Takes the result in slot `k` of `res`, whose source is at a distance: it is noted unless it is noted already or no slot is left.
+// Takes the result in slot `k` of `res`, whose source is at a distance: it is noted unless no slot is left. A slot of `res` always has
+// a run of at most 31 numbers and a step.
 fn take_result(
     ws: &mut [u32],
     noted: usize,
@@ -187,18 +187,15 @@ fn take_result(
     requires { ⌜ (noted ≤ slots) × (slots ≤ 65535) × (SLOT * slots ≤ length (now ws)) × (distance < 4294967295) ⌝ }
     ensures { λ r. ⌜ Takes (now (ws .entry)) noted slots (now (res .entry)) k distance (now (right .entry)) r (now (ws .exit)) ⌝ }
 {
-    let s = path::run_of(res, k);
-    if listed(ws, noted, s) {
-        return Taken::Known;
-    }
     if slots <= noted {
         return Taken::Full;
     }
+    let s = path::run_of(res, k);
     if 31 < s.len() {
-        return Taken::Known;
+        return Taken::Full;
     }
     let Origin::From(step) = path::origin_of(res, k) else {
-        return Taken::Known;
+        return Taken::Full;
     };
     note(ws, noted, s, step, distance + 1);
     if term::equal(s, right) {
@@ -216,7 +213,8 @@ pub enum Outcome {
     Full,
 }
 
-// Opens the noted terms in turn, from the first one on, and notes their results.
+// Opens the noted terms in turn, from the first one on, and notes their results. These are not noted when their term is opened, and
+// no two are the same, so that each is new in its turn.
 fn explore(
     right: &[u32],
     limits: Limits,
@@ -245,7 +243,6 @@ fn explore(
             let k = order[j];
             j += 1;
             match take_result(ws, noted, slots, res, k, distance, right) {
-                Taken::Known => {}
                 Taken::Noted => noted += 1,
                 Taken::Right => {
                     outcome = Outcome::Proved(i + 1, noted + 1);

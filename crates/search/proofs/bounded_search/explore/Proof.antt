@@ -6,7 +6,7 @@ use mathlib.Core.Path.{_≡_, refl, _∙_}
 use lib.ListN.{length}
 use Rattle.search.specs.Slots.{distance-of}
 use Rattle.search.specs.declared.bounded_search.Outcome.the-variants.{Unproved}
-use Rattle.search.proofs.Searching.{Standing, Opened, Progress, starts, ends, ends-limit, ends-far, opened, progress-known, progress-noted, ends-proved, ends-full, all-taken}
+use Rattle.search.proofs.Searching.{Standing, Opened, Progress, starts, ends, ends-limit, ends-far, opened, progress-noted, ends-proved, ends-full, all-taken}
 use borrow.Author.Needs.{needs}
 use Rattle.search.proofs.bounded_search.explore.Statement.{statement}
 use Rattle.search.proofs.bounded_search.explore.Tie as tie
@@ -90,6 +90,9 @@ take-result-requires c κs = search needs
 enum-told : tie.Need-enum-told Inv-loop μ-loop Inv-outer μ-outer
 enum-told c = search needs
 
+add-noted : tie.Need-add-noted Inv-loop μ-loop Inv-outer μ-outer
+add-noted c = search needs
+
 loop-less : tie.Need-loop-less Inv-loop μ-loop Inv-outer μ-outer
 loop-less c = search needs
 
@@ -100,36 +103,14 @@ loop-again c =
     let l = h .before in
     let v = l .loop in (
       omega (arith, h .loop-test .taken),
-      v .inv .1,
-      v .inv .2,
+      omega (arith, v .inv .1),
+      omega (arith, (rw (c .enum-told .given .1) at (f .take-result .ensures)) .room),
       f .take-result .kept .0 ∙ v .inv .3,
-      progress-known (v .inv .1) (h .loop-test .taken) (room l) (f .take-result .ensures) (v .inv .4) (c .enum-told .given .1),
+      progress-noted (v .inv .1) (h .loop-test .taken) (room l) (f .take-result .ensures) (v .inv .4) (c .enum-told .given .1),
     )
 
 enum-told-2 : tie.Need-enum-told-2 Inv-loop μ-loop Inv-outer μ-outer
 enum-told-2 c = search needs
-
-add-noted : tie.Need-add-noted Inv-loop μ-loop Inv-outer μ-outer
-add-noted c = search needs
-
-loop-less-2 : tie.Need-loop-less-2 Inv-loop μ-loop Inv-outer μ-outer
-loop-less-2 c = search needs
-
-loop-again-2 : tie.Need-loop-again-2 Inv-loop μ-loop Inv-outer μ-outer
-loop-again-2 c =
-    let f = c .before .before .before .before in
-    let h = f .before .before .before .before in
-    let l = h .before in
-    let v = l .loop in (
-      omega (arith, h .loop-test .taken),
-      omega (arith, v .inv .1),
-      omega (arith, (rw (c .enum-told2 .given .1) at (f .take-result .ensures)) .room),
-      f .take-result .kept .0 ∙ v .inv .3,
-      progress-noted (v .inv .1) (h .loop-test .taken) (room l) (f .take-result .ensures) (v .inv .4) (c .enum-told2 .given .1),
-    )
-
-enum-told-3 : tie.Need-enum-told-3 Inv-loop μ-loop Inv-outer μ-outer
-enum-told-3 c = search needs
 
 add-t35 : tie.Need-add-t35 Inv-loop μ-loop Inv-outer μ-outer
 add-t35 c = search needs
@@ -137,8 +118,8 @@ add-t35 c = search needs
 add-t36 : tie.Need-add-t36 Inv-loop μ-loop Inv-outer μ-outer
 add-t36 c = search needs
 
-enum-told-4 : tie.Need-enum-told-4 Inv-loop μ-loop Inv-outer μ-outer
-enum-told-4 c = search needs
+enum-told-3 : tie.Need-enum-told-3 Inv-loop μ-loop Inv-outer μ-outer
+enum-told-3 c = search needs
 
 add-i : tie.Need-add-i Inv-loop μ-loop Inv-outer μ-outer
 add-i c = search needs
@@ -213,7 +194,7 @@ returns-4 c =
     let h = f .before .before .before .before in
     let l = h .before in
     let v = l .loop in
-    ends-proved (v .inv .1) (h .loop-test .taken) (room l) (f .take-result .ensures) (v .inv .4) (opened-here l) (c .enum-told3 .given .1)
+    ends-proved (v .inv .1) (h .loop-test .taken) (room l) (f .take-result .ensures) (v .inv .4) (opened-here l) (c .enum-told2 .given .1)
 
 same-length-13 : tie.Need-same-length-13 Inv-loop μ-loop Inv-outer μ-outer
 same-length-13 c = search needs
@@ -230,7 +211,7 @@ returns-5 c =
     let h = f .before .before .before .before in
     let l = h .before in
     let v = l .loop in
-    ends-full (v .inv .1) (h .loop-test .taken) (room l) (f .take-result .ensures) (v .inv .4) (opened-here l) (c .enum-told4 .given .1)
+    ends-full (v .inv .1) (h .loop-test .taken) (room l) (f .take-result .ensures) (v .inv .4) (opened-here l) (c .enum-told3 .given .1)
 
 pub explore-spec : {M : Type 1} → statement M
 explore-spec =
@@ -253,16 +234,13 @@ explore-spec =
     add-j
     take-result-requires
     enum-told
+    add-noted
     loop-less
     loop-again
     enum-told-2
-    add-noted
-    loop-less-2
-    loop-again-2
-    enum-told-3
     add-t35
     add-t36
-    enum-told-4
+    enum-told-3
     add-i
     outer-less
     outer-again

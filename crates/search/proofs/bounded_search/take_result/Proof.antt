@@ -1,32 +1,17 @@
 -- `take_result` meets its contract: a law for each way out.
-use Rattle.search.proofs.Taking.{takes-known, takes-full, takes-long, takes-start, takes-right, takes-noted}
+use Rattle.search.proofs.Taking.{takes-full, takes-long, takes-start, takes-right, takes-noted}
 use borrow.Author.Needs.{needs}
 use Rattle.search.proofs.bounded_search.take_result.Statement.{statement}
 use Rattle.search.proofs.bounded_search.take_result.Tie as tie
 
+returns : tie.Need-returns
+returns c = search (takes-full, needs)
+
 run-of-requires : tie.Need-run-of-requires
 run-of-requires c κs = search needs
 
-listed-requires : tie.Need-listed-requires
-listed-requires c κs = search needs
-
-same-length : tie.Need-same-length
-same-length c = search needs
-
-returns : tie.Need-returns
-returns c = search (takes-known, needs)
-
-same-length-2 : tie.Need-same-length-2
-same-length-2 c = search needs
-
 returns-2 : tie.Need-returns-2
-returns-2 c = search (takes-full, needs)
-
-same-length-3 : tie.Need-same-length-3
-same-length-3 c = search needs
-
-returns-3 : tie.Need-returns-3
-returns-3 c = search (takes-long, needs)
+returns-2 c = search (takes-long, needs)
 
 origin-of-requires : tie.Need-origin-of-requires
 origin-of-requires c κs = search needs
@@ -37,11 +22,8 @@ enum-known-step c = search needs
 enum-told : tie.Need-enum-told
 enum-told c = search needs
 
-same-length-4 : tie.Need-same-length-4
-same-length-4 c = search needs
-
-returns-4 : tie.Need-returns-4
-returns-4 c = search (takes-start, needs)
+returns-3 : tie.Need-returns-3
+returns-3 c = search (takes-start, needs)
 
 add-note : tie.Need-add-note
 add-note c = search needs
@@ -52,39 +34,33 @@ note-requires c κs = search needs
 equal-requires : tie.Need-equal-requires
 equal-requires c κs = search needs
 
-same-length-5 : tie.Need-same-length-5
-same-length-5 c = search needs
+same-length : tie.Need-same-length
+same-length c = search needs
+
+returns-4 : tie.Need-returns-4
+returns-4 c = search (takes-right, needs)
+
+same-length-2 : tie.Need-same-length-2
+same-length-2 c = search needs
 
 returns-5 : tie.Need-returns-5
-returns-5 c = search (takes-right, needs)
-
-same-length-6 : tie.Need-same-length-6
-same-length-6 c = search needs
-
-returns-6 : tie.Need-returns-6
-returns-6 c = search (takes-noted, needs)
+returns-5 c = search (takes-noted, needs)
 
 pub take-result-spec : {M : Type 1} → statement M
 take-result-spec =
     tie.close
     (tie.spec
-    run-of-requires
-    listed-requires
-    same-length
     returns
-    same-length-2
+    run-of-requires
     returns-2
-    same-length-3
-    returns-3
     origin-of-requires
     enum-known-step
     enum-told
-    same-length-4
-    returns-4
+    returns-3
     add-note
     note-requires
     equal-requires
-    same-length-5
-    returns-5
-    same-length-6
-    returns-6)
+    same-length
+    returns-4
+    same-length-2
+    returns-5)
