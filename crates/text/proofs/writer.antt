@@ -1,4 +1,9 @@
 -- What the walks of the writer share.
 pub mod Held
 pub mod Again
+pub mod Value
+pub mod Texts
+pub mod Puts
+pub mod Putting
 pub mod Calls
+pub mod Lining
