@@ -7,3 +7,4 @@ pub mod Puts
 pub mod Putting
 pub mod Calls
 pub mod Lining
+pub mod Alone

@@ -91,6 +91,22 @@ pub fn finish<'a>(w: Writer<'a>) -> usize
     w.at
 }
 
+// A text alone, as where a line begins.
+pub fn write_bytes(out: &mut [u8], at: usize, text: &[u8]) -> usize
+    ensures { λ r. ⌜ Put (now (text .entry)) (now (out .entry)) at r (now (out .exit)) ⌝ }
+{
+    let w = put_bytes(new(out, at), text);
+    finish(w)
+}
+
+// A byte alone, as where a line ends.
+pub fn write_byte(out: &mut [u8], at: usize, b: u8) -> usize
+    ensures { λ r. ⌜ Put (b ∷ []) (now (out .entry)) at r (now (out .exit)) ⌝ }
+{
+    let w = put_byte(new(out, at), b);
+    finish(w)
+}
+
 // A line of an answer: a key, its value and the line's end.
 pub fn write_line(out: &mut [u8], at: usize, key: &[u8], value: &[u8]) -> usize
     ensures { λ r. ⌜ Put (now (key .entry) ++ (now (value .entry) ++ (10 ∷ []))) (now (out .entry)) at r (now (out .exit)) ⌝ }

@@ -55,7 +55,7 @@ put-after {x = x} e = λ i. record { buf = at-last x (e .bytes i); at = e .next 
 
 module _ (X : Value) (Ts : Texts X) where
   -- the function on a slice and a place: its parameters, and its contract
-  abbrev core-ended : Ended
+  abbrev pub core-ended : Ended
   core-ended = record {
     signature = record {
       lifetimes = suc (X .own-lifetimes);
@@ -69,7 +69,7 @@ module _ (X : Value) (Ts : Texts X) where
   abbrev CoreSays : X .Of → List ℕ → ℕ → ℕ → List ℕ → Type 0
   CoreSays v out at r out′ = Ts .Each v (λ text. Put text out at r out′)
 
-  abbrev core-clauses : {M : Type 1} (𝓤 : URA M) → Clauses 𝓤 core-ended
+  abbrev pub core-clauses : {M : Type 1} (𝓤 : URA M) → Clauses 𝓤 core-ended
   core-clauses 𝓤 κs a = record { ghost = Unit {0}; requires = λ g. emp 𝓤; ensures = λ g r e. fact 𝓤 (CoreSays (a .1 .1 .0) (a .0 .now) (a .1 .0) r (e .0 .now)) }
 
   -- the writer's function

@@ -16,8 +16,9 @@ ghost use Rattle.text.specs.Walk.{Walk};
 ghost use Rattle.text.specs.Put.{Put};
 use crate::answer::put_yes_no_line;
 use crate::kernel_bridge::lambdas::put_proof;
-use crate::put;
 use crate::step;
+use crate::writer::write_byte;
+use crate::writer::write_bytes;
 use crate::writer::write_line;
 use crate::writer::write_number_line;
 use crate::writer::write_term_line;
@@ -46,18 +47,18 @@ fn put_figures(out: &mut [u8], at: usize, expanded: usize, ws: &[u32], path: &[u
 {
     let p = write_number_line(out, at, b"steps=", path.len());
     let p = write_number_line(out, p, b"expanded=", expanded);
-    let p = put::put_bytes(out, p, b"uses=");
+    let p = write_bytes(out, p, b"uses=");
     let p = step::put_uses(out, p, ws, path);
-    put::put_byte(out, p, b'\n')
+    write_byte(out, p, b'\n')
 }
 
 // The line with the proof text.
 fn put_proof_line(out: &mut [u8], at: usize, ws: &[u32], path: &[u32], names: &[u32]) -> usize
     ensures { λ r. ⌜ ((s t : Term) (xs : List Line) → Walk (now (ws .entry)) (now (path .entry)) s xs → now (names .entry) ≡ rising (letters s ++ letters t) → Put (proof-line s t xs) (now (out .entry)) at r (now (out .exit))) ⌝ }
 {
-    let p = put::put_bytes(out, at, b"proof=");
+    let p = write_bytes(out, at, b"proof=");
     let p = put_proof(out, p, ws, path, names);
-    put::put_byte(out, p, b'\n')
+    write_byte(out, p, b'\n')
 }
 
 // The text where a path is found.

@@ -21,17 +21,17 @@ slice-aggregate-write-number-line-2 c = search needs
 write-number-line-requires-2 : tie.Need-write-number-line-requires-2
 write-number-line-requires-2 c κs = search needs
 
-slice-aggregate-put-bytes : tie.Need-slice-aggregate-put-bytes
-slice-aggregate-put-bytes c = search needs
+slice-aggregate-write-bytes : tie.Need-slice-aggregate-write-bytes
+slice-aggregate-write-bytes c = search needs
 
-put-bytes-requires : tie.Need-put-bytes-requires
-put-bytes-requires c κs = search needs
+write-bytes-requires : tie.Need-write-bytes-requires
+write-bytes-requires c κs = search needs
 
 put-uses-requires : tie.Need-put-uses-requires
 put-uses-requires c κs = search needs
 
-put-byte-requires : tie.Need-put-byte-requires
-put-byte-requires c κs = search needs
+write-byte-requires : tie.Need-write-byte-requires
+write-byte-requires c κs = search needs
 
 same-length : tie.Need-same-length
 same-length c = search needs
@@ -46,7 +46,7 @@ returns c =
     let p1 = p2 .before .before .before .before .before in
     λ s xs walk.
     then (put-as (ap (λ n. ascii "steps=" ++ (number n ++ (10 ∷ []))) (walk-count walk)) (p1 .write-number-line .ensures))
-    (then (p2 .write-number-line2 .ensures) (then (p3 .put-bytes .ensures) (then (p4 .put-uses .ensures s xs walk) (p5 .put-byte .ensures))))
+    (then (p2 .write-number-line2 .ensures) (then (p3 .write-bytes .ensures) (then (p4 .put-uses .ensures s xs walk) (p5 .write-byte .ensures))))
 
 pub put-figures-spec : {M : Type 1} → statement M
 put-figures-spec =
@@ -56,9 +56,9 @@ put-figures-spec =
     write-number-line-requires
     slice-aggregate-write-number-line-2
     write-number-line-requires-2
-    slice-aggregate-put-bytes
-    put-bytes-requires
+    slice-aggregate-write-bytes
+    write-bytes-requires
     put-uses-requires
-    put-byte-requires
+    write-byte-requires
     same-length
     returns)
