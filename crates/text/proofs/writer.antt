@@ -4,7 +4,7 @@ pub mod Again
 pub mod Value
 pub mod Texts
 pub mod Puts
-pub mod Putting
+pub mod PutWalk
 pub mod Calls
-pub mod Lining
-pub mod Alone
+pub mod LineWalk
+pub mod AloneWalk

@@ -41,7 +41,7 @@ use Rattle.text.proofs.writer.Held.{α}
 use Rattle.text.proofs.writer.Value.{Value, a-number}
 use Rattle.text.proofs.writer.Texts.{Texts}
 use Rattle.text.proofs.writer.Puts.{byte}
-use Rattle.text.proofs.writer.Putting.{put-ended, put-clauses, Put-it}
+use Rattle.text.proofs.writer.PutWalk.{put-ended, put-clauses, PutsValue}
 use Rattle.text.proofs.writer.new as new
 use Rattle.text.proofs.writer.finish as finish
 
@@ -95,28 +95,28 @@ module _ (X : Value) (Ts : Texts X) {M : Type 1} (𝓤 : URA M) (H : Heap 𝓤) 
   put-of : (r : Writer) → ent 𝓤 (ensured 𝓤 H A (put-ended X Ts) (put-clauses X Ts 𝓤) (κ, κs) (h, (v, tt)) tt r) (fact 𝓤 (Ts .Says v h r))
   put-of r = exE 𝓤 _ (λ ws. snd∗ 𝓤 (sem 𝓤 H A (lasts (put-ended X Ts) (κ, κs) (h, (v, tt)) ws)) (fact 𝓤 (Ts .Says v h r)))
 
-  abbrev pub to-put : Val → Put-it X Ts 𝓤 H A .Ghost
+  abbrev pub to-put : Val → PutsValue X Ts 𝓤 H A .Ghost
   to-put w = (((κ, κs), (q, qs), tt, (h, (v, tt)), (w ∷ [], (X .value v ∷ [], tt))), tt)
 
-  goes-put : (w : Val) → ent 𝓤 (sep 𝓤 (A .lft κ q) (sep 𝓤 (sem 𝓤 H A (Writes κ h w)) (sep 𝓤 (toks 𝓤 A (X .own-lifetimes) κs qs) (sem 𝓤 H A (X .holds κs v (X .value v ∷ [])))))) (Put-it X Ts 𝓤 H A .pre (to-put w))
+  goes-put : (w : Val) → ent 𝓤 (sep 𝓤 (A .lft κ q) (sep 𝓤 (sem 𝓤 H A (Writes κ h w)) (sep 𝓤 (toks 𝓤 A (X .own-lifetimes) κs qs) (sem 𝓤 H A (X .holds κs v (X .value v ∷ [])))))) (PutsValue X Ts 𝓤 H A .pre (to-put w))
   goes-put w =
       qed W (‵ (flft κ q) ∷ ‵ (Writes κ h w) ∷ (raw (toks 𝓤 A (X .own-lifetimes) κs qs) ⊛ ‵ (X .holds κs v (X .value v ∷ []))) ∷ []) ∵
       move ! (2 ∷ []) $ split ! $ nothing ! $ move ! (2 ∷ 0 ∷ []) $ fjoin ! $ move ! (3 ∷ 0 ∷ []) $ fjoin ! $ move ! (2 ∷ 1 ∷ []) $ join ! $ join ! $ frame ! $ done !
 
 module _ {M : Type 1} {𝓤 : URA M} {H : Heap 𝓤} {A : Atoms 𝓤} {K : Type 0} {W : Given 𝓤 H A} {Γ : List (Item 𝓤)} {E : Env 𝓤 H} {C : Calls 𝓤 H} {Λ : Loops 𝓤 H} {p : Post 𝓤 H} {d : Place} {rest : Body} {f : Name} {xs : List Operand} where
-  pub calls-put : K → (X : Value) (Ts : Texts X) → FmC 𝓤 H (W .laws) C → Triple 𝓤 (C f) (Put-it X Ts 𝓤 H A) → (κ : Lft) (κs : Lfts (X .own-lifetimes)) (q : Share) (qs : Shares (X .own-lifetimes)) (h : Writer) (v : X .Of) (w : Val)
-      → Opds K W (raw (Put-it X Ts 𝓤 H A .pre (to-put X Ts 𝓤 H A W κ κs q qs h v w)) ∷ Γ) E xs (w ∷ X .value v ∷ [])
+  pub calls-put : K → (X : Value) (Ts : Texts X) → FmC 𝓤 H (W .laws) C → Triple 𝓤 (C f) (PutsValue X Ts 𝓤 H A) → (κ : Lft) (κs : Lfts (X .own-lifetimes)) (q : Share) (qs : Shares (X .own-lifetimes)) (h : Writer) (v : X .Of) (w : Val)
+      → Opds K W (raw (PutsValue X Ts 𝓤 H A .pre (to-put X Ts 𝓤 H A W κ κs q qs h v w)) ∷ Γ) E xs (w ∷ X .value v ∷ [])
       → ((r : Writer) (w′ : Val) → Ts .Says v h r → IsWriter w′ → Seq K W (‵ (Writes κ r w′) ∷ ‵ (flft κ q) ∷ raw (toks 𝓤 A (X .own-lifetimes) κs qs) ∷ Γ) (lands C Λ E d w′ rest p))
       → Seq K W (‵ (flft κ q) ∷ ‵ (Writes κ h w) ∷ raw (toks 𝓤 A (X .own-lifetimes) κs qs) ∷ ‵ (X .holds κs v (X .value v ∷ [])) ∷ Γ) (runs C Λ E (seq (call f xs d) rest) p)
   calls-put t X Ts fm known κ κs q qs h v w os k =
-      move t (2 ∷ 3 ∷ []) $ join t $ move t (1 ∷ 2 ∷ 0 ∷ []) $ use3 W (raw (Put-it X Ts 𝓤 H A .pre (to-put X Ts 𝓤 H A W κ κs q qs h v w))) (goes-put X Ts 𝓤 H A W κ κs q qs h v w) $
-      calls-at t fm (Put-it X Ts 𝓤 H A) known (to-put X Ts 𝓤 H A W κ κs q qs h v w) os (λ w′.
+      move t (2 ∷ 3 ∷ []) $ join t $ move t (1 ∷ 2 ∷ 0 ∷ []) $ use3 W (raw (PutsValue X Ts 𝓤 H A .pre (to-put X Ts 𝓤 H A W κ κs q qs h v w))) (goes-put X Ts 𝓤 H A W κ κs q qs h v w) $
+      calls-at t fm (PutsValue X Ts 𝓤 H A) known (to-put X Ts 𝓤 H A W κ κs q qs h v w) os (λ w′.
       use1 W (later (some (λ (r : Writer). ((‵ (flft κ q) ⊛ raw (toks 𝓤 A (X .own-lifetimes) κs qs)) ⊛ ‵ (Writes κ r w′)) ⊛ raw (ensured 𝓤 H A (put-ended X Ts) (put-clauses X Ts 𝓤) (κ, κs) (h, (v, tt)) tt r)))) (id⊢ 𝓤 _) $ await t tt $ pick t (λ r.
       split t $ move t (1 ∷ []) $ use1 W (raw (fact 𝓤 (Ts .Says v h r))) (put-of X Ts 𝓤 H A W κ κs q qs h v r) $ heard t (Ts .Says v h r) (λ e.
       split t $ split t $ move t (2 ∷ []) $ peeks t (T.the-row (α κ)) (Is (T.the-row (α κ))) (shows 𝓤 H A (T.the-row (α κ))) r (w′ ∷ []) (λ is. k r w′ e (typed κ r w′ is)))))
 
-  pub calls-byte : K → FmC 𝓤 H (W .laws) C → Triple 𝓤 (C f) (Put-it (a-number w8) byte 𝓤 H A) → (κ : Lft) (q : Share) (h : Writer) (v : ℕ) → v < 2 ^ 8 → (w : Val)
-      → Opds K W (raw (Put-it (a-number w8) byte 𝓤 H A .pre (to-put (a-number w8) byte 𝓤 H A W κ tt q tt h v w)) ∷ Γ) E xs (w ∷ vint w8 v ∷ [])
+  pub calls-byte : K → FmC 𝓤 H (W .laws) C → Triple 𝓤 (C f) (PutsValue (a-number w8) byte 𝓤 H A) → (κ : Lft) (q : Share) (h : Writer) (v : ℕ) → v < 2 ^ 8 → (w : Val)
+      → Opds K W (raw (PutsValue (a-number w8) byte 𝓤 H A .pre (to-put (a-number w8) byte 𝓤 H A W κ tt q tt h v w)) ∷ Γ) E xs (w ∷ vint w8 v ∷ [])
       → ((r : Writer) (w′ : Val) → byte .Says v h r → IsWriter w′ → Seq K W (‵ (Writes κ r w′) ∷ ‵ (flft κ q) ∷ Γ) (lands C Λ E d w′ rest p))
       → Seq K W (‵ (flft κ q) ∷ ‵ (Writes κ h w) ∷ Γ) (runs C Λ E (seq (call f xs d) rest) p)
   calls-byte t fm known κ q h v v-fits w os k =

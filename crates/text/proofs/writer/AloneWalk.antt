@@ -1,5 +1,5 @@
 -- A function that writes one value through the writer: a walk of its MIR, by hand, once for every value.
--- The value is lent on as it is: what it owns is had twice, and one copy is kept for the exit. The output's borrow is given up for good (`gave-slice`). Its contract is that of the function on a slice and a place (`Putting.antt`'s `Core`).
+-- The value is lent on as it is: what it owns is had twice, and one copy is kept for the exit. The output's borrow is given up for good (`gave-slice`). Its contract is that of the function on a slice and a place (`PutWalk.antt`'s `Core`).
 -- Assumes nothing.
 use mathlib.Core.Path.{_≡_, refl, ap, _∙_}
 use Prim.Native.Nat.{ℕ, suc, _<_, _^_}
@@ -39,7 +39,7 @@ use Rattle.text.specs.declared.writer.Writer.{Writer}
 use Rattle.text.proofs.writer.Writer.Laws as T′
 use Rattle.text.proofs.writer.Value.{Value, row}
 use Rattle.text.proofs.writer.Texts.{Texts, puts}
-use Rattle.text.proofs.writer.Putting.{core-ended, core-clauses, Core, Put-it}
+use Rattle.text.proofs.writer.PutWalk.{core-ended, core-clauses, Core, PutsValue}
 use Rattle.text.proofs.writer.Calls.{valueOf, New, Finish, calls-new, calls-put, calls-finish, Writes}
 
 module _ (X : Value) (Ts : Texts X) (#new #value #finish : Name) where
@@ -111,7 +111,7 @@ module _ (X : Value) (Ts : Texts X) (#new #value #finish : Name) where
         join ! $ frame ! $
         nothing ! $ move ! (2 ∷ 0 ∷ []) $ fjoin ! $ owned ! usize (Is usize) (uint-makes 𝓤 H A W w64) n _ (refl, n-fits) $ fjoin ! $ move ! (1 ∷ 0 ∷ []) $ fjoin ! $ done !
 
-    module _ (C : Calls 𝓤 H) (Λ : Loops 𝓤 H) (fm : FmC 𝓤 H (W .laws) C) (known-new : Triple 𝓤 (C #new) (New 𝓤 H A mem run)) (known-value : Triple 𝓤 (C #value) (Put-it X Ts 𝓤 H A)) (known-finish : Triple 𝓤 (C #finish) (Finish 𝓤 H A mem run)) where
+    module _ (C : Calls 𝓤 H) (Λ : Loops 𝓤 H) (fm : FmC 𝓤 H (W .laws) C) (known-new : Triple 𝓤 (C #new) (New 𝓤 H A mem run)) (known-value : Triple 𝓤 (C #value) (PutsValue X Ts 𝓤 H A)) (known-finish : Triple 𝓤 (C #finish) (Finish 𝓤 H A mem run)) where
       walk : Room u8 (length ys) → Is (row X (named 1) κs′) v (X .value v ∷ []) → ent 𝓤 (onEntry 𝓤 H A (core-ended X Ts .signature) (κ, κs′) (q, qs′) a vals) (WpFn 𝓤 H C Λ alone-function (valueOf (x ys) ∷ vint w64 n ∷ X .value v ∷ []) Post)
       walk room i =
           qed W ((‵ (flft κ q) ⊛ raw Alive) ∷ ‵ (owns (MutSlice (named 0) κ u8 ∷ usize ∷ row X (named 1) κs′ ∷ []) a vals) ∷ []) ∵ enter ! C Λ alone-function (valueOf (x ys) ∷ vint w64 n ∷ X .value v ∷ []) _ $
@@ -136,14 +136,14 @@ module _ (X : Value) (Ts : Texts X) (#new #value #finish : Name) where
           keep ! (1 ∷ 3 ∷ 2 ∷ 4 ∷ 0 ∷ []) $ by ! (exits r w zs (ap length f ∙ Ts .same v h₀ r₁ e₁ .1) (alone room r₁ r zs e₁ e f))))))))))))))
 
   module _ {M : Type 1} (𝓤 : URA M) (H : Heap 𝓤) (A : Atoms 𝓤) (W : Given 𝓤 H A) (mem : Memory → SProp 𝓤) (run : Routine → Fun 𝓤) where
-    walks : (C : Calls 𝓤 H) (Λ : Loops 𝓤 H) → FmC 𝓤 H (W .laws) C → Triple 𝓤 (C #new) (New 𝓤 H A mem run) → Triple 𝓤 (C #value) (Put-it X Ts 𝓤 H A) → Triple 𝓤 (C #finish) (Finish 𝓤 H A mem run)
+    walks : (C : Calls 𝓤 H) (Λ : Loops 𝓤 H) → FmC 𝓤 H (W .laws) C → Triple 𝓤 (C #new) (New 𝓤 H A mem run) → Triple 𝓤 (C #value) (PutsValue X Ts 𝓤 H A) → Triple 𝓤 (C #finish) (Finish 𝓤 H A mem run)
         → Walks 𝓤 H A (core-ended X Ts) stayed (WpFn 𝓤 H C Λ alone-function) (core-clauses X Ts 𝓤)
     walks C Λ fm known-new known-value known-finish = walked 𝓤 H A (core-ended X Ts) stayed (core-clauses X Ts 𝓤) (WpFn 𝓤 H C Λ alone-function)
         (λ κs. (slice-vals, (uint-vals w64, ((λ v. X .value v ∷ []), tt)))) (λ κs. (mut-slice-tells (named 0) (κs .0) u8, (uint-tells w64, (X .tells (κs .1), tt))))
         (λ κs qs bounds a g are. via 𝓤 _ (fst∗ 𝓤 _ (emp 𝓤))
         (walk 𝓤 H A W mem run (κs .0) (κs .1) (qs .0) (qs .1) (a .0 .ptr .0) (a .0 .ptr .1) (a .0 .name) (a .0 .now) (a .1 .0) (a .1 .1 .0) (are .1 .0 .1) C Λ fm known-new known-value known-finish (are .0 .0 .1) (are .1 .1 .0)))
 
-    pub alone-meets : (𝓣 : Tables 𝓤 H) → Triple 𝓤 (𝓣 .C #new) (New 𝓤 H A mem run) → Triple 𝓤 (𝓣 .C #value) (Put-it X Ts 𝓤 H A) → Triple 𝓤 (𝓣 .C #finish) (Finish 𝓤 H A mem run)
+    pub alone-meets : (𝓣 : Tables 𝓤 H) → Triple 𝓤 (𝓣 .C #new) (New 𝓤 H A mem run) → Triple 𝓤 (𝓣 .C #value) (PutsValue X Ts 𝓤 H A) → Triple 𝓤 (𝓣 .C #finish) (Finish 𝓤 H A mem run)
         → Triple 𝓤 (WpFn 𝓤 H (𝓣 .C) (𝓣 .Λ) alone-function) (Core X Ts 𝓤 H A)
     alone-meets 𝓣 known-new known-value known-finish =
         let m : ℕ = suc (X .own-lifetimes) in

@@ -119,8 +119,8 @@ module _ (X : Value) (Ts : Texts X) where
     abbrev pub Core : Contract 𝓤
     Core = tripleOf 𝓤 H A (core-ended .signature) (closing 𝓤 H A core-ended (core-clauses 𝓤))
 
-    abbrev pub Put-it : Contract 𝓤
-    Put-it = tripleOf 𝓤 H A (put-ended .signature) (closing 𝓤 H A put-ended (put-clauses 𝓤))
+    abbrev pub PutsValue : Contract 𝓤
+    PutsValue = tripleOf 𝓤 H A (put-ended .signature) (closing 𝓤 H A put-ended (put-clauses 𝓤))
 
   module _ (#core : Name) where
     module _ {M : Type 1} (𝓤 : URA M) (H : Heap 𝓤) (A : Atoms 𝓤) (W : Given 𝓤 H A) (κ : Lft) (κs′ : Lfts (X .own-lifetimes)) (q : Share) (qs′ : Shares (X .own-lifetimes)) (b o : ℕ) (γ : GName) (ys : List ℕ) (n : ℕ) (v : X .Of) (n-fits : n < 2 ^ 64) where
@@ -234,7 +234,7 @@ module _ (X : Value) (Ts : Texts X) where
           let fields = LL.owed (T.the-type (α (κs .0))) (T′.the-laws (α (κs .0))) (a .0) _ (are .0) in
           walk 𝓤 H A W (κs .0) (κs .1) (qs .0) (qs .1) (a .0 .buf .ptr .0) (a .0 .buf .ptr .1) (a .0 .buf .name) (a .0 .buf .now) (a .0 .at) (a .1 .0) (fields .1 .0 .1) C Λ fm known (are .0) (fields .0 .0 .1) (are .1 .0)))
 
-      pub put-meets : (𝓣 : Tables 𝓤 H) → Triple 𝓤 (𝓣 .C #core) (Core 𝓤 H A) → Triple 𝓤 (WpFn 𝓤 H (𝓣 .C) (𝓣 .Λ) (put-function #core)) (Put-it 𝓤 H A)
+      pub put-meets : (𝓣 : Tables 𝓤 H) → Triple 𝓤 (𝓣 .C #core) (Core 𝓤 H A) → Triple 𝓤 (WpFn 𝓤 H (𝓣 .C) (𝓣 .Λ) (put-function #core)) (PutsValue 𝓤 H A)
       put-meets 𝓣 known =
           walk-meets 𝓤 H A put-ended stayed W (writer-spent-goes (X .own-lifetimes) 𝓤 H A W, (goes-none 𝓤 H A W (suc (X .own-lifetimes)) (λ κs. row X (named 1) (κs .1)) yes (λ κs x f. refl), tt)) (put-clauses 𝓤)
           (WpFn 𝓤 H (𝓣 .C) (𝓣 .Λ) (put-function #core)) (WpFn-mono 𝓤 H (W .laws) 𝓣 (put-function #core)) (walks (𝓣 .C) (𝓣 .Λ) (fmOf 𝓤 H (W .laws) 𝓣) known)

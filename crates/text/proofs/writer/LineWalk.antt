@@ -44,7 +44,7 @@ use Rattle.text.proofs.writer.Writer.Laws as T′
 use Rattle.text.proofs.writer.Value.{Value, row, a-number, a-slice}
 use Rattle.text.proofs.writer.Texts.{Texts, puts}
 use Rattle.text.proofs.writer.Puts.{byte, bytes}
-use Rattle.text.proofs.writer.Putting.{Put-it}
+use Rattle.text.proofs.writer.PutWalk.{PutsValue}
 use Rattle.text.proofs.writer.Calls.{valueOf, New, Finish, calls-new, calls-put, calls-byte, calls-finish, Writes}
 
 module _ (X : Value) (Ts : Texts X) where
@@ -66,8 +66,8 @@ module _ (X : Value) (Ts : Texts X) where
   abbrev line-clauses : {M : Type 1} (𝓤 : URA M) → Clauses 𝓤 line-ended
   line-clauses 𝓤 κs a = record { ghost = Unit {0}; requires = λ g. emp 𝓤; ensures = λ g r e. fact 𝓤 (Line (a .1 .1 .1 .0) (a .1 .1 .0 .now) (a .0 .now) (a .1 .0) r (e .0 .now)) }
 
-  abbrev pub Write-line : {M : Type 1} (𝓤 : URA M) (H : Heap 𝓤) (A : Atoms 𝓤) → Contract 𝓤
-  Write-line 𝓤 H A = tripleOf 𝓤 H A (line-ended .signature) (closing 𝓤 H A line-ended (line-clauses 𝓤))
+  abbrev pub WritesLine : {M : Type 1} (𝓤 : URA M) (H : Heap 𝓤) (A : Atoms 𝓤) → Contract 𝓤
+  WritesLine 𝓤 H A = tripleOf 𝓤 H A (line-ended .signature) (closing 𝓤 H A line-ended (line-clauses 𝓤))
 
   -- its MIR, around calls of these names
   abbrev of-writer : Local
@@ -168,7 +168,7 @@ module _ (X : Value) (Ts : Texts X) where
           -- [emp; the last list; the key; the value; the result]
           drop ! $ nothing ! $ move ! (3 ∷ 0 ∷ []) $ fjoin ! $ move ! (2 ∷ 0 ∷ []) $ fjoin ! $ owned ! usize (Is usize) (uint-makes 𝓤 H A W w64) n _ (refl, n-fits) $ fjoin ! $ move ! (1 ∷ 0 ∷ []) $ fjoin ! $ done !
 
-      module _ (C : Calls 𝓤 H) (Λ : Loops 𝓤 H) (fm : FmC 𝓤 H (W .laws) C) (known-new : Triple 𝓤 (C #new) (New 𝓤 H A mem run)) (known-bytes : Triple 𝓤 (C #bytes) (Put-it (a-slice w8) bytes 𝓤 H A)) (known-value : Triple 𝓤 (C #value) (Put-it X Ts 𝓤 H A)) (known-byte : Triple 𝓤 (C #byte) (Put-it (a-number w8) byte 𝓤 H A)) (known-finish : Triple 𝓤 (C #finish) (Finish 𝓤 H A mem run)) where
+      module _ (C : Calls 𝓤 H) (Λ : Loops 𝓤 H) (fm : FmC 𝓤 H (W .laws) C) (known-new : Triple 𝓤 (C #new) (New 𝓤 H A mem run)) (known-bytes : Triple 𝓤 (C #bytes) (PutsValue (a-slice w8) bytes 𝓤 H A)) (known-value : Triple 𝓤 (C #value) (PutsValue X Ts 𝓤 H A)) (known-byte : Triple 𝓤 (C #byte) (PutsValue (a-number w8) byte 𝓤 H A)) (known-finish : Triple 𝓤 (C #finish) (Finish 𝓤 H A mem run)) where
         walk : Room u8 (length ys) → Is (row (a-slice w8) (named 1) (κ₁, tt)) y (valueOf y ∷ []) → Is (row X (named 2) κs₂) v (X .value v ∷ []) → ent 𝓤 (onEntry 𝓤 H A (line-ended .signature) κs qs a vals) (WpFn 𝓤 H C Λ line-function (valueOf (x ys) ∷ vint w64 n ∷ valueOf y ∷ X .value v ∷ []) Post)
         walk room i i′ =
             qed W ((‵ (flft κ q) ⊛ (‵ (flft κ₁ q₁) ⊛ raw Alive)) ∷ ‵ (owns (MutSlice (named 0) κ u8 ∷ usize ∷ row (a-slice w8) (named 1) (κ₁, tt) ∷ row X (named 2) κs₂ ∷ []) a vals) ∷ []) ∵ enter ! C Λ line-function (valueOf (x ys) ∷ vint w64 n ∷ valueOf y ∷ X .value v ∷ []) _ $
@@ -201,15 +201,15 @@ module _ (X : Value) (Ts : Texts X) where
             keep ! (1 ∷ 4 ∷ 3 ∷ 2 ∷ 6 ∷ 5 ∷ 0 ∷ []) $ by ! (exits r w zs (still r₂ zs e₂ f) (line room r₂ r zs e₂ e f)))))))))))))))))))
 
     module _ {M : Type 1} (𝓤 : URA M) (H : Heap 𝓤) (A : Atoms 𝓤) (W : Given 𝓤 H A) (mem : Memory → SProp 𝓤) (run : Routine → Fun 𝓤) where
-      walks : (C : Calls 𝓤 H) (Λ : Loops 𝓤 H) → FmC 𝓤 H (W .laws) C → Triple 𝓤 (C #new) (New 𝓤 H A mem run) → Triple 𝓤 (C #bytes) (Put-it (a-slice w8) bytes 𝓤 H A) → Triple 𝓤 (C #value) (Put-it X Ts 𝓤 H A) → Triple 𝓤 (C #byte) (Put-it (a-number w8) byte 𝓤 H A) → Triple 𝓤 (C #finish) (Finish 𝓤 H A mem run)
+      walks : (C : Calls 𝓤 H) (Λ : Loops 𝓤 H) → FmC 𝓤 H (W .laws) C → Triple 𝓤 (C #new) (New 𝓤 H A mem run) → Triple 𝓤 (C #bytes) (PutsValue (a-slice w8) bytes 𝓤 H A) → Triple 𝓤 (C #value) (PutsValue X Ts 𝓤 H A) → Triple 𝓤 (C #byte) (PutsValue (a-number w8) byte 𝓤 H A) → Triple 𝓤 (C #finish) (Finish 𝓤 H A mem run)
           → Walks 𝓤 H A line-ended stayed (WpFn 𝓤 H C Λ line-function) (line-clauses 𝓤)
       walks C Λ fm known-new known-bytes known-value known-byte known-finish = walked 𝓤 H A line-ended stayed (line-clauses 𝓤) (WpFn 𝓤 H C Λ line-function)
           (λ κs. (slice-vals, (uint-vals w64, (slice-vals, ((λ v. X .value v ∷ []), tt))))) (λ κs. (mut-slice-tells (named 0) (κs .0) u8, (uint-tells w64, (a-slice w8 .tells (κs .1 .0, tt), (X .tells (κs .1 .1), tt)))))
           (λ κs qs bounds a g are. via 𝓤 _ (fst∗ 𝓤 _ (emp 𝓤))
           (walk 𝓤 H A W mem run (κs .0) (κs .1 .0) (κs .1 .1) (qs .0) (qs .1 .0) (qs .1 .1) (a .0 .ptr .0) (a .0 .ptr .1) (a .0 .name) (a .0 .now) (a .1 .0) (a .1 .1 .0) (a .1 .1 .1 .0) (are .1 .0 .1) C Λ fm known-new known-bytes known-value known-byte known-finish (are .0 .0 .1) (are .1 .1 .0) (are .1 .1 .1 .0)))
 
-      pub line-meets : (𝓣 : Tables 𝓤 H) → Triple 𝓤 (𝓣 .C #new) (New 𝓤 H A mem run) → Triple 𝓤 (𝓣 .C #bytes) (Put-it (a-slice w8) bytes 𝓤 H A) → Triple 𝓤 (𝓣 .C #value) (Put-it X Ts 𝓤 H A) → Triple 𝓤 (𝓣 .C #byte) (Put-it (a-number w8) byte 𝓤 H A) → Triple 𝓤 (𝓣 .C #finish) (Finish 𝓤 H A mem run)
-          → Triple 𝓤 (WpFn 𝓤 H (𝓣 .C) (𝓣 .Λ) line-function) (Write-line 𝓤 H A)
+      pub line-meets : (𝓣 : Tables 𝓤 H) → Triple 𝓤 (𝓣 .C #new) (New 𝓤 H A mem run) → Triple 𝓤 (𝓣 .C #bytes) (PutsValue (a-slice w8) bytes 𝓤 H A) → Triple 𝓤 (𝓣 .C #value) (PutsValue X Ts 𝓤 H A) → Triple 𝓤 (𝓣 .C #byte) (PutsValue (a-number w8) byte 𝓤 H A) → Triple 𝓤 (𝓣 .C #finish) (Finish 𝓤 H A mem run)
+          → Triple 𝓤 (WpFn 𝓤 H (𝓣 .C) (𝓣 .Λ) line-function) (WritesLine 𝓤 H A)
       line-meets 𝓣 known-new known-bytes known-value known-byte known-finish =
           let m : ℕ = suc (suc (X .own-lifetimes)) in
           walk-meets 𝓤 H A line-ended stayed W (goes-gave-slice 𝓤 H A W m 0 tt (plain (λ _. u8)), (goes-none 𝓤 H A W m (λ _. usize) yes (λ κs x f. refl), (goes-none 𝓤 H A W m (λ κs. row (a-slice w8) (named 1) (κs .1 .0, tt)) yes (λ κs x f. refl), (goes-none 𝓤 H A W m (λ κs. row X (named 2) (κs .1 .1)) yes (λ κs x f. refl), tt)))) (line-clauses 𝓤)
