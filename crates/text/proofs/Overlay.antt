@@ -101,7 +101,3 @@ put-out o a b r h k e = record { next = e; bytes = sym (overlay-one o a b ∙ se
 pub put-more : {o o₁ o₂ : List ℕ} {a p q : ℕ} (ys : List ℕ) (i : ℕ) → i < length ys
     → Put (take i ys) o a p o₁ → Put (getD ys i 0 ∷ []) o₁ p q o₂ → Put (take (i + 1) ys) o a q o₂
 put-more ys i h p q = put-as (rw (add-one, take-suc ys i 0)) (then p q)
-
--- an output keeps its length
-pub put-length : {t o o₁ : List ℕ} {a r : ℕ} → Put t o a r o₁ → length o₁ ≡ length o
-put-length {t} {o} {o₁} {a} p = ap length (p .bytes) ∙ length-overlay o a t

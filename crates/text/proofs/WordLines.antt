@@ -1,8 +1,8 @@
--- Lines of an answer, and WORDS' text from the order of its lists.
+-- WORDS' text, from its lines and the order of its lists.
 use Prim.Native.Nat.{ℕ}
 use mathlib.Core.Path.{_≡_, sym, ap, _∙_}
 use mathlib.Core.Bool.{Bool, true, false}
-use mathlib.Core.List.{List, [], _∷_, _++_, flatten, append-assoc}
+use mathlib.Core.List.{List, [], _∷_, _++_, flatten}
 use lib.Dec.{isEq}
 use Rattle.terms.specs.Equation.{orient}
 use Rattle.terms.specs.Promises.{ordering-of}
@@ -15,15 +15,9 @@ use Rattle.text.specs.Bytes.{ascii}
 use Rattle.text.specs.Answer.{field, yes-no}
 use Rattle.text.specs.Words.{word-list, lists-text, words-text}
 use Rattle.text.specs.Put.{Put}
-use Rattle.text.proofs.Overlay.{then, put-as, put-last}
+use Rattle.text.proofs.Overlay.{then, put-last}
 
--- a key, a value and the byte 10
-pub put-line : {key value o o₁ o₂ o₃ : List ℕ} {a b c d : ℕ} → Put key o a b o₁ → Put value o₁ b c o₂ → Put (10 ∷ []) o₂ c d o₃
-    → Put (key ++ (value ++ (10 ∷ []))) o a d o₃
-put-line {key} {value} p q r = put-as (append-assoc key value (10 ∷ [])) (then (then p q) r)
-
--- ---- WORDS
-
+-- the three lines
 pub put-lists : {o o₁ o₂ o₃ : List ℕ} {a b c d : ℕ} (same : Bool) (us vs : List Word)
     → Put (ascii "same=" ++ (yes-no same ++ (10 ∷ []))) o a b o₁
     → Put (ascii "left=" ++ (word-list us ++ (10 ∷ []))) o₁ b c o₂ → Put (ascii "right=" ++ (word-list vs ++ (10 ∷ []))) o₂ c d o₃

@@ -20,6 +20,8 @@ ghost use Rattle.text.specs.Find as find;
 ghost use Rattle.text.specs.Walk.{Walk};
 ghost use Rattle.text.specs.Put.{Put};
 use crate::put;
+use crate::writer::write_byte;
+use crate::writer::write_bytes;
 use search::bounded_search::Origin;
 use search::bounded_search::Step;
 use search::path;
@@ -106,7 +108,7 @@ fn put_step(out: &mut [u8], at: usize, ws: &[u32], k: u32) -> usize
     let Origin::From(step) = path::origin_of(ws, k) else {
         return at;
     };
-    let p = put::put_bytes(out, at, b"step=");
+    let p = write_bytes(out, at, b"step=");
     let q = put_line(
         out,
         p,
@@ -114,7 +116,7 @@ fn put_step(out: &mut [u8], at: usize, ws: &[u32], k: u32) -> usize
         path::run_of(ws, step.parent),
         path::run_of(ws, k),
     );
-    put::put_bytes(out, q, b"\n")
+    write_byte(out, q, b'\n')
 }
 
 // The lines of a path.

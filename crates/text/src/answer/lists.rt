@@ -11,8 +11,8 @@ ghost use Rattle.text.specs.Answer.{fitting};
 ghost use Rattle.text.specs.Words.{words-text, lists-text};
 ghost use Rattle.text.specs.Entry.{Call};
 ghost use Rattle.text.specs.Put.{Put};
-use super::put_words_line;
 use super::put_yes_no_line;
+use crate::writer::write_words_line;
 use terms::term::Comparison;
 use words::normal_form::ROOM;
 use words::normal_form::compare_lists;
@@ -24,8 +24,8 @@ fn put_lists(out: &mut [u8], at: usize, same: bool, a: &[u32], b: &[u32]) -> usi
     ensures { λ r. ⌜ ((us vs : List Word) → now (a .entry) ≡ spelled us → now (b .entry) ≡ spelled vs → Put (lists-text same us vs) (now (out .entry)) at r (now (out .exit))) ⌝ }
 {
     let p = put_yes_no_line(out, at, b"same=", same);
-    let p = put_words_line(out, p, b"left=", a);
-    put_words_line(out, p, b"right=", b)
+    let p = write_words_line(out, p, b"left=", a);
+    write_words_line(out, p, b"right=", b)
 }
 
 // The answer's text, from the spelled lists of both sides.

@@ -17,9 +17,9 @@ ghost use Rattle.text.specs.Rename.{term-lines, renamed-words};
 ghost use Rattle.text.specs.Renamed.{Renamed};
 ghost use Rattle.text.specs.Entry.{Call};
 ghost use Rattle.text.specs.Put.{Put};
-use super::put_term_line;
-use super::put_words_line;
 use crate::writer::write_line;
+use crate::writer::write_term_line;
+use crate::writer::write_words_line;
 use terms::term::Comparison;
 use words::candidate::Lengths;
 use words::candidate::canonical_terms;
@@ -33,8 +33,8 @@ use words::normal_form::words_of;
 fn put_term_lines(out: &mut [u8], at: usize, a: &[u32], b: &[u32]) -> usize
     ensures { λ r. ⌜ ((e : Equation Term) → IsRun (now (a .entry)) (e .left) → IsRun (now (b .entry)) (e .right) → Put (term-lines e) (now (out .entry)) at r (now (out .exit))) ⌝ }
 {
-    let p = put_term_line(out, at, b"left=", a);
-    put_term_line(out, p, b"right=", b)
+    let p = write_term_line(out, at, b"left=", a);
+    write_term_line(out, p, b"right=", b)
 }
 
 // The lines of the renamed lists of words: of no list, where the sides' words agree.
@@ -45,8 +45,8 @@ fn put_word_lines(out: &mut [u8], at: usize, same: bool, u: &[u32], v: &[u32]) -
         let p = write_line(out, at, b"wleft=", b"-");
         return write_line(out, p, b"wright=", b"-");
     }
-    let p = put_words_line(out, at, b"wleft=", u);
-    put_words_line(out, p, b"wright=", v)
+    let p = write_words_line(out, at, b"wleft=", u);
+    write_words_line(out, p, b"wright=", v)
 }
 
 // The answer's text, from the renamed equation and the renamed lists.

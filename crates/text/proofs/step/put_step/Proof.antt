@@ -17,11 +17,11 @@ enum-told c = search needs
 returns : tie.Need-returns
 returns c = search (no-step, needs)
 
-slice-aggregate-put-bytes : tie.Need-slice-aggregate-put-bytes
-slice-aggregate-put-bytes c = search needs
+slice-aggregate-write-bytes : tie.Need-slice-aggregate-write-bytes
+slice-aggregate-write-bytes c = search needs
 
-put-bytes-requires : tie.Need-put-bytes-requires
-put-bytes-requires c κs = search needs
+write-bytes-requires : tie.Need-write-bytes-requires
+write-bytes-requires c κs = search needs
 
 run-of-requires : tie.Need-run-of-requires
 run-of-requires c κs = search needs
@@ -32,11 +32,8 @@ run-of-requires-2 c κs = search needs
 put-line-requires : tie.Need-put-line-requires
 put-line-requires c κs = search needs
 
-slice-aggregate-put-bytes-2 : tie.Need-slice-aggregate-put-bytes-2
-slice-aggregate-put-bytes-2 c = search needs
-
-put-bytes-requires-2 : tie.Need-put-bytes-requires-2
-put-bytes-requires-2 c κs = search needs
+write-byte-requires : tie.Need-write-byte-requires
+write-byte-requires c κs = search needs
 
 same-length : tie.Need-same-length
 same-length c = search needs
@@ -45,13 +42,13 @@ returns-2 : tie.Need-returns-2
 unfolding ascii
 returns-2 c =
     let p3 = c .before .before in
-    let p2 = p3 .before .before .before .before .before in
+    let p2 = p3 .before .before .before .before in
     let z = p2 .before in
     let y = z .before in
     let p1 = y .before .before .before .before in
     let s = p1 .before .before .before .before in
     one-step (s .step .given .0 .0) (s .before .before .origin-of .ensures) (s .step .given .1) (y .run-of .ensures) (z .run-of2 .ensures)
-    (p1 .put-bytes .ensures) (p2 .put-line .ensures) (p3 .put-bytes2 .ensures)
+    (p1 .write-bytes .ensures) (p2 .put-line .ensures) (p3 .write-byte .ensures)
 
 pub put-step-spec : {M : Type 1} → statement M
 put-step-spec =
@@ -61,12 +58,11 @@ put-step-spec =
     enum-known-step
     enum-told
     returns
-    slice-aggregate-put-bytes
-    put-bytes-requires
+    slice-aggregate-write-bytes
+    write-bytes-requires
     run-of-requires
     run-of-requires-2
     put-line-requires
-    slice-aggregate-put-bytes-2
-    put-bytes-requires-2
+    write-byte-requires
     same-length
     returns-2)

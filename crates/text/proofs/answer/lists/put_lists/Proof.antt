@@ -11,17 +11,17 @@ slice-aggregate-put-yes-no-line c = search needs
 put-yes-no-line-requires : tie.Need-put-yes-no-line-requires
 put-yes-no-line-requires c κs = search needs
 
-slice-aggregate-put-words-line : tie.Need-slice-aggregate-put-words-line
-slice-aggregate-put-words-line c = search needs
+slice-aggregate-write-words-line : tie.Need-slice-aggregate-write-words-line
+slice-aggregate-write-words-line c = search needs
 
-put-words-line-requires : tie.Need-put-words-line-requires
-put-words-line-requires c κs = search needs
+write-words-line-requires : tie.Need-write-words-line-requires
+write-words-line-requires c κs = search needs
 
-slice-aggregate-put-words-line-2 : tie.Need-slice-aggregate-put-words-line-2
-slice-aggregate-put-words-line-2 c = search needs
+slice-aggregate-write-words-line-2 : tie.Need-slice-aggregate-write-words-line-2
+slice-aggregate-write-words-line-2 c = search needs
 
-put-words-line-requires-2 : tie.Need-put-words-line-requires-2
-put-words-line-requires-2 c κs = search needs
+write-words-line-requires-2 : tie.Need-write-words-line-requires-2
+write-words-line-requires-2 c κs = search needs
 
 same-length : tie.Need-same-length
 same-length c = search needs
@@ -32,7 +32,7 @@ returns c =
     let l = c .before .before .before .before .before .before .before in
     let y = l .before .before .before .before .before in
     λ us vs u v.
-    put-lists (y .before .before .before .before .before .before .args .same) us vs (y .put-yes-no-line .ensures) (l .put-words-line .ensures us u) (c .before .before .put-words-line2 .ensures vs v)
+    put-lists (y .before .before .before .before .before .before .args .same) us vs (y .put-yes-no-line .ensures) (l .write-words-line .ensures us u) (c .before .before .write-words-line2 .ensures vs v)
 
 pub put-lists-spec : {M : Type 1} → statement M
 put-lists-spec =
@@ -40,9 +40,9 @@ put-lists-spec =
     (tie.spec
     slice-aggregate-put-yes-no-line
     put-yes-no-line-requires
-    slice-aggregate-put-words-line
-    put-words-line-requires
-    slice-aggregate-put-words-line-2
-    put-words-line-requires-2
+    slice-aggregate-write-words-line
+    write-words-line-requires
+    slice-aggregate-write-words-line-2
+    write-words-line-requires-2
     same-length
     returns)

@@ -9,29 +9,29 @@ use borrow.Author.Needs.{needs}
 use Rattle.text.proofs.answer.outcome.put_figures.Statement.{statement}
 use Rattle.text.proofs.answer.outcome.put_figures.Tie as tie
 
-slice-aggregate-put-number-line : tie.Need-slice-aggregate-put-number-line
-slice-aggregate-put-number-line c = search needs
+slice-aggregate-write-number-line : tie.Need-slice-aggregate-write-number-line
+slice-aggregate-write-number-line c = search needs
 
-put-number-line-requires : tie.Need-put-number-line-requires
-put-number-line-requires c κs = search needs
+write-number-line-requires : tie.Need-write-number-line-requires
+write-number-line-requires c κs = search needs
 
-slice-aggregate-put-number-line-2 : tie.Need-slice-aggregate-put-number-line-2
-slice-aggregate-put-number-line-2 c = search needs
+slice-aggregate-write-number-line-2 : tie.Need-slice-aggregate-write-number-line-2
+slice-aggregate-write-number-line-2 c = search needs
 
-put-number-line-requires-2 : tie.Need-put-number-line-requires-2
-put-number-line-requires-2 c κs = search needs
+write-number-line-requires-2 : tie.Need-write-number-line-requires-2
+write-number-line-requires-2 c κs = search needs
 
-slice-aggregate-put-bytes : tie.Need-slice-aggregate-put-bytes
-slice-aggregate-put-bytes c = search needs
+slice-aggregate-write-bytes : tie.Need-slice-aggregate-write-bytes
+slice-aggregate-write-bytes c = search needs
 
-put-bytes-requires : tie.Need-put-bytes-requires
-put-bytes-requires c κs = search needs
+write-bytes-requires : tie.Need-write-bytes-requires
+write-bytes-requires c κs = search needs
 
 put-uses-requires : tie.Need-put-uses-requires
 put-uses-requires c κs = search needs
 
-put-byte-requires : tie.Need-put-byte-requires
-put-byte-requires c κs = search needs
+write-byte-requires : tie.Need-write-byte-requires
+write-byte-requires c κs = search needs
 
 same-length : tie.Need-same-length
 same-length c = search needs
@@ -45,20 +45,20 @@ returns c =
     let p2 = p3 .before .before .before .before .before in
     let p1 = p2 .before .before .before .before .before in
     λ s xs walk.
-    then (put-as (ap (λ n. ascii "steps=" ++ (number n ++ (10 ∷ []))) (walk-count walk)) (p1 .put-number-line .ensures))
-    (then (p2 .put-number-line2 .ensures) (then (p3 .put-bytes .ensures) (then (p4 .put-uses .ensures s xs walk) (p5 .put-byte .ensures))))
+    then (put-as (ap (λ n. ascii "steps=" ++ (number n ++ (10 ∷ []))) (walk-count walk)) (p1 .write-number-line .ensures))
+    (then (p2 .write-number-line2 .ensures) (then (p3 .write-bytes .ensures) (then (p4 .put-uses .ensures s xs walk) (p5 .write-byte .ensures))))
 
 pub put-figures-spec : {M : Type 1} → statement M
 put-figures-spec =
     tie.close
     (tie.spec
-    slice-aggregate-put-number-line
-    put-number-line-requires
-    slice-aggregate-put-number-line-2
-    put-number-line-requires-2
-    slice-aggregate-put-bytes
-    put-bytes-requires
+    slice-aggregate-write-number-line
+    write-number-line-requires
+    slice-aggregate-write-number-line-2
+    write-number-line-requires-2
+    slice-aggregate-write-bytes
+    write-bytes-requires
     put-uses-requires
-    put-byte-requires
+    write-byte-requires
     same-length
     returns)

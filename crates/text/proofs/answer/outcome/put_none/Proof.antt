@@ -18,23 +18,23 @@ slice-aggregate-write-line-2 c = search needs
 write-line-requires : tie.Need-write-line-requires
 write-line-requires c κs = search needs
 
-slice-aggregate-put-term-line : tie.Need-slice-aggregate-put-term-line
-slice-aggregate-put-term-line c = search needs
+slice-aggregate-write-term-line : tie.Need-slice-aggregate-write-term-line
+slice-aggregate-write-term-line c = search needs
 
-put-term-line-requires : tie.Need-put-term-line-requires
-put-term-line-requires c κs = search needs
+write-term-line-requires : tie.Need-write-term-line-requires
+write-term-line-requires c κs = search needs
 
-slice-aggregate-put-term-line-2 : tie.Need-slice-aggregate-put-term-line-2
-slice-aggregate-put-term-line-2 c = search needs
+slice-aggregate-write-term-line-2 : tie.Need-slice-aggregate-write-term-line-2
+slice-aggregate-write-term-line-2 c = search needs
 
-put-term-line-requires-2 : tie.Need-put-term-line-requires-2
-put-term-line-requires-2 c κs = search needs
+write-term-line-requires-2 : tie.Need-write-term-line-requires-2
+write-term-line-requires-2 c κs = search needs
 
-slice-aggregate-put-number-line : tie.Need-slice-aggregate-put-number-line
-slice-aggregate-put-number-line c = search needs
+slice-aggregate-write-number-line : tie.Need-slice-aggregate-write-number-line
+slice-aggregate-write-number-line c = search needs
 
-put-number-line-requires : tie.Need-put-number-line-requires
-put-number-line-requires c κs = search needs
+write-number-line-requires : tie.Need-write-number-line-requires
+write-number-line-requires c κs = search needs
 
 slice-aggregate-put-yes-no-line : tie.Need-slice-aggregate-put-yes-no-line
 slice-aggregate-put-yes-no-line c = search needs
@@ -55,9 +55,9 @@ returns c =
     let p1 = p2 .before .before .before .before .before in
     λ j n left right cut.
     then (p1 .write-line .ensures)
-    (then (p2 .put-term-line .ensures (j .left) left)
-    (then (p3 .put-term-line2 .ensures (j .right) right)
-    (then (p4 .put-number-line .ensures) (put-last (put-as (ap (λ yes. ascii "cut=" ++ (yes-no yes ++ (10 ∷ []))) cut) (p5 .put-yes-no-line .ensures))))))
+    (then (p2 .write-term-line .ensures (j .left) left)
+    (then (p3 .write-term-line2 .ensures (j .right) right)
+    (then (p4 .write-number-line .ensures) (put-last (put-as (ap (λ yes. ascii "cut=" ++ (yes-no yes ++ (10 ∷ []))) cut) (p5 .put-yes-no-line .ensures))))))
 
 pub put-none-spec : {M : Type 1} → statement M
 put-none-spec =
@@ -66,12 +66,12 @@ put-none-spec =
     slice-aggregate-write-line
     slice-aggregate-write-line-2
     write-line-requires
-    slice-aggregate-put-term-line
-    put-term-line-requires
-    slice-aggregate-put-term-line-2
-    put-term-line-requires-2
-    slice-aggregate-put-number-line
-    put-number-line-requires
+    slice-aggregate-write-term-line
+    write-term-line-requires
+    slice-aggregate-write-term-line-2
+    write-term-line-requires-2
+    slice-aggregate-write-number-line
+    write-number-line-requires
     slice-aggregate-put-yes-no-line
     put-yes-no-line-requires
     same-length

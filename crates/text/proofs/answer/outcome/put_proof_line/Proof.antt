@@ -6,17 +6,17 @@ use borrow.Author.Needs.{needs}
 use Rattle.text.proofs.answer.outcome.put_proof_line.Statement.{statement}
 use Rattle.text.proofs.answer.outcome.put_proof_line.Tie as tie
 
-slice-aggregate-put-bytes : tie.Need-slice-aggregate-put-bytes
-slice-aggregate-put-bytes c = search needs
+slice-aggregate-write-bytes : tie.Need-slice-aggregate-write-bytes
+slice-aggregate-write-bytes c = search needs
 
-put-bytes-requires : tie.Need-put-bytes-requires
-put-bytes-requires c κs = search needs
+write-bytes-requires : tie.Need-write-bytes-requires
+write-bytes-requires c κs = search needs
 
 put-proof-requires : tie.Need-put-proof-requires
 put-proof-requires c κs = search needs
 
-put-byte-requires : tie.Need-put-byte-requires
-put-byte-requires c κs = search needs
+write-byte-requires : tie.Need-write-byte-requires
+write-byte-requires c κs = search needs
 
 same-length : tie.Need-same-length
 same-length c = search needs
@@ -27,15 +27,15 @@ returns c =
     let p3 = c .before .before in
     let p2 = p3 .before .before .before .before in
     let p1 = p2 .before .before .before .before in
-    λ s t xs walk names. then (p1 .put-bytes .ensures) (then (p2 .put-proof .ensures s t xs walk names) (p3 .put-byte .ensures))
+    λ s t xs walk names. then (p1 .write-bytes .ensures) (then (p2 .put-proof .ensures s t xs walk names) (p3 .write-byte .ensures))
 
 pub put-proof-line-spec : {M : Type 1} → statement M
 put-proof-line-spec =
     tie.close
     (tie.spec
-    slice-aggregate-put-bytes
-    put-bytes-requires
+    slice-aggregate-write-bytes
+    write-bytes-requires
     put-proof-requires
-    put-byte-requires
+    write-byte-requires
     same-length
     returns)

@@ -18,17 +18,17 @@ slice-aggregate-write-line-2 c = search needs
 write-line-requires : tie.Need-write-line-requires
 write-line-requires c κs = search needs
 
-slice-aggregate-put-term-line : tie.Need-slice-aggregate-put-term-line
-slice-aggregate-put-term-line c = search needs
+slice-aggregate-write-term-line : tie.Need-slice-aggregate-write-term-line
+slice-aggregate-write-term-line c = search needs
 
-put-term-line-requires : tie.Need-put-term-line-requires
-put-term-line-requires c κs = search needs
+write-term-line-requires : tie.Need-write-term-line-requires
+write-term-line-requires c κs = search needs
 
-slice-aggregate-put-term-line-2 : tie.Need-slice-aggregate-put-term-line-2
-slice-aggregate-put-term-line-2 c = search needs
+slice-aggregate-write-term-line-2 : tie.Need-slice-aggregate-write-term-line-2
+slice-aggregate-write-term-line-2 c = search needs
 
-put-term-line-requires-2 : tie.Need-put-term-line-requires-2
-put-term-line-requires-2 c κs = search needs
+write-term-line-requires-2 : tie.Need-write-term-line-requires-2
+write-term-line-requires-2 c κs = search needs
 
 put-figures-requires : tie.Need-put-figures-requires
 put-figures-requires c κs = search needs
@@ -54,8 +54,8 @@ returns c =
     let a = p1 .before .before .before .before .before .before .before .before .before .before in
     λ j xs n left right walk names.
     then (p1 .write-line .ensures)
-    (then (p2 .put-term-line .ensures (j .left) left)
-    (then (p3 .put-term-line2 .ensures (j .right) right)
+    (then (p2 .write-term-line .ensures (j .left) left)
+    (then (p3 .write-term-line2 .ensures (j .right) right)
     (figures-then (a .args .expanded) xs (p4 .put-figures .ensures (j .left) xs walk)
     (then (p5 .put-steps .ensures (j .left) xs walk) (put-last (p6 .put-proof-line .ensures (j .left) (j .right) xs walk names))))))
 
@@ -66,10 +66,10 @@ put-proved-spec =
     slice-aggregate-write-line
     slice-aggregate-write-line-2
     write-line-requires
-    slice-aggregate-put-term-line
-    put-term-line-requires
-    slice-aggregate-put-term-line-2
-    put-term-line-requires-2
+    slice-aggregate-write-term-line
+    write-term-line-requires
+    slice-aggregate-write-term-line-2
+    write-term-line-requires-2
     put-figures-requires
     put-steps-requires
     put-proof-line-requires

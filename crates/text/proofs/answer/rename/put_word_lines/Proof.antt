@@ -32,17 +32,17 @@ returns c =
     let l = c .before .before .before .before .before .before .before .before in
     λ us vs h. put-no-lists h (l .before .before .before .before .if1 .taken) (l .write-line .ensures) (c .before .before .write-line2 .ensures)
 
-slice-aggregate-put-words-line : tie.Need-slice-aggregate-put-words-line
-slice-aggregate-put-words-line c = search needs
+slice-aggregate-write-words-line : tie.Need-slice-aggregate-write-words-line
+slice-aggregate-write-words-line c = search needs
 
-put-words-line-requires : tie.Need-put-words-line-requires
-put-words-line-requires c κs = search needs
+write-words-line-requires : tie.Need-write-words-line-requires
+write-words-line-requires c κs = search needs
 
-slice-aggregate-put-words-line-2 : tie.Need-slice-aggregate-put-words-line-2
-slice-aggregate-put-words-line-2 c = search needs
+slice-aggregate-write-words-line-2 : tie.Need-slice-aggregate-write-words-line-2
+slice-aggregate-write-words-line-2 c = search needs
 
-put-words-line-requires-2 : tie.Need-put-words-line-requires-2
-put-words-line-requires-2 c κs = search needs
+write-words-line-requires-2 : tie.Need-write-words-line-requires-2
+write-words-line-requires-2 c κs = search needs
 
 same-length-2 : tie.Need-same-length-2
 same-length-2 c = search needs
@@ -51,7 +51,7 @@ returns-2 : tie.Need-returns-2
 unfolding ascii
 returns-2 c =
     let l = c .before .before .before .before .before .before .before in
-    λ us vs h. put-word-lines h (l .before .before .before .if1 .left) (l .put-words-line .ensures) (c .before .before .put-words-line2 .ensures)
+    λ us vs h. put-word-lines h (l .before .before .before .if1 .left) (l .write-words-line .ensures) (c .before .before .write-words-line2 .ensures)
 
 pub put-word-lines-spec : {M : Type 1} → statement M
 put-word-lines-spec =
@@ -65,9 +65,9 @@ put-word-lines-spec =
     write-line-requires-2
     same-length
     returns
-    slice-aggregate-put-words-line
-    put-words-line-requires
-    slice-aggregate-put-words-line-2
-    put-words-line-requires-2
+    slice-aggregate-write-words-line
+    write-words-line-requires
+    slice-aggregate-write-words-line-2
+    write-words-line-requires-2
     same-length-2
     returns-2)
