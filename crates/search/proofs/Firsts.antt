@@ -1,4 +1,4 @@
--- The number that a run begins with where a law is bound: another one there tells that it is not.
+-- The number that a run begins with where a law is bound: another one there tells that it is not, and a letter that the law adds two nodes.
 use Prim.Native.Nat.{ℕ, _+_, _-_, _≤_, _<_}
 use native.Mathlib.Omega.{arith}
 use mathlib.Core.Path.{_≡_, refl, sym, ap, _∙_}
