@@ -1,16 +1,16 @@
--- The number that a run begins with where a law is bound: another one there tells that it is not.
-use Prim.Native.Nat.{ℕ, _+_, _-_, _*_, _≤_, _<_}
+-- The number that a run begins with where a law is bound: another one there tells that it is not, and a letter that the law adds two nodes.
+use Prim.Native.Nat.{ℕ, _+_, _-_, _≤_, _<_}
 use native.Mathlib.Omega.{arith}
 use mathlib.Core.Path.{_≡_, refl, sym, ap, _∙_}
 use mathlib.Core.Bool.{Bool, true, false, not}
 use mathlib.Core.Option.{Option, none, some}
-use mathlib.Core.List.{List, [], _∷_, _++_}
+use mathlib.Core.List.{List, [], _++_}
 use lib.Dec.{eqb, ltb}
 use lib.ListN.{length, drop, getD}
 use borrow.Author.Tests.{ltb-true, eqb-false, not-true}
 use Rattle.terms.specs.Term as term
 use Rattle.terms.specs.Term.{Term, letter, add, mul, size}
-use Rattle.terms.specs.Run.{ADD, MUL, run}
+use Rattle.terms.specs.Run.{run}
 use Rattle.terms.specs.Held.{Fine, Holds}
 use Rattle.terms.specs.Theory.Held.{length-run}
 use Rattle.terms.proofs.Positions.{drop-head}
@@ -19,8 +19,8 @@ use Rattle.search.specs.Match.{Bindings, unbound, bind, meet, match, put
 use Rattle.search.specs.Line.{from, to, rewrite}
 use Rattle.search.specs.Place.{subterm-at}
 use Rattle.search.specs.Span.{Pattern}
-use Rattle.search.specs.Coded.{law-number, law-at, law-of, direction-number, direction-of}
-use Rattle.search.specs.Bound.{Begins, BindsLaw, Misses}
+use Rattle.search.specs.Coded.{law-at, law-of, direction-of}
+use Rattle.search.specs.Bound.{first-forward, first-back, Begins, BindsLaw, Misses}
 use Rattle.search.specs.Spliced.{Tries, Outgrows}
 use Rattle.search.specs.declared.search.Law.{Law}
 use Rattle.search.specs.declared.search.Direction.{Direction}
@@ -84,14 +84,10 @@ begins-letter : (w : Law) → ((t : Term) → (u : Term) × (rewrite (from (dire
     → Begins w Forward 0
 begins-letter w f = record { other = λ t g h k. absurd (omega arith); letter = λ t h. f t }
 
--- the number in the table of each law and direction
-firsts : List ℕ
-firsts = ADD ∷ ADD ∷ ADD ∷ ADD ∷ 0 ∷ ADD ∷ MUL ∷ MUL ∷ 0 ∷ MUL ∷ 0 ∷ MUL ∷ ADD ∷ MUL ∷ ADD ∷ MUL ∷ 4100 ∷ MUL ∷ 4100 ∷ MUL ∷ []
-
-begins-forward : (w : Law) → Begins w Forward (getD firsts (2 * law-number w + 0) 0)
-unfolding law-at semiring from to firsts rewrite match meet bind put join unbound size
+begins-forward : (w : Law) → Begins w Forward (first-forward w)
+unfolding law-at semiring from to rewrite match meet bind put join unbound size
 begins-forward =
-    each-law (λ w. Begins w Forward (getD firsts (2 * law-number w + 0) 0)) (
+    each-law (λ w. Begins w Forward (first-forward w)) (
       begins-side _ _ _ refl (omega arith),
       begins-side _ _ _ refl (omega arith),
       begins-letter _ (λ t. (add t term.zero, refl, omega arith)),
@@ -104,10 +100,10 @@ begins-forward =
       begins-never _ _ refl refl (omega arith),
     )
 
-begins-back : (w : Law) → Begins w Back (getD firsts (2 * law-number w + 1) 0)
-unfolding law-at semiring from firsts
+begins-back : (w : Law) → Begins w Back (first-back w)
+unfolding law-at semiring from
 begins-back =
-    each-law (λ w. Begins w Back (getD firsts (2 * law-number w + 1) 0)) (
+    each-law (λ w. Begins w Back (first-back w)) (
       begins-side _ _ _ refl (omega arith),
       begins-side _ _ _ refl (omega arith),
       begins-side _ _ _ refl (omega arith),
@@ -120,14 +116,11 @@ begins-back =
       begins-side _ _ _ refl (omega arith),
     )
 
-begins : (w : Law) (d : Direction) → Begins w d (getD firsts (2 * law-number w + direction-number d) 0)
-begins w Forward = begins-forward w
-begins w Back = begins-back w
+pub forward-begins : (w : Law) (d : Direction) (n : ℕ) → d ≡ Forward → n ≡ first-forward w → Begins w d n
+forward-begins w d n e k = rw (e, k) (begins-forward w)
 
-pub first-begins : (w : Law) (d : Direction) (m k : ℕ) → (m ≡ law-number w) × (m < 10) → (k ≡ direction-number d) × (k < 2)
-    → Begins w d (getD (ADD ∷ ADD ∷ ADD ∷ ADD ∷ 0 ∷ ADD ∷ MUL ∷ MUL ∷ 0 ∷ MUL ∷ 0 ∷ MUL ∷ ADD ∷ MUL ∷ ADD ∷ MUL ∷ 4100 ∷ MUL ∷ 4100 ∷ MUL ∷ []) (2 * m + k) 0)
-unfolding firsts
-first-begins w d m k e f = rw (e .0, f .0) (begins w d)
+pub back-begins : (w : Law) (d : Direction) (n : ℕ) → d ≡ Back → n ≡ first-back w → Begins w d n
+back-begins w d n e k = rw (e, k) (begins-back w)
 
 -- the test at a place
 

@@ -1,7 +1,8 @@
 -- Matching read off two runs from left to right: the patterns and the terms still to come, matched pair by pair.
-use Prim.Native.Nat.{ℕ, _+_, _≤_, _<_}
+use Prim.Native.Nat.{ℕ, _+_, _-_, _≤_, _<_}
 use native.Mathlib.Omega.{arith}
 use mathlib.Core.Path.{_≡_, refl, sym, ap, _∙_}
+use mathlib.Core.Bool.{Bool, true, false}
 use mathlib.Core.Option.{Option, none, some}
 use mathlib.Core.List.{List, [], _∷_, _++_, append-assoc, append-nil}
 use lib.ListN.{length, drop, getD, length-drop, length-append, drop-of-length-le}
@@ -13,7 +14,7 @@ use Rattle.terms.specs.Theory.Held.{length-run}
 use Rattle.terms.proofs.Positions.{drop-head, drop-past}
 use Rattle.terms.proofs.Held.{size-pos}
 use Rattle.search.specs.Match.{Bindings, match, meet}
-use Rattle.search.specs.Span.{Pattern, Means, Within, Found, Meets, Matching}
+use Rattle.search.specs.Span.{with-span, Pattern, Means, Within, Found, letter-met, Meets, Matching}
 use Rattle.search.specs.declared.search.Spans.{Spans}
 use Rattle.search.specs.declared.search.Binding.{Binding}
 use Rattle.search.specs.declared.search.Binding.the-variants.{Bound, Unbound}
@@ -196,17 +197,22 @@ matching-starts P xs at z p t σ M hp g ht =
 pub end-within : (xs : List ℕ) (i e : ℕ) → Ends xs i e → i ≤ length xs → e ≤ length xs
 end-within xs i e E = E .within
 
-pub bound-within : (xs : List ℕ) (z : Spans) (x i e : ℕ) (r : Binding) (y : Spans) → Meets xs z x i e r → r ≡ Bound y → Within (length xs) y
-bound-within xs z x i e r y M q = (rw q at M) .within
+-- what a letter that meets a term gives, and that its parts lie in the list
+meets-bound : (xs : List ℕ) (z : Spans) (x i e : ℕ) (b : Bool) (y : Spans) → Meets xs z x i e (letter-met z x i e b) → b ≡ true → y ≡ with-span z x (record { at = i; len = e - i }) → Meets xs z x i e (Bound y)
+meets-bound xs z x i e b y M q g = rw g (rw q at M)
+
+pub bound-within : (xs : List ℕ) (z : Spans) (x i e : ℕ) (b : Bool) (y : Spans) → Meets xs z x i e (letter-met z x i e b) → b ≡ true → y ≡ with-span z x (record { at = i; len = e - i })
+    → Within (length xs) y
+bound-within xs z x i e b y M q g = meets-bound xs z x i e b y M q g .within
 
 module _ (P : List ℕ) (k : ℕ) (xs : List ℕ) (at i : ℕ) (z₀ z : Spans) (S : Matching P xs at z₀ (Pending P k xs i z)) where
-  pub letter-bound : (e : ℕ) (r : Binding) (y : Spans) → k < length P → getD P k 0 < 3 → Ends xs i e → Meets xs z (getD P k 0) i e r → r ≡ Bound y
-      → Matching P xs at z₀ (Pending P (k + 1) xs e y)
-  letter-bound e r y h g E M q p t σ m hp gp ht = letter-on P k xs i z (match p t σ) e y h g E (rw q at M) (S p t σ m hp gp ht)
+  pub letter-bound : (e : ℕ) (b : Bool) (y : Spans) → k < length P → getD P k 0 < 3 → Ends xs i e → Meets xs z (getD P k 0) i e (letter-met z (getD P k 0) i e b) → b ≡ true
+      → y ≡ with-span z (getD P k 0) (record { at = i; len = e - i }) → Matching P xs at z₀ (Pending P (k + 1) xs e y)
+  letter-bound e b y h g E M q f p t σ m hp gp ht = letter-on P k xs i z (match p t σ) e y h g E (meets-bound xs z (getD P k 0) i e b y M q f) (S p t σ m hp gp ht)
 
-  pub letter-unbound : (e : ℕ) (r : Binding) → k < length P → getD P k 0 < 3 → Ends xs i e → Meets xs z (getD P k 0) i e r → r ≡ Unbound
+  pub letter-unbound : (e : ℕ) (b : Bool) → k < length P → getD P k 0 < 3 → Ends xs i e → Meets xs z (getD P k 0) i e (letter-met z (getD P k 0) i e b) → b ≡ false
       → Matching P xs at z₀ (Found xs Unbound)
-  letter-unbound e r h g E M q p t σ m hp gp ht = letter-off P k xs i z (match p t σ) e h g E (rw q at M) (S p t σ m hp gp ht)
+  letter-unbound e b h g E M q p t σ m hp gp ht = letter-off P k xs i z (match p t σ) e h g E (rw q at M) (S p t σ m hp gp ht)
 
   pub node-matched : k < length P → 3 ≤ getD P k 0 → getD xs i 0 ≡ getD P k 0 → Matching P xs at z₀ (Pending P (k + 1) xs (i + 1) z)
   node-matched h g e p t σ m hp gp ht = node-on P k xs i z (match p t σ) h g e (S p t σ m hp gp ht)

@@ -1,12 +1,12 @@
 -- Parts of a run as bindings: laws on `span-of` and `with-span`.
 use Prim.Native.Nat.{ℕ, suc, _+_, _≤_, _<_}
 use native.Mathlib.Omega.{arith}
-use mathlib.Core.Path.{_≡_, refl}
+use mathlib.Core.Path.{_≡_, refl, sym}
 use mathlib.Core.Bool.{Bool, true, false, cond}
 use mathlib.Core.Option.{none, some}
 use mathlib.Core.List.{List}
 use lib.Dec.{eqb}
-use borrow.Author.Tests.{eq-eqb, ne-eqb}
+use borrow.Author.Tests.{eqb-true, eq-eqb, ne-eqb}
 use Rattle.terms.specs.Term.{Term, size}
 use Rattle.terms.specs.Held.{Holds}
 use Rattle.search.specs.Match.{Bindings, bind, unbound}
@@ -54,6 +54,16 @@ means-bind {xs} {z} {σ} n v t M p h e = record { letters = λ m q. rw (span-wit
     chosen : (m : ℕ) → m < 3 → (b : Bool) → Meant xs (cond b v (span-of z m)) (cond b (some t) (σ m))
     chosen m q true = (h, e)
     chosen m q false = M .letters m q
+
+-- a letter bound once more, to the same term at another place
+pub means-again : {xs : List ℕ} {z : Spans} {σ : Bindings} (n : ℕ) (v : Span) (t : Term) → Means xs z σ → n < 3 → Holds xs (v .at) t → v .len ≡ size t → σ n ≡ some t
+    → Means xs (with-span z n v) σ
+unfolding bind
+means-again {xs} {z} {σ} n v t M p h e k = record { letters = λ m q. rw (again m (eqb m n) refl) at (means-bind n v t M p h e .letters m q) }
+  where
+    again : (m : ℕ) (b : Bool) → eqb m n ≡ b → bind n t σ m ≡ σ m
+    again m true g = rw (g, eqb-true m n g) (sym k)
+    again m false g = rw g
 
 -- at the start no letter is known
 

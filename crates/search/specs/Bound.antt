@@ -6,7 +6,7 @@ use mathlib.Core.Option.{Option, none, some}
 use mathlib.Core.List.{List}
 use lib.ListN.{length, getD}
 use Rattle.terms.specs.Term.{Term, size}
-use Rattle.terms.specs.Run.{run}
+use Rattle.terms.specs.Run.{ADD, MUL, run}
 use Rattle.terms.specs.Held.{Fine, IsRun, Holds}
 use Rattle.search.specs.Match.{Bindings, unbound, match, put}
 use Rattle.search.specs.Line.{from, to, rewrite}
@@ -14,6 +14,7 @@ use Rattle.search.specs.Place.{subterm-at}
 use Rattle.search.specs.Span.{Pattern, Means, BoundWithin}
 use Rattle.search.specs.Coded.{law-of, direction-of}
 use Rattle.search.specs.declared.search.Law.{Law}
+use Rattle.search.specs.declared.search.Law.the-variants.{AddAssoc, AddComm, AddZeroRight, MulAssoc, MulOneLeft, MulOneRight, LeftDistrib, RightDistrib, ZeroMul, MulZero}
 use Rattle.search.specs.declared.search.Direction.{Direction}
 use Rattle.search.specs.declared.search.Spans.{Spans}
 use Rattle.search.specs.declared.search.Binding.{Binding}
@@ -44,6 +45,31 @@ Answers xs p q t Unbound = rewrite p q t ≡ none
 pub record BindsSide (p q xs : List ℕ) (at : ℕ) (r : Binding) : Type 0 where
   pub within : BoundWithin (length xs) r
   pub exact : (u v t : Term) → IsRun p u → Pattern u → IsRun q v → Pattern v → Holds xs at t → Answers xs u v t r
+
+-- the number that a run begins with where a law is bound: 0 where any may, 4100, which no run has, where none does
+abbrev pub first-forward : Law → ℕ
+first-forward AddAssoc = ADD
+first-forward AddComm = ADD
+first-forward AddZeroRight = 0
+first-forward MulAssoc = MUL
+first-forward MulOneLeft = 0
+first-forward MulOneRight = 0
+first-forward LeftDistrib = ADD
+first-forward RightDistrib = ADD
+first-forward ZeroMul = 4100
+first-forward MulZero = 4100
+
+abbrev pub first-back : Law → ℕ
+first-back AddAssoc = ADD
+first-back AddComm = ADD
+first-back AddZeroRight = ADD
+first-back MulAssoc = MUL
+first-back MulOneLeft = MUL
+first-back MulOneRight = MUL
+first-back LeftDistrib = MUL
+first-back RightDistrib = MUL
+first-back ZeroMul = MUL
+first-back MulZero = MUL
 
 -- of `first_of`: a term whose run begins with another number than n is not rewritten; if n is a letter of a law, each term is, to one
 -- with two nodes more

@@ -1,7 +1,7 @@
 -- The parts of a run that a law's letters stand for, and what they say of the terms there.
-use Prim.Native.Nat.{ℕ, _+_, _≤_, _<_}
+use Prim.Native.Nat.{ℕ, _+_, _-_, _≤_, _<_}
 use mathlib.Core.Path.{_≡_}
-use mathlib.Core.Bool.{cond}
+use mathlib.Core.Bool.{Bool, true, false, cond}
 use mathlib.Core.Option.{Option, none, some}
 use mathlib.Core.List.{List}
 use lib.Dec.{eqb}
@@ -57,6 +57,11 @@ Found xs Unbound (some σ) = ⊥
 abbrev pub BoundWithin : ℕ → Binding → Type 0
 BoundWithin n (Bound z) = Within n z
 BoundWithin n Unbound = Unit {0}
+
+-- letter x bound to the term from at to end, if it may be
+abbrev pub letter-met : Spans → ℕ → ℕ → ℕ → Bool → Binding
+letter-met z x at end true = Bound (with-span z x (record { at = at; len = end - at }))
+letter-met z x at end false = Unbound
 
 -- letter x meets the term whose run stands from at to end
 pub record Meets (xs : List ℕ) (z : Spans) (x at end : ℕ) (r : Binding) : Type 0 where

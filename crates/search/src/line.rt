@@ -1,8 +1,9 @@
 // A law at one place of a term: its letters bound there, and its line put together as a run in a buffer.
+ghost use mathlib.Core.Path.{_≡_};
 ghost use Prim.Native.Nat.{_≤_};
 ghost use lib.ListN.{length};
 ghost use Rattle.search.specs.Span.{Within};
-ghost use Rattle.search.specs.Bound.{BindsAll, BindsSide, Begins, BindsLaw, Misses};
+ghost use Rattle.search.specs.Bound.{BindsAll, BindsSide, first-forward, first-back, Begins, BindsLaw, Misses};
 ghost use Rattle.search.specs.Filled.{Fills};
 ghost use Rattle.search.specs.Spliced.{Finishes, Splices, Tries, Outgrows};
 ghost use Rattle.search.specs.declared.search.Binding.the-variants.{Bound};
@@ -51,37 +52,51 @@ fn bind_side(p: &[u32], q: &[u32], s: &[u32], at: usize) -> Binding
 
 const NONE: u32 = 4100;
 
-// For each law, forward and then back, the number that a run begins with where it is bound: 0 where any may, and NONE, which no run
-// has, where a letter of the side put in is always left unbound.
-const FIRST: [u32; 20] = [
-    ADD,
-    ADD,
-    ADD,
-    ADD,
-    0,
-    ADD,
-    MUL,
-    MUL,
-    0,
-    MUL,
-    0,
-    MUL,
-    ADD,
-    MUL,
-    ADD,
-    MUL,
-    NONE,
-    MUL,
-    NONE,
-    MUL,
-];
+// The number that a run begins with where a law is bound forward: 0 where any may, and NONE, which no run has, where a letter of the
+// right side is always left unbound.
+fn first_forward(law: Law) -> u32
+    ensures { λ r. ⌜ r ≡ first-forward law ⌝ }
+{
+    match law {
+        Law::AddAssoc => ADD,
+        Law::AddComm => ADD,
+        Law::AddZeroRight => 0,
+        Law::MulAssoc => MUL,
+        Law::MulOneLeft => 0,
+        Law::MulOneRight => 0,
+        Law::LeftDistrib => ADD,
+        Law::RightDistrib => ADD,
+        Law::ZeroMul => NONE,
+        Law::MulZero => NONE,
+    }
+}
+
+// The number that a run begins with where a law is bound back.
+fn first_back(law: Law) -> u32
+    ensures { λ r. ⌜ r ≡ first-back law ⌝ }
+{
+    match law {
+        Law::AddAssoc => ADD,
+        Law::AddComm => ADD,
+        Law::AddZeroRight => ADD,
+        Law::MulAssoc => MUL,
+        Law::MulOneLeft => MUL,
+        Law::MulOneRight => MUL,
+        Law::LeftDistrib => MUL,
+        Law::RightDistrib => MUL,
+        Law::ZeroMul => MUL,
+        Law::MulZero => MUL,
+    }
+}
 
 // The number that a run begins with where a law is bound.
 fn first_of(law: Law, direction: Direction) -> u32
     ensures { λ r. ⌜ Begins law direction r ⌝ }
 {
-    let n = 2 * search::law_number(law) + search::direction_number(direction);
-    FIRST[n as usize]
+    match direction {
+        Direction::Forward => first_forward(law),
+        Direction::Back => first_back(law),
+    }
 }
 
 // Whether the number at `at` tells that a law is not bound there.

@@ -4,7 +4,7 @@ ghost use mathlib.Core.List.{_++_};
 ghost use Prim.Native.Nat.{_+_, _≤_, _<_};
 ghost use lib.ListN.{length, take};
 ghost use Rattle.search.specs.Coded.{law-of, law-number, numbered-law, direction-number, numbered-direction, Row};
-ghost use Rattle.search.specs.Span.{span-of, with-span, no-spans, Within, Meets, Matches};
+ghost use Rattle.search.specs.Span.{span-of, with-span, no-spans, Within, letter-met, Meets, Matches};
 ghost use Rattle.search.specs.Directly.{BindsSides, TakesFirst, Directs};
 use terms::term;
 
@@ -178,22 +178,18 @@ fn with_span(z: Spans, x: u32, v: Span) -> Spans
     Spans { a, b, c: v }
 }
 
-// A letter of a law meets the term from `at` to `end`: it is bound to it, or was bound to an equal one.
-fn meet_letter(s: &[u32], z: Spans, x: u32, at: usize, end: usize) -> Binding
+// Whether a letter of a law may stand for the term from `at` to `end`: it is not bound, or bound to an equal one.
+fn may_meet(s: &[u32], z: Spans, x: u32, at: usize, end: usize) -> bool
     requires { ⌜ (x < 3) × (at ≤ end) × (end ≤ length (now s)) × Within (length (now s)) z ⌝ }
-    ensures { λ r. ⌜ Meets (now (s .entry)) z x at end r ⌝ }
+    ensures { λ r. ⌜ Meets (now (s .entry)) z x at end (letter-met z x at end r) ⌝ }
 {
     let old = span_of(z, x);
     let from = old.at;
     let len = old.len;
     if len == 0 {
-        let new = Span { at, len: end - at };
-        return Binding::Bound(with_span(z, x, new));
+        return true;
     }
-    if term::equal(&s[from..from + len], &s[at..end]) {
-        return Binding::Bound(z);
-    }
-    Binding::Unbound
+    term::equal(&s[from..from + len], &s[at..end])
 }
 
 // Matches the pattern whose run is `p` against the term whose run starts at `at`, from what the letters stand for already.
@@ -209,10 +205,14 @@ pub fn bind(p: &[u32], s: &[u32], at: usize, z: Spans) -> Binding
         k += 1;
         if x < 3 {
             let end = term::end_of(s, i);
-            let Binding::Bound(more) = meet_letter(s, bound, x, i, end) else {
+            if !may_meet(s, bound, x, i, end) {
                 return Binding::Unbound;
+            }
+            let new = Span {
+                at: i,
+                len: end - i,
             };
-            bound = more;
+            bound = with_span(bound, x, new);
             i = end;
         } else {
             if s.len() <= i {

@@ -1,42 +1,28 @@
--- `first_of` meets its contract: the table has a number for each law and direction.
-use Rattle.search.proofs.Firsts.{first-begins}
+-- `first_of` meets its contract: each law has a number in either direction.
+use Rattle.search.proofs.Firsts.{forward-begins, back-begins}
 use borrow.Author.Needs.{needs}
 use Rattle.search.proofs.line.first_of.Statement.{statement}
 use Rattle.search.proofs.line.first_of.Tie as tie
 
-law-number-requires : tie.Need-law-number-requires
-law-number-requires c κs = search needs
+enum-told : tie.Need-enum-told
+enum-told c = search needs
 
-mul-n : tie.Need-mul-n
-mul-n c = search needs
+first-forward-requires : tie.Need-first-forward-requires
+first-forward-requires c κs = search needs
 
-direction-number-requires : tie.Need-direction-number-requires
-direction-number-requires c κs = search needs
+enum-told-2 : tie.Need-enum-told-2
+enum-told-2 c = search needs
 
-add-n : tie.Need-add-n
-add-n c = search needs
-
-cast-result : tie.Need-cast-result
-cast-result c = search needs
-
-mul-result : tie.Need-mul-result
-mul-result c = search needs
-
-array-read-result : tie.Need-array-read-result
-array-read-result c = search needs
+first-back-requires : tie.Need-first-back-requires
+first-back-requires c κs = search needs
 
 returns : tie.Need-returns
-returns c = search (first-begins, needs)
+returns c = search (forward-begins, needs)
+
+returns-2 : tie.Need-returns-2
+returns-2 c = search (back-begins, needs)
 
 pub first-of-spec : {M : Type 1} → statement M
 first-of-spec =
     tie.close
-    (tie.spec
-    law-number-requires
-    mul-n
-    direction-number-requires
-    add-n
-    cast-result
-    mul-result
-    array-read-result
-    returns)
+    (tie.spec enum-told first-forward-requires enum-told-2 first-back-requires returns returns-2)

@@ -1,6 +1,7 @@
 -- `bind` meets its contract. The loop's invariant: the patterns from `k` on, matched in turn with the terms from `i` on, give what the whole match gives.
 use Prim.Native.Nat.{_≤_, _-_}
 use lib.ListN.{length}
+use borrow.Author.Tests.{not-true, not-false}
 use Rattle.search.specs.Span.{Within, Matching}
 use Rattle.search.proofs.Matching.{Pending, matching-starts, letter-bound, end-within, bound-within, letter-unbound, node-matched, node-unmatched, node-absent, matching-ends}
 use borrow.Author.Needs.{needs}
@@ -28,32 +29,38 @@ add-k c = search needs
 end-of-requires : tie.Need-end-of-requires Inv-loop μ-loop
 end-of-requires c κs = search needs
 
-meet-letter-requires : tie.Need-meet-letter-requires Inv-loop μ-loop
-meet-letter-requires c κs = search (end-within, needs)
-
-enum-known-more : tie.Need-enum-known-more Inv-loop μ-loop
-enum-known-more c = search needs
-
-enum-told : tie.Need-enum-told Inv-loop μ-loop
-enum-told c = search needs
+may-meet-requires : tie.Need-may-meet-requires Inv-loop μ-loop
+may-meet-requires c κs = search (end-within, needs)
 
 returns : tie.Need-returns Inv-loop μ-loop
-returns c = search (letter-unbound, needs)
+returns c = search (letter-unbound, not-true, needs)
+
+sub-t17 : tie.Need-sub-t17 Inv-loop μ-loop
+sub-t17 c = search (end-within, needs)
+
+with-span-requires : tie.Need-with-span-requires Inv-loop μ-loop
+with-span-requires c κs = search needs
 
 loop-less : tie.Need-loop-less Inv-loop μ-loop
 loop-less c = search needs
 
 loop-again : tie.Need-loop-again Inv-loop μ-loop
-loop-again c = search (letter-bound, bound-within, end-within, needs)
+loop-again c =
+    let q = not-false (c .before .before .may-meet .result) (c .before .if2 .left) in (
+      search needs,
+      search (end-within, needs),
+      bound-within _ _ _ _ _ _ _ (c .before .before .may-meet .ensures) q (c .with-span .ensures),
+      search (letter-bound, q, needs),
+    )
 
 returns-2 : tie.Need-returns-2 Inv-loop μ-loop
 returns-2 c = search (node-absent, needs)
 
-mul-if3 : tie.Need-mul-if3 Inv-loop μ-loop
-mul-if3 c = search needs
+mul-if4 : tie.Need-mul-if4 Inv-loop μ-loop
+mul-if4 c = search needs
 
-shared-slice-read-if3 : tie.Need-shared-slice-read-if3 Inv-loop μ-loop
-shared-slice-read-if3 c = search needs
+shared-slice-read-if4 : tie.Need-shared-slice-read-if4 Inv-loop μ-loop
+shared-slice-read-if4 c = search needs
 
 returns-3 : tie.Need-returns-3 Inv-loop μ-loop
 returns-3 c = search (node-unmatched, needs)
@@ -81,15 +88,15 @@ bind-spec =
     shared-slice-read-x
     add-k
     end-of-requires
-    meet-letter-requires
-    enum-known-more
-    enum-told
+    may-meet-requires
     returns
+    sub-t17
+    with-span-requires
     loop-less
     loop-again
     returns-2
-    mul-if3
-    shared-slice-read-if3
+    mul-if4
+    shared-slice-read-if4
     returns-3
     add-i
     loop-less-2

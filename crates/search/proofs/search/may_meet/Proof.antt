@@ -1,19 +1,13 @@
--- `meet_letter` meets its contract, by what comparing the old part with the new one tells.
+-- `may_meet` meets its contract, by what comparing the old part with the new one tells.
 use native.Mathlib.Omega.{arith}
 use Rattle.search.proofs.Spans.{old-within}
-use Rattle.search.proofs.Meeting.{meets-new, meets-same, meets-other}
+use Rattle.search.proofs.Meeting.{meets-new, meets-old}
 use borrow.Author.Needs.{needs}
-use Rattle.search.proofs.search.meet_letter.Statement.{statement}
-use Rattle.search.proofs.search.meet_letter.Tie as tie
+use Rattle.search.proofs.search.may_meet.Statement.{statement}
+use Rattle.search.proofs.search.may_meet.Tie as tie
 
 span-of-requires : tie.Need-span-of-requires
 span-of-requires c κs = search needs
-
-sub-t11 : tie.Need-sub-t11
-sub-t11 c = search needs
-
-with-span-requires : tie.Need-with-span-requires
-with-span-requires c κs = search needs
 
 returns : tie.Need-returns
 returns c = search (meets-new, needs)
@@ -49,18 +43,13 @@ equal-requires : tie.Need-equal-requires
 equal-requires c κs = search needs
 
 returns-2 : tie.Need-returns-2
-returns-2 c = search (meets-same, needs)
+returns-2 c = search (meets-old, needs)
 
-returns-3 : tie.Need-returns-3
-returns-3 c = search (meets-other, needs)
-
-pub meet-letter-spec : {M : Type 1} → statement M
-meet-letter-spec =
+pub may-meet-spec : {M : Type 1} → statement M
+may-meet-spec =
     tie.close
     (tie.spec
     span-of-requires
-    sub-t11
-    with-span-requires
     returns
     add-equal
     mul-equal
@@ -72,5 +61,4 @@ meet-letter-spec =
     part-equal-start-2
     part-equal-end-2
     equal-requires
-    returns-2
-    returns-3)
+    returns-2)
