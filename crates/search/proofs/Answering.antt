@@ -1,9 +1,11 @@
 -- The whole search: a direct match, or no slot for left, or left noted and then what `explore` answers.
-use Prim.Native.Nat.{ℕ, _<_}
+use Prim.Native.Nat.{ℕ, _≤_, _<_}
 use native.Mathlib.Omega.{arith}
 use mathlib.Core.Path.{_≡_, sym, ap, _∙_}
 use mathlib.Core.List.{List, [], _∷_}
 use lib.ListN.{length}
+use Rattle.terms.specs.Term.{Term, size}
+use Rattle.terms.specs.Held.{IsRun}
 use Rattle.terms.specs.Theory.Held.{size-of}
 use Rattle.search.specs.Law.{semiring}
 use Rattle.search.specs.Line.{results}
@@ -37,9 +39,19 @@ module _ {left right : List ℕ} {m : Limits} {f : found.Direct} (D : Directs le
     pub searches-long : {ws ws′ : List ℕ} → 31 < length left → Searches left right m ws ws′ Full
     searches-long h = record { exact = λ s t hs ht p q k. absurd (omega (arith, size-of hs)) }
 
-    pub searches : {slots : ℕ} {ws ws₁ ws′ : List ℕ} {r : Outcome} → slots ≡ slots-of (length ws) → Starts ws₁ left → Explores right m slots ws₁ ws′ r → Searches left right m ws ws′ r
-    searches c S E =
-        record {
-          exact = λ s t hs ht p q k.
-              rw (search-begun (limits-of m) s t (sym (D .exact s t hs ht p q) ∙ ap direct-name e), ← c) (E .exact s t (S .slots s hs) ht k);
-        }
+    module _ {slots : ℕ} {ws ws₁ ws′ : List ℕ} {r : Outcome} (c : slots ≡ slots-of (length ws)) (S : Starts ws₁ left) where
+      -- left and the limit are small enough for the room that there is
+      searches : {most : ℕ} → ((s : Term) → IsRun left s → size s ≤ 31 → m .size ≤ 31 → (size s ≤ most) × (m .size ≤ most)) → Explores right m slots most ws₁ ws′ r
+          → Searches left right m ws ws′ r
+      searches fits E =
+          record {
+            exact = λ s t hs ht p q k.
+                let (i, j) = fits s hs p k in
+                rw (search-begun (limits-of m) s t (sym (D .exact s t hs ht p q) ∙ ap direct-name e), ← c) (E .exact s t (S .slots s hs) ht i j);
+          }
+
+      pub searches-small : length left ≤ 7 → m .size ≤ 7 → Explores right m slots 7 ws₁ ws′ r → Searches left right m ws ws′ r
+      searches-small h j = searches (λ s hs p k. (omega (arith, size-of hs), j))
+
+      pub searches-large : Explores right m slots 31 ws₁ ws′ r → Searches left right m ws ws′ r
+      searches-large = searches (λ s hs p k. (p, k))

@@ -16,7 +16,7 @@ use Rattle.search.specs.Coded.{law-at, law-of, direction-of, numbered-la
 use Rattle.search.specs.Bound.{BindsLaw}
 use Rattle.search.specs.Spliced.{Tries, Outgrows}
 use Rattle.search.specs.Ordered.{none, unknown}
-use Rattle.search.specs.Resulted.{tried-by, Adds, Resulted}
+use Rattle.search.specs.Resulted.{tried-by, most-nodes, Adds, Resulted}
 use Rattle.search.specs.Theory.Positions.{gather-snoc, gather-map, lines-in-order}
 use Rattle.search.specs.declared.search.Law.{Law}
 use Rattle.search.specs.declared.search.Direction.{Direction}
@@ -92,7 +92,7 @@ place-lines i t = lines-at semiring t i
 
 module _ {ws : List ℕ} {noted : ℕ} {xs : List ℕ} {room deep parent : ℕ} {res order : List ℕ} (i : ℕ) {res₁ order₁ : List ℕ} {r₁ : ℕ}
     (A : Adds ws noted xs room deep parent (in-turn place-lines i) (20 * i) res order 0 res₁ order₁ r₁) where
-  pub places-all : length xs ≤ 31 → i ≤ length xs → length xs ≤ i → Resulted ws noted xs parent room deep res₁ order₁ r₁
+  pub places-all : length xs ≤ most-nodes order₁ → i ≤ length xs → length xs ≤ i → Resulted ws noted xs parent room deep res₁ order₁ r₁
   unfolding results unknown
   places-all short low high =
       record {
@@ -104,5 +104,5 @@ module _ {ws : List ℕ} {noted : ℕ} {xs : List ℕ} {room deep parent : ℕ} 
       }
 
 -- no more is asked where a run or a limit is too large
-pub resulted-never : {ws : List ℕ} {noted : ℕ} {xs : List ℕ} {parent room deep : ℕ} (res order : List ℕ) → ((t : Term) → IsRun xs t → size t ≤ 31 → room ≤ 31 → ⊥) → Resulted ws noted xs parent room deep res order 0
+pub resulted-never : {ws : List ℕ} {noted : ℕ} {xs : List ℕ} {parent room deep : ℕ} (res order : List ℕ) → ((t : Term) → IsRun xs t → size t ≤ most-nodes order → room ≤ 31 → ⊥) → Resulted ws noted xs parent room deep res order 0
 resulted-never res order f = record { few = omega arith; exact = λ ns t m S c h k q e d. absurd (f t h k q) }

@@ -25,7 +25,7 @@ use Rattle.search.specs.declared.bounded_search.Taken.the-variants as ta
 pub opens : (ws : List ℕ) (noted i : ℕ) (m : Limits) (xs : List ℕ) → Shows ws i xs → (res order : List ℕ) (r : ℕ) → Resulted ws noted xs i (m .size) (m .depth) res order r
     → Opens ws noted i m res order r
 opens ws noted i m xs W res order r R =
-    record { few = R .few; exact = λ ns t S c s k. R .exact ns t (limits-of m) S c (W .exact t s) (s .small) k refl refl }
+    record { few = R .few; exact = λ ns t S c s p k. R .exact ns t (limits-of m) S c (W .exact t s) p k refl refl }
 
 module _ (ws : List ℕ) (count slots : ℕ) (res : List ℕ) (k d : ℕ) (right : List ℕ) where
   pub takes-full : slots ≤ count → Takes ws count slots res k d right Full ws

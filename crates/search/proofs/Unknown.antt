@@ -2,10 +2,12 @@
 use Prim.Native.Nat.{ℕ, suc, _+_, _≤_, _<_}
 use native.Mathlib.Omega.{arith}
 use mathlib.Core.Path.{_≡_, refl, sym, ap, _∙_}
+use mathlib.Core.Logic.{⊎-elim}
 use mathlib.Core.Bool.{Bool, true, false}
 use mathlib.Core.List.{List, [], _∷_, _++_}
 use lib.Dec.{T}
 use lib.ListN.{length}
+use Rattle.terms.specs.Lists.{_∈_, here, there, cons-cases}
 use Rattle.terms.specs.Term.{Term, same}
 use Rattle.terms.specs.Sort.{lost, insert, insert-all, repeat, before, Below}
 use Rattle.terms.specs.Theory.Order.{irreflexive, cases}
@@ -43,6 +45,15 @@ module _ (ns : List Noted) where
           → elim b [ true ↦ unknown ns (xs ++ ys) | false ↦ x ∷ unknown ns (xs ++ ys) ] ≡ elim b [ true ↦ unknown ns xs | false ↦ x ∷ unknown ns xs ] ++ unknown ns ys
       go true e = e
       go false e = ap (λ l. x ∷ l) e
+
+  pub unknown-member : (xs : List Line) {z : Line} → z ∈ unknown ns xs → z ∈ xs
+  unfolding unknown
+  unknown-member [] k = k
+  unknown-member (x ∷ xs) {z} k = go (is-noted (x .result) ns) (unknown-member xs) k
+    where
+      go : (b : Bool) → (z ∈ unknown ns xs → z ∈ xs) → z ∈ elim b [ true ↦ unknown ns xs | false ↦ x ∷ unknown ns xs ] → z ∈ x ∷ xs
+      go true f k = there (f k)
+      go false f k = ⊎-elim here (λ n. there (f n)) (cons-cases k)
 
   -- in term order
 

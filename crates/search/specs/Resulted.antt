@@ -1,6 +1,6 @@
 -- The results of an opened term: its lines are tried place by place and law by law, and each result that is not noted is put among those
 -- in term order.
-use Prim.Native.Nat.{ℕ, _+_, _≤_}
+use Prim.Native.Nat.{ℕ, _+_, _/_, _≤_}
 use mathlib.Core.Path.{_≡_}
 use mathlib.Core.Bool.{Bool}
 use mathlib.Core.List.{List, map}
@@ -21,6 +21,10 @@ use Rattle.search.specs.declared.bounded_search.Step.{Step}
 abbrev pub tried-by : Step → Term → List Line
 tried-by s t = map (placed t (s .place)) (at-root (subterm-at t (s .place)) (law-of (s .law)) (direction-of (s .direction)))
 
+-- how many nodes a term may have for all its lines, twenty at each place, to have room in `order`
+abbrev pub most-nodes : List ℕ → ℕ
+most-nodes order = length order / 20
+
 -- what the functions promise
 
 -- of `too_deep`
@@ -37,6 +41,6 @@ pub record Adds (ws : List ℕ) (noted : ℕ) (xs : List ℕ) (room deep from : 
 
 -- of `results_of`
 pub record Resulted (ws : List ℕ) (noted : ℕ) (xs : List ℕ) (from room deep : ℕ) (res order : List ℕ) (r : ℕ) : Type 0 where
-  pub few : r ≤ 620
-  pub exact : (ns : List Noted) (t : Term) (m : Limits) → Slots ws ns → length ns ≡ noted → IsRun xs t → size t ≤ 31 → room ≤ 31 → m .size ≡ room → m .depth ≡ deep
+  pub few : r ≤ length order
+  pub exact : (ns : List Noted) (t : Term) (m : Limits) → Slots ws ns → length ns ≡ noted → IsRun xs t → size t ≤ most-nodes order → room ≤ 31 → m .size ≡ room → m .depth ≡ deep
       → Ordered t from res r (take r order) (unknown ns (results semiring m t))

@@ -15,6 +15,7 @@ use Rattle.search.specs.Coded.{name-of}
 use Rattle.search.specs.Slots.{Spells, noted-at, Slots}
 pub use Rattle.search.specs.Index.{slots-of}
 use Rattle.search.specs.Ordered.{Result, Ordered, unknown}
+use Rattle.search.specs.Resulted.{most-nodes}
 use Rattle.search.specs.declared.bounded_search.Limits.{Limits}
 use Rattle.search.specs.declared.bounded_search.Taken.{Taken}
 use Rattle.search.specs.declared.bounded_search.Taken.the-variants as taken
@@ -28,8 +29,8 @@ limits-of m = record { steps = m .steps; size = m .size; depth = m .depth; nodes
 
 -- of `open_slot`
 pub record Opens (ws : List ℕ) (noted i : ℕ) (m : Limits) (res order : List ℕ) (r : ℕ) : Type 0 where
-  pub few : r ≤ 620
-  pub exact : (ns : List Noted) (t : Term) → Slots ws ns → length ns ≡ noted → Spells ws i t → m .size ≤ 31
+  pub few : r ≤ length order
+  pub exact : (ns : List Noted) (t : Term) → Slots ws ns → length ns ≡ noted → Spells ws i t → size t ≤ most-nodes order → m .size ≤ 31
       → Ordered t i res r (take r order) (unknown ns (results semiring (limits-of m) t))
 
 -- a slot is left for what is noted
@@ -67,9 +68,9 @@ Answers (Proved e n) slots ws s t o = Arrives slots ws s e n o
 Answers (Unproved e) slots ws s t o = (n : ℕ) × (n ≤ slots) × (o ≡ unproved e n)
 Answers Full slots ws s t o = slots < search.noted o
 
--- of `explore`
-pub record Explores (right : List ℕ) (m : Limits) (slots : ℕ) (ws ws′ : List ℕ) (r : Outcome) : Type 0 where
-  pub exact : (s t : Term) → Slots ws (record { term = s; trail = [] } ∷ []) → IsRun right t → m .size ≤ 31
+-- of `explore`, which has room for the results of terms of at most `most` nodes
+pub record Explores (right : List ℕ) (m : Limits) (slots most : ℕ) (ws ws′ : List ℕ) (r : Outcome) : Type 0 where
+  pub exact : (s t : Term) → Slots ws (record { term = s; trail = [] } ∷ []) → IsRun right t → size s ≤ most → m .size ≤ most
       → Answers r slots ws′ s t (begun semiring (limits-of m) s t)
 
 -- of `search_bounded_rewrite`

@@ -7,6 +7,7 @@ ghost use lib.ListN.{length};
 ghost use lib.Seq.{sets};
 ghost use Rattle.search.specs.Origins.{numbers, origin-at};
 ghost use Rattle.search.specs.Slots.{SLOT, Finds, Writes, Enters, Starts, Notes};
+ghost use Rattle.search.specs.Resulted.{most-nodes};
 ghost use Rattle.search.specs.Searched.{Opens, Takes, Explores, Searches};
 use crate::index;
 use crate::path;
@@ -158,7 +159,7 @@ fn open_slot(
     res: &mut [u32],
     order: &mut [u32],
 ) -> usize
-    requires { ⌜ (SLOT * noted ≤ length (now ws)) × (noted ≤ 65535) × (i < 65535) × (SLOT * 620 ≤ length (now res)) × (620 ≤ length (now order)) ⌝ }
+    requires { ⌜ (SLOT * noted ≤ length (now ws)) × (noted ≤ 65535) × (i < 65535) × (SLOT * length (now order) ≤ length (now res)) × (length (now order) ≤ 620) ⌝ }
     ensures { λ r. ⌜ Opens (now (ws .entry)) noted i limits (now (res .exit)) (now (order .exit)) r ⌝ }
 {
     let k = i as u32;
@@ -214,7 +215,7 @@ pub enum Outcome {
 }
 
 // Opens the noted terms in turn, from the first one on, and notes their results. These are not noted when their term is opened, and
-// no two are the same, so that each is new in its turn.
+// no two are the same, so that each is new in its turn. The promise is for terms whose lines have room in `order`.
 fn explore(
     right: &[u32],
     limits: Limits,
@@ -223,8 +224,8 @@ fn explore(
     res: &mut [u32],
     order: &mut [u32],
 ) -> Outcome
-    requires { ⌜ (0 < slots) × (slots ≤ 65535) × (SLOT * slots ≤ length (now ws)) × (SLOT * 620 ≤ length (now res)) × (620 ≤ length (now order)) × (limits .steps ≤ 4294967295) ⌝ }
-    ensures { λ r. ⌜ Explores (now (right .entry)) limits slots (now (ws .entry)) (now (ws .exit)) r ⌝ }
+    requires { ⌜ (0 < slots) × (slots ≤ 65535) × (SLOT * slots ≤ length (now ws)) × (SLOT * length (now order) ≤ length (now res)) × (length (now order) ≤ 620) × (limits .steps ≤ 4294967295) ⌝ }
+    ensures { λ r. ⌜ Explores (now (right .entry)) limits slots (most-nodes (now (order .entry))) (now (ws .entry)) (now (ws .exit)) r ⌝ }
 {
     let mut outcome = Outcome::Unproved(0);
     let mut noted = 1;
@@ -260,6 +261,27 @@ fn explore(
     outcome
 }
 
+// Explores among terms of at most 7 nodes. Each has at most 140 results, of 40 numbers: one for each place, each law and each direction.
+// The buffers are filled with zeros first, and to fill larger ones takes as long as a short search.
+fn explore_small(right: &[u32], limits: Limits, ws: &mut [u32], slots: usize) -> Outcome
+    requires { ⌜ (0 < slots) × (slots ≤ 65535) × (SLOT * slots ≤ length (now ws)) × (limits .steps ≤ 4294967295) ⌝ }
+    ensures { λ r. ⌜ Explores (now (right .entry)) limits slots 7 (now (ws .entry)) (now (ws .exit)) r ⌝ }
+{
+    let mut res = [0u32; 5600];
+    let mut order = [0u32; 140];
+    explore(right, limits, ws, slots, &mut res, &mut order)
+}
+
+// Explores among terms of at most 31 nodes. Each has at most 620 results.
+fn explore_large(right: &[u32], limits: Limits, ws: &mut [u32], slots: usize) -> Outcome
+    requires { ⌜ (0 < slots) × (slots ≤ 65535) × (SLOT * slots ≤ length (now ws)) × (limits .steps ≤ 4294967295) ⌝ }
+    ensures { λ r. ⌜ Explores (now (right .entry)) limits slots 31 (now (ws .entry)) (now (ws .exit)) r ⌝ }
+{
+    let mut res = [0u32; 24800];
+    let mut order = [0u32; 620];
+    explore(right, limits, ws, slots, &mut res, &mut order)
+}
+
 // Searches for a path from left to right. A direct match needs no slot; otherwise left is noted first. Results of more than 31 nodes
 // have no room in a slot: the promise is for limits whose size is at most that.
 pub fn search_bounded_rewrite(
@@ -283,8 +305,10 @@ pub fn search_bounded_rewrite(
         return Outcome::Full;
     }
     note_start(ws, left);
-    // 620 results, 40 numbers each: one for each of 31 places, each law and each direction.
-    let mut res = [0u32; 24800];
-    let mut order = [0u32; 620];
-    explore(right, limits, ws, slots, &mut res, &mut order)
+    if left.len() <= 7 {
+        if limits.size <= 7 {
+            return explore_small(right, limits, ws, slots);
+        }
+    }
+    explore_large(right, limits, ws, slots)
 }

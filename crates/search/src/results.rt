@@ -151,8 +151,8 @@ fn lines_at(
     kept
 }
 
-// The results of the term of a run that keep size and depth and are not noted, in term order: `order` names their slots. At most 620
-// lines are tried, one for each of 31 places, each law and each direction.
+// The results of the term of a run that keep size and depth and are not noted, in term order: `order` names their slots. Twenty lines
+// are tried at each place, one for each law and each direction. A term of so many places that they may have no room is not tried.
 pub fn results_of(
     ws: &[u32],
     noted: usize,
@@ -163,10 +163,11 @@ pub fn results_of(
     res: &mut [u32],
     order: &mut [u32],
 ) -> usize
-    requires { ⌜ (SLOT * noted ≤ length (now ws)) × (noted ≤ 65535) × (SLOT * 620 ≤ length (now res)) × (620 ≤ length (now order)) ⌝ }
+    requires { ⌜ (SLOT * noted ≤ length (now ws)) × (noted ≤ 65535) × (SLOT * length (now order) ≤ length (now res)) × (length (now order) ≤ 620) ⌝ }
     ensures { λ r. ⌜ Resulted (now (ws .entry)) noted (now (s .entry)) parent size depth (now (res .exit)) (now (order .exit)) r ⌝ }
 {
-    if 31 < s.len() {
+    let most = order.len() / 20;
+    if most < s.len() {
         return 0;
     }
     if 31 < size {

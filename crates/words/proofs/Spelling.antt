@@ -1,6 +1,5 @@
 -- Writing words as a run: one number more, one word more.
-use Prim.Native.Nat.{ℕ, zero, suc, _+_, _-_, _%_, _^_, _<_, _≤_}
-use native.Mathlib.Nat.{not-suc-le-zero, le-of-suc-le-suc}
+use Prim.Native.Nat.{ℕ, suc, _+_, _-_, _%_, _^_, _<_, _≤_}
 use native.Mathlib.Numerals.{add-one}
 use native.Mathlib.Omega.{arith}
 use mathlib.Core.Path.{_≡_, refl, sym, ap, _∙_}
@@ -8,16 +7,12 @@ use mathlib.Core.List.{List, [], _∷_, _++_, map, flatMap, map-append, append-n
 use lib.ListN.{length, take, drop, getD, set, length-append, length-drop, length-map}
 use lib.Seq.{take-suc, take-suc-set, drop-set-lt, take-all, take-append-add, drop-append-add, drop-drop, length-take-le, take-length, split-at}
 use borrow.Rule.Slice.PartMut.{midOf, putMid, same-len-mid}
-use Rattle.terms.specs.Lists.{_∈_, here, there, in-map, in-cast, only-one}
+use Rattle.terms.specs.Lists.{here, in-map, in-cast, only-one}
+use Rattle.terms.specs.Theory.Members.{getD-in}
 use Rattle.words.specs.Words.{Word}
 use Rattle.words.specs.Spelled.{spelled-word, spelled, word-at, words-at}
 use Rattle.words.specs.Sort.{Front, Lettered, Spells}
 use Rattle.words.proofs.Parts.{end-lent, end-back}
-
-getD-in : (xs : List ℕ) (i : ℕ) → i < length xs → getD xs i 0 ∈ xs
-getD-in [] i h = absurd (not-suc-le-zero h)
-getD-in (x ∷ xs) zero h = here refl
-getD-in (x ∷ xs) (suc i) h = there (getD-in xs i (le-of-suc-le-suc h))
 
 spelled-append : (us vs : List Word) → spelled (us ++ vs) ≡ spelled us ++ spelled vs
 unfolding spelled flatMap
@@ -51,7 +46,7 @@ module _ (w : Word) (out : List ℕ) where
         record {
           rest = drop-set-lt (length w + 1) out′ i x (omega arith) ∙ l .rest;
           letters = λ f.
-              let s : x ≡ suc (getD w i 0) = omega (arith, f w (here refl) (getD w i 0) (getD-in w i h)) in
+              let s : x ≡ suc (getD w i 0) = omega (arith, f w (here refl) (getD w i 0) (getD-in 0 w i h)) in
               rw (add-one, take-suc-set out′ i x (omega arith), take-suc w i 0 h, map-append, l .letters f, s);
         }
 
@@ -115,7 +110,7 @@ module _ (ws order out : List ℕ) where
           same = same-len-mid n (length out′ - n) out′ part l ∙ s .same;
           front = λ f fits.
               let g = s .front f fits in
-              let small : Lettered (v ∷ []) = λ u m x y. f u (in-cast (only-one m) (in-map (word-at ws) (getD-in order i h))) x y in
+              let small : Lettered (v ∷ []) = λ u m x y. f u (in-cast (only-one m) (in-map (word-at ws) (getD-in 0 order i h))) x y in
               let room : length (spelled (v ∷ [])) ≤ length (drop n out′) = omega (arith, room-for ws order i h, g .size, s .same, length-drop n out′) in
               rw (end-back out′ n part, add-one, take-suc order i 0 h, map-append, spelled-append)
               (front-then (spelled (words-at ws (take i order))) (spelled (v ∷ [])) out out′ part n r (omega (arith, s .within, s .same)) g (q .exact small room));

@@ -1,10 +1,11 @@
 -- `explore` meets its contract. The outer loop's invariant: the search goes on from the `i`-th of `noted` terms. The inner loop's: of the
 -- term that is open, the first `j` results are taken.
-use Prim.Native.Nat.{_≤_, _<_, _+_, _-_, _*_}
+use Prim.Native.Nat.{_≤_, _<_, _+_, _-_, _*_, _/_}
 use native.Mathlib.Omega.{arith}
-use mathlib.Core.Path.{_≡_, refl, _∙_}
+use mathlib.Core.Path.{_≡_, refl, sym, ap, _∙_}
 use lib.ListN.{length}
 use Rattle.search.specs.Slots.{distance-of}
+use Rattle.search.specs.Resulted.{most-nodes}
 use Rattle.search.specs.declared.bounded_search.Outcome.the-variants.{Unproved}
 use Rattle.search.proofs.Searching.{Standing, Opened, Progress, starts, ends, ends-limit, ends-far, opened, progress-noted, ends-proved, ends-full, all-taken}
 use borrow.Author.Needs.{needs}
@@ -22,7 +23,7 @@ abbrev μ-loop : tie.MeasureT-loop
 abbrev Inv-outer : tie.InvT-outer
 Inv-outer right limits ws₀ slots res₀ order₀ outcome₀ noted₀ i₀ ws res order outcome noted i =
     (i ≤ noted) × (noted ≤ slots) × (length ws ≡ length ws₀) × (length res ≡ length res₀) × (length order ≡ length order₀) × (outcome ≡ Unproved i)
-    × Standing right limits ws₀ ws noted i
+    × Standing right limits (most-nodes order₀) ws₀ ws noted i
 
 abbrev μ-outer : tie.MeasureT-outer
 μ-outer right limits ws₀ slots res₀ order₀ outcome₀ noted₀ i₀ ws res order outcome noted i = slots - i
@@ -35,21 +36,22 @@ module _ (c : tie.At-loop Inv-loop μ-loop Inv-outer μ-outer) where
       let a = b .before .before .before .before .before .args in
       let e = s .open-slot in
       let o = b .outer in
-      Opened (a .right .now) (a .limits) (a .ws .now) (o .ws) (o .noted) (o .i) (distance-of (o .ws) (o .i)) (e .last .1 .1 .1 .1 .0) (e .last .1 .1 .1 .1 .1 .0) (e .result)
+      Opened (a .right .now) (a .limits) (most-nodes (a .order .now)) (a .ws .now) (o .ws) (o .noted) (o .i) (distance-of (o .ws) (o .i)) (e .last .1 .1 .1 .1 .0) (e .last .1 .1 .1 .1 .1 .0) (e .result)
   opened-here =
       let s = c .before .before .before .before .before in
       let far = s .before .before .before .before in
       let limit = far .before .before .before in
       let b = limit .before .before in
       let o = b .before .outer in
-      opened (o .inv .6) (o .inv .1) (b .outer-test .taken) (omega (arith, limit .if1 .left)) (omega (arith, far .if2 .left)) (s .open-slot .ensures)
+      let e = s .open-slot in
+      let p = b .before .before .before .before .before .before .pre in
+      opened (o .inv .6) (o .inv .1) (b .outer-test .taken) (omega (arith, limit .if1 .left)) (omega (arith, far .if2 .left))
+      (omega (arith, p .4))
+      (ap (λ n. n / 20) (sym (e .kept .1 .1 .1 .1 .1 .0 ∙ o .inv .4)))
+      (e .ensures)
 
   room : let e = c .before .before .before .before .before .open-slot in e .result ≤ length (e .last .1 .1 .1 .1 .1 .0)
-  room =
-      let s = c .before .before .before .before .before in
-      let b = s .before .before .before .before .before .before .before .before .before .before in
-      let e = s .open-slot in
-      omega (arith, e .ensures .few, e .kept .1 .1 .1 .1 .1 .0, b .outer .inv .4, b .before .before .before .before .before .pre .4)
+  room = c .before .before .before .before .before .open-slot .ensures .few
 
 outer-holds : tie.Need-outer-holds Inv-loop μ-loop Inv-outer μ-outer
 outer-holds c = search (starts, needs)

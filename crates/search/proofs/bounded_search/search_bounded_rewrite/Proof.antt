@@ -1,5 +1,5 @@
 -- `search_bounded_rewrite` meets its contract: a law for each way out.
-use Rattle.search.proofs.Answering.{searches-direct, searches-none, searches-long, searches}
+use Rattle.search.proofs.Answering.{searches-direct, searches-none, searches-long, searches-small, searches-large}
 use borrow.Author.Needs.{needs}
 use Rattle.search.proofs.bounded_search.search_bounded_rewrite.Statement.{statement}
 use Rattle.search.proofs.bounded_search.search_bounded_rewrite.Tie as tie
@@ -28,20 +28,23 @@ returns-3 c = search (searches-long, needs)
 note-start-requires : tie.Need-note-start-requires
 note-start-requires c κs = search needs
 
-slice-aggregate-explore : tie.Need-slice-aggregate-explore
-slice-aggregate-explore c = search needs
-
-slice-aggregate-explore-2 : tie.Need-slice-aggregate-explore-2
-slice-aggregate-explore-2 c = search needs
-
-explore-requires : tie.Need-explore-requires
-explore-requires c κs = search needs
+explore-small-requires : tie.Need-explore-small-requires
+explore-small-requires c κs = search needs
 
 same-length : tie.Need-same-length
 same-length c = search needs
 
 returns-4 : tie.Need-returns-4
-returns-4 c = search (searches, needs)
+returns-4 c = search (searches-small, needs)
+
+explore-large-requires : tie.Need-explore-large-requires
+explore-large-requires c κs = search needs
+
+same-length-2 : tie.Need-same-length-2
+same-length-2 c = search needs
+
+returns-5 : tie.Need-returns-5
+returns-5 c = search (searches-large, needs)
 
 pub search-bounded-rewrite-spec : {M : Type 1} → statement M
 search-bounded-rewrite-spec =
@@ -55,8 +58,9 @@ search-bounded-rewrite-spec =
     returns-2
     returns-3
     note-start-requires
-    slice-aggregate-explore
-    slice-aggregate-explore-2
-    explore-requires
+    explore-small-requires
     same-length
-    returns-4)
+    returns-4
+    explore-large-requires
+    same-length-2
+    returns-5)

@@ -12,10 +12,10 @@ use Rattle.search.proofs.results.results_of.Statement.{statement}
 use Rattle.search.proofs.results.results_of.Tie as tie
 
 abbrev Inv-loop : tie.InvT-loop
-Inv-loop ws noted s parent size depth res₀ order₀ out₀ count₀ i₀ res order out count i = (i ≤ length s) × (length res ≡ length res₀) × (length order ≡ length order₀) × (length out ≡ 31) × Adds ws noted s size depth parent (in-turn place-lines i) (20 * i) res₀ order₀ 0 res order count
+Inv-loop ws noted s parent size depth res₀ order₀ most out₀ count₀ i₀ res order out count i = (i ≤ length s) × (length res ≡ length res₀) × (length order ≡ length order₀) × (length out ≡ 31) × Adds ws noted s size depth parent (in-turn place-lines i) (20 * i) res₀ order₀ 0 res order count
 
 abbrev μ-loop : tie.MeasureT-loop
-μ-loop ws noted s parent size depth res₀ order₀ out₀ count₀ i₀ res order out count i = length s - i
+μ-loop ws noted s parent size depth res₀ order₀ most out₀ count₀ i₀ res order out count i = length s - i
 
 returns : tie.Need-returns Inv-loop μ-loop
 returns c = let a = c .before .before .before .before .before .args in resulted-never (a .res .now) (a .order .now) (λ t h k q. omega (arith, size-of h))
