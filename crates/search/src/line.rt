@@ -41,11 +41,12 @@ fn bind_side(p: &[u32], q: &[u32], s: &[u32], at: usize) -> Binding
     requires { ⌜ at ≤ length (now s) ⌝ }
     ensures { λ r. ⌜ BindsSide (now (p .entry)) (now (q .entry)) (now (s .entry)) at r ⌝ }
 {
-    let Binding::Bound(z) = search::bind(p, s, at, search::no_spans()) else {
+    let binding = search::bind(p, s, at, search::no_spans());
+    let Binding::Bound(z) = binding else {
         return Binding::Unbound;
     };
     if binds_all(q, z) {
-        return Binding::Bound(z);
+        return binding;
     }
     Binding::Unbound
 }

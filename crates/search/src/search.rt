@@ -163,19 +163,31 @@ pub fn span_of(z: Spans, x: u32) -> Span
 }
 
 // The parts with another one for a letter.
-fn with_span(z: Spans, x: u32, v: Span) -> Spans
-    ensures { λ r. ⌜ r ≡ with-span z x v ⌝ }
+fn with_span(z: Spans, x: u32, at: usize, len: usize) -> Spans
+    ensures { λ r. ⌜ r ≡ with-span z x (record { at = at; len = len }) ⌝ }
 {
     let a = z.a;
     let b = z.b;
     let c = z.c;
     if x == 0 {
-        return Spans { a: v, b, c };
+        return Spans {
+            a: Span { at, len },
+            b,
+            c,
+        };
     }
     if x == 1 {
-        return Spans { a, b: v, c };
+        return Spans {
+            a,
+            b: Span { at, len },
+            c,
+        };
     }
-    Spans { a, b, c: v }
+    Spans {
+        a,
+        b,
+        c: Span { at, len },
+    }
 }
 
 // Whether a letter of a law may stand for the term from `at` to `end`: it is not bound, or bound to an equal one.
@@ -208,11 +220,7 @@ pub fn bind(p: &[u32], s: &[u32], at: usize, z: Spans) -> Binding
             if !may_meet(s, bound, x, i, end) {
                 return Binding::Unbound;
             }
-            let new = Span {
-                at: i,
-                len: end - i,
-            };
-            bound = with_span(bound, x, new);
+            bound = with_span(bound, x, i, end - i);
             i = end;
         } else {
             if s.len() <= i {

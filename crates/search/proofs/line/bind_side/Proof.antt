@@ -11,8 +11,8 @@ no-spans-requires c κs = search needs
 bind-requires : tie.Need-bind-requires
 bind-requires c κs = search (within-none, needs)
 
-enum-known-z : tie.Need-enum-known-z
-enum-known-z c = search needs
+enum-known-binding : tie.Need-enum-known-binding
+enum-known-binding c = search needs
 
 enum-told : tie.Need-enum-told
 enum-told c = search needs
@@ -35,7 +35,7 @@ bind-side-spec =
     (tie.spec
     no-spans-requires
     bind-requires
-    enum-known-z
+    enum-known-binding
     enum-told
     returns
     binds-all-requires

@@ -35,8 +35,8 @@ may-meet-requires c κs = search (end-within, needs)
 returns : tie.Need-returns Inv-loop μ-loop
 returns c = search (letter-unbound, not-true, needs)
 
-sub-t17 : tie.Need-sub-t17 Inv-loop μ-loop
-sub-t17 c = search (end-within, needs)
+sub-with-span : tie.Need-sub-with-span Inv-loop μ-loop
+sub-with-span c = search (end-within, needs)
 
 with-span-requires : tie.Need-with-span-requires Inv-loop μ-loop
 with-span-requires c κs = search needs
@@ -90,7 +90,7 @@ bind-spec =
     end-of-requires
     may-meet-requires
     returns
-    sub-t17
+    sub-with-span
     with-span-requires
     loop-less
     loop-again
