@@ -40,7 +40,6 @@ module _ {ws : List ℕ} where
   between-end (more s b) = omega (arith, between-end b)
 
   pub between-short : {j k : ℕ} {us : List Word} → Between ws j k us → longest us ≤ LONGEST
-  unfolding longest
   between-short (none e) = omega arith
   between-short (more s b) = omega (arith, s .short, between-short b)
 
