@@ -4,6 +4,7 @@ ghost use Prim.Native.Nat.{_<_, _/_};
 ghost use mathlib.Core.Bool.{true};
 ghost use mathlib.Core.List.{[], _∷_, map};
 ghost use lib.ListN.{length, take};
+ghost use lib.Seq.{sets};
 ghost use Rattle.terms.specs.Promises.{ordering-of};
 ghost use Rattle.words.specs.Words.{order-words};
 ghost use Rattle.words.specs.Spelled.{SLOT, word-at};
@@ -22,7 +23,17 @@ use terms::term::Comparison;
 const TRIES: usize = 4;
 
 // How many numbers have their new numbers in a table.
-const SMALL: usize = 16;
+pub const SMALL: usize = 16;
+
+// The new numbers of the small numbers.
+pub fn fill_table(names: &[u32], numbers: &[u32], table: &mut [u32])
+    requires { ⌜ length (now table) ≡ 16 ⌝ }
+    ensures { λ _. ⌜ Tabled (renamed (now (names .entry)) (now (numbers .entry))) (now (table .exit)) ⌝ }
+{
+    let mut small = [0u32; SMALL];
+    number_slots(&mut small);
+    rename_run(&small, names, numbers, table);
+}
 
 // The new number of another, by the table if it is small.
 fn number_by(table: &[u32], names: &[u32], numbers: &[u32], x: u32) -> u32
@@ -34,6 +45,21 @@ fn number_by(table: &[u32], names: &[u32], numbers: &[u32], x: u32) -> u32
         return table[i];
     }
     new_number(names, numbers, x)
+}
+
+// A word renamed into a buffer by the table, as far as it fits.
+pub fn rename_by(word: &[u32], table: &[u32], names: &[u32], numbers: &[u32], out: &mut [u32])
+    requires { ⌜ Tabled (renamed (now names) (now numbers)) (now table) ⌝ }
+    ensures { λ _. ⌜ now (out .exit) ≡ sets (now (out .entry)) 0 (rename-run (renamed (now (names .entry)) (now (numbers .entry))) (now (word .entry))) ⌝ }
+{
+    let mut i = 0;
+    while i < word.len() {
+        if out.len() <= i {
+            return;
+        }
+        out[i] = number_by(table, names, numbers, word[i]);
+        i += 1;
+    }
 }
 
 // Which comes first, a word renamed or the first word that a run spells.
@@ -236,10 +262,8 @@ pub fn is_greater(
     if c == 0 {
         return false;
     }
-    let mut small = [0u32; SMALL];
-    number_slots(&mut small);
     let mut table = [0u32; SMALL];
-    rename_run(&small, names, numbers, &mut table);
+    fill_table(names, numbers, &mut table);
     if is_above(u, &table, names, numbers, run) {
         return is_above(v, &table, names, numbers, run);
     }
