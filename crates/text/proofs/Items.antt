@@ -24,6 +24,10 @@ pub sign-mul : (n : ℕ) → (n ≡ ZERO → ⊥) → (n ≡ ONE → ⊥) → (n
 unfolding sign-of
 sign-mul n f g h = rw (ne-eqb n ZERO f, sign-of) (rw (ne-eqb n ONE g) (rw (ne-eqb n ADD h)))
 
+pub put-digit : {o o₁ o₂ : List ℕ} {a b r : ℕ} (n : ℕ) → n < 10 → Put (code "v" ∷ []) o a b o₁ → Put ((48 + n) ∷ []) o₁ b r o₂ → Put (write-letter n) o a r o₂
+unfolding write-letter
+put-digit n h p q = then p (put-as (sym (number-small n h)) q)
+
 pub put-written : {o o₁ o₂ : List ℕ} {a b r : ℕ} (n : ℕ) → Put (code "v" ∷ []) o a b o₁ → Put (number n) o₁ b r o₂ → Put (write-letter n) o a r o₂
 unfolding write-letter
 put-written n p q = then p q

@@ -89,6 +89,9 @@ fn put_letter(out: &mut [u8], at: usize, n: u32) -> usize
     ensures { λ r. ⌜ Put (write-letter n) (now (out .entry)) at r (now (out .exit)) ⌝ }
 {
     let p = put_byte(out, at, b'v');
+    if n < 10 {
+        return put_byte(out, p, 48 + n as u8);
+    }
     put_number(out, p, n as usize)
 }
 
