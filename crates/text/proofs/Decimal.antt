@@ -28,9 +28,9 @@ enough (suc j) (suc k) n hj hk =
     (λ large. decimal-more j n large ∙ ap (λ (l : List ℕ). l ++ ((48 + n % 10) ∷ [])) (enough j k (n / 10) (omega arith) (omega arith)) ∙ sym (decimal-more k n large))
     (below? n 10)
 
-number-small : (n : ℕ) → n < 10 → number n ≡ (48 + n % 10) ∷ []
+pub number-small : (n : ℕ) → n < 10 → number n ≡ (48 + n) ∷ []
 unfolding number
-number-small n h = let e : n ≡ n % 10 = omega arith in decimal-small n n h ∙ ap (λ (k : ℕ). (48 + k) ∷ []) e
+number-small n h = decimal-small n n h
 
 number-more : (n : ℕ) → 10 ≤ n → number n ≡ number (n / 10) ++ ((48 + n % 10) ∷ [])
 unfolding number
@@ -41,7 +41,7 @@ number-more n h =
     ∙ ap (λ (l : List ℕ). l ++ ((48 + n % 10) ∷ [])) (enough (n - 1) (n / 10) (n / 10) (omega arith) (omega arith))
 
 pub put-small : {o o₁ : List ℕ} {a r : ℕ} (n : ℕ) → n < 10 → Put ((48 + n % 10) ∷ []) o a r o₁ → Put (number n) o a r o₁
-put-small n h p = put-as (sym (number-small n h)) p
+put-small n h p = let e : n % 10 ≡ n = omega arith in put-as (ap (λ (k : ℕ). (48 + k) ∷ []) e ∙ sym (number-small n h)) p
 
 -- the last digit behind the others
 pub put-more-digits : {o o₁ o₂ : List ℕ} {a b r : ℕ} (n : ℕ) → 10 ≤ n → Put (number (n / 10)) o a b o₁ → Put ((48 + n % 10) ∷ []) o₁ b r o₂

@@ -16,12 +16,17 @@ use Rattle.text.specs.TermText.{write-letter, items, write-term}
 use Rattle.text.specs.Items.{sign-of, item, gap}
 use Rattle.text.specs.Put.{Put, top}
 use Rattle.text.proofs.Overlay.{then, put-as, put-none}
+use Rattle.text.proofs.Decimal.{number-small}
 
 -- ---- one item
 
 pub sign-mul : (n : ℕ) → (n ≡ ZERO → ⊥) → (n ≡ ONE → ⊥) → (n ≡ ADD → ⊥) → code "*" ≡ sign-of n
 unfolding sign-of
 sign-mul n f g h = rw (ne-eqb n ZERO f, sign-of) (rw (ne-eqb n ONE g) (rw (ne-eqb n ADD h)))
+
+pub put-digit : {o o₁ o₂ : List ℕ} {a b r : ℕ} (n : ℕ) → n < 10 → Put (code "v" ∷ []) o a b o₁ → Put ((48 + n) ∷ []) o₁ b r o₂ → Put (write-letter n) o a r o₂
+unfolding write-letter
+put-digit n h p q = then p (put-as (sym (number-small n h)) q)
 
 pub put-written : {o o₁ o₂ : List ℕ} {a b r : ℕ} (n : ℕ) → Put (code "v" ∷ []) o a b o₁ → Put (number n) o₁ b r o₂ → Put (write-letter n) o a r o₂
 unfolding write-letter
@@ -47,10 +52,18 @@ pub put-no-gap : (s i : ℕ) (o : List ℕ) (a : ℕ) → i ≡ 0 → length o <
 unfolding gap
 put-no-gap s i o a e h k = put-as (sym (ap (gap s) e)) (put-none o a h k)
 
-pub put-some-gap : {o o₁ : List ℕ} {a r : ℕ} (s i : ℕ) → (i ≡ 0 → ⊥) → Put (s ∷ []) o a r o₁ → Put (gap s i) o a r o₁
+pub gap-some : (s i : ℕ) → 0 < i → gap s i ≡ s ∷ []
 unfolding gap
-put-some-gap s zero h p = absurd (h refl)
-put-some-gap s (suc i) h p = p
+gap-some s zero h = let z : ⊥ = omega arith in absurd z
+gap-some s (suc i) h = refl
+
+pub put-some-gap : {o o₁ : List ℕ} {a r : ℕ} (s i : ℕ) → (i ≡ 0 → ⊥) → Put (s ∷ []) o a r o₁ → Put (gap s i) o a r o₁
+put-some-gap s i h p = put-as (sym (gap-some s i (omega arith))) p
+
+-- a letter of one digit, not the first
+pub put-digit-letter : {o o₁ : List ℕ} {a r : ℕ} (s i n : ℕ) → 0 < i → n < 10 → Put (s ∷ code "v" ∷ (48 + n) ∷ []) o a r o₁ → Put (gap s i ++ write-letter n) o a r o₁
+unfolding write-letter
+put-digit-letter s i n h k p = put-as (ap₂ _++_ (sym (gap-some s i h)) (ap (λ l. code "v" ∷ l) (sym (number-small n k)))) p
 
 -- a piece more behind the others
 parted-behind : (s : ℕ) (p : List ℕ) (ps : List (List ℕ)) (q : List ℕ) → (parted s (p ∷ ps) ++ (s ∷ [])) ++ q ≡ parted s (p ∷ (ps ++ (q ∷ [])))
@@ -72,10 +85,10 @@ unfolding parted
 put-no-piece s f xs o a h k = put-none o a h k
 
 -- the pieces of one number more
-pub put-piece : {o o₁ o₂ o₃ : List ℕ} {a b c d : ℕ} (s : ℕ) (f : ℕ → List ℕ) (xs : List ℕ) (i : ℕ) → i < length xs
-    → Put (parted s (map f (take i xs))) o a b o₁ → Put (gap s i) o₁ b c o₂ → Put (f (getD xs i 0)) o₂ c d o₃
-    → Put (parted s (map f (take (i + 1) xs))) o a d o₃
-put-piece s f xs i h p q r = put-as law (then (then p q) r)
+pub put-piece : {o o₁ o₂ : List ℕ} {a b c : ℕ} (s : ℕ) (f : ℕ → List ℕ) (xs : List ℕ) (i : ℕ) → i < length xs
+    → Put (parted s (map f (take i xs))) o a b o₁ → Put (gap s i ++ f (getD xs i 0)) o₁ b c o₂
+    → Put (parted s (map f (take (i + 1) xs))) o a c o₂
+put-piece s f xs i h p q = put-as (sym (append-assoc (parted s (map f (take i xs))) (gap s i) (f (getD xs i 0))) ∙ law) (then p q)
   where
     size : length (map f (take i xs)) ≡ i
     size = length-map (take i xs) f ∙ length-take-le i xs (omega arith)

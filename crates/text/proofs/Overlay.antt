@@ -94,8 +94,27 @@ put-none o a h k = record { next = omega arith; bytes = sym (overlay-none o a); 
 pub put-in : (o : List ℕ) (a b : ℕ) → length o < top → a < length o → Put (b ∷ []) o a (a + 1) (set o a b)
 put-in o a b h k = record { next = omega arith; bytes = sym (overlay-one o a b); room = h }
 
-pub put-out : (o : List ℕ) (a b r : ℕ) → length o < top → length o ≤ a → r ≡ min top (a + 1) → Put (b ∷ []) o a r o
-put-out o a b r h k e = record { next = e; bytes = sym (overlay-one o a b ∙ set-out o a b k); room = h }
+pub put-past : (ys o : List ℕ) (a r : ℕ) → length o < top → length o ≤ a → r ≡ min top (a + length ys) → Put ys o a r o
+put-past ys o a r h k e = record { next = e; bytes = sym (overlay-past o a ys k); room = h }
+
+-- three bytes, each in the output, and one after the other
+pub second-in : (o : List ℕ) (a x : ℕ) → a + 3 ≤ length o → a + 1 < length (set o a x)
+second-in o a x h = omega (arith, length-set o a x)
+
+pub third-in : (o : List ℕ) (a x y : ℕ) → a + 3 ≤ length o → a + 2 < length (set (set o a x) (a + 1) y)
+third-in o a x y h = omega (arith, length-set o a x, length-set (set o a x) (a + 1) y)
+
+pub put-three-in : (o : List ℕ) (a x y z : ℕ) → length o < top → a + 3 ≤ length o
+    → Put (x ∷ y ∷ z ∷ []) o a (a + 3) (set (set (set o a x) (a + 1) y) (a + 2) z)
+unfolding overlay
+put-three-in o a x y z h k =
+    let e : a + 1 ≡ suc a = omega arith in
+    let f : a + 2 ≡ suc (suc a) = omega arith in
+    record { next = omega arith; bytes = rw (e, f); room = h }
+
+pub put-three-each : {o o₁ o₂ o₃ : List ℕ} {a b c d : ℕ} (x y z : ℕ) → Put (x ∷ []) o a b o₁ → Put (y ∷ []) o₁ b c o₂ → Put (z ∷ []) o₂ c d o₃
+    → Put (x ∷ y ∷ z ∷ []) o a d o₃
+put-three-each x y z p q r = then (then p q) r
 
 -- a byte more of a text
 pub put-more : {o o₁ o₂ : List ℕ} {a p q : ℕ} (ys : List ℕ) (i : ℕ) → i < length ys

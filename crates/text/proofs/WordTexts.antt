@@ -16,7 +16,7 @@ use Rattle.text.specs.Items.{gap}
 use Rattle.text.specs.Spelled.{word-size}
 use Rattle.text.specs.Put.{Put, top}
 use Rattle.text.proofs.Overlay.{then, put-as, put-none}
-use Rattle.text.proofs.Items.{parted-more}
+use Rattle.text.proofs.Items.{gap-some, parted-more}
 
 -- ---- where a word ends
 
@@ -110,11 +110,6 @@ module _ (xs : List ℕ) (i : ℕ) (v : Word) (rest : List ℕ) (e : ℕ) (stand
       ∙ sym (drop-drop (length (map suc v) + 1) i xs)
       ∙ ap (drop (length (map suc v) + 1)) stands
       ∙ drop-append-add (map suc v) (0 ∷ rest) 1
-
-gap-some : (s n : ℕ) → 0 < n → gap s n ≡ s ∷ []
-unfolding gap
-gap-some s zero h = let z : ⊥ = omega arith in absurd z
-gap-some s (suc n) h = refl
 
 -- the word from i to e is put behind those before it
 pub one-more : {xs o o₁ o₂ o₃ : List ℕ} {i a b c d : ℕ} {ws : List Word} (e : ℕ) → i < length xs → e ≡ i + word-size (drop i xs) → Before ws xs i o a b o₁

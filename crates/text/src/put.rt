@@ -1,7 +1,7 @@
 // Text is put at a position as far as the output goes; what is returned is the position after the text in any case, so an empty output only measures.
 // A position stops at the largest number: no output is as long, so nothing is required of a text's length.
 ghost use mathlib.Core.Path.{_≡_};
-ghost use mathlib.Core.List.{List, _∷_, [], map};
+ghost use mathlib.Core.List.{List, _∷_, [], _++_, map};
 ghost use Prim.Native.Nat.{suc, _+_, _-_};
 ghost use lib.ListN.{drop};
 ghost use Rattle.terms.specs.Term.{Term};
@@ -21,6 +21,9 @@ const ZERO: u32 = 4096;
 const ONE: u32 = 4097;
 
 const ADD: u32 = 4098;
+
+// Three positions behind each one below it there are others.
+const FAR: usize = 18446744073709551612;
 
 // One byte.
 pub fn put_byte(out: &mut [u8], at: usize, b: u8) -> usize
@@ -61,11 +64,34 @@ pub fn put_number(out: &mut [u8], at: usize, n: usize) -> usize
     put_byte(out, p, digit)
 }
 
+// Three bytes: at once where they fit, and counted where the output has ended.
+fn put_three(out: &mut [u8], at: usize, a: u8, b: u8, c: u8) -> usize
+    ensures { λ r. ⌜ Put (a ∷ b ∷ c ∷ []) (now (out .entry)) at r (now (out .exit)) ⌝ }
+{
+    if at < FAR {
+        if at + 3 <= out.len() {
+            out[at] = a;
+            out[at + 1] = b;
+            out[at + 2] = c;
+            return at + 3;
+        }
+        if out.len() <= at {
+            return at + 3;
+        }
+    }
+    let p = put_byte(out, at, a);
+    let q = put_byte(out, p, b);
+    put_byte(out, q, c)
+}
+
 // A letter by its number.
 fn put_letter(out: &mut [u8], at: usize, n: u32) -> usize
     ensures { λ r. ⌜ Put (write-letter n) (now (out .entry)) at r (now (out .exit)) ⌝ }
 {
     let p = put_byte(out, at, b'v');
+    if n < 10 {
+        return put_byte(out, p, 48 + n as u8);
+    }
     put_number(out, p, n as usize)
 }
 
@@ -150,6 +176,19 @@ fn letter_of(n: u32) -> u32
     n - 1
 }
 
+// Letter i of a word, with a space before it unless it is the first.
+fn put_next_letter(out: &mut [u8], at: usize, i: usize, n: u32) -> usize
+    ensures { λ r. ⌜ Put (gap 32 i ++ write-letter n) (now (out .entry)) at r (now (out .exit)) ⌝ }
+{
+    if 0 < i {
+        if n < 10 {
+            return put_three(out, at, b' ', b'v', 48 + n as u8);
+        }
+    }
+    let p = put_gap(out, at, i, b' ');
+    put_letter(out, p, n)
+}
+
 // A word by its letters, each plus 1: parted by one space, and the empty word `1`.
 pub fn put_word(out: &mut [u8], at: usize, letters: &[u32]) -> usize
     ensures { λ r. ⌜ ((w : Word) → now (letters .entry) ≡ map suc w → Put (word w) (now (out .entry)) at r (now (out .exit))) ⌝ }
@@ -160,9 +199,7 @@ pub fn put_word(out: &mut [u8], at: usize, letters: &[u32]) -> usize
     let mut p = at;
     let mut i = 0;
     while i < letters.len() {
-        let n = letter_of(letters[i]);
-        let q = put_gap(out, p, i, b' ');
-        p = put_letter(out, q, n);
+        p = put_next_letter(out, p, i, letter_of(letters[i]));
         i += 1;
     }
     p

@@ -12,7 +12,7 @@ use Rattle.terms.specs.Held.{Fine, Holds}
 use Rattle.terms.proofs.Positions.{drop-head}
 use Rattle.terms.proofs.Held.{size-pos, holds-whole, holds-within, holds-add, holds-mul}
 use Rattle.words.specs.Words.{products, expand}
-use Rattle.words.specs.Multiply.{Puts, Fits, PutsWords, Multiplies, atom-words, Room, Expands, MultipliesOut}
+use Rattle.words.specs.Multiply.{MOST, Puts, Fits, PutsWords, Multiplies, atom-words, Room, Expands, MultipliesOut}
 use Rattle.words.specs.Counts.{atoms, most}
 use Rattle.words.specs.Theory.Bound.{size-atoms, most-most, most-bound, expand-bound}
 use Rattle.words.specs.Theory.Longest.{longest-expand}
@@ -133,6 +133,9 @@ module _ {xs : List ℕ} {at : ℕ} {ws ss : List ℕ} {j : ℕ} where
       whole : r .end ≡ at + size t
       whole = omega (arith, left-put .0, right-put .0, node .sized)
 
+      start : j ≤ MOST
+      start = omega (arith, room .few, most-bound (room .before) (omega (arith, room .small)))
+
       -- there is room for the words of the whole where those of the parts are
       fits : Fits (expand t) ws₂ j
       fits =
@@ -158,7 +161,7 @@ module _ {xs : List ℕ} {at : ℕ} {ws ss : List ℕ} {j : ℕ} where
               let q = right-put t h room .1 in
               let e = node t h room .product n in
               let left = between-front ws₂ (l .count) (q .front) (le-refl (l .count)) (p .put) in
-              let put = m .exact (expand (node t h room .left)) (expand (node t h room .right)) left (q .put) (rw e at (fits t h room)) (omega (arith, room .scratch)) in
+              let put = m .exact (expand (node t h room .left)) (expand (node t h room .right)) left (q .put) (R .few (L .few (start t h room))) (rw e at (fits t h room)) (omega (arith, room .scratch)) in
               (whole t h room, rw e (puts-anew (puts-then p q) put));
         }
 

@@ -27,3 +27,4 @@ pub mod CanonicalWords
 pub mod FirstWord
 pub mod Tallied
 pub mod Ranked
+pub mod Passed

@@ -1,26 +1,34 @@
 -- Multiplying in place, and the words of an atom.
-use Prim.Native.Nat.{ℕ, _+_}
+use Prim.Native.Nat.{ℕ}
 use native.Mathlib.Omega.{arith}
+use native.Mathlib.Nat.{le-refl}
 use mathlib.Core.Path.{_≡_}
 use mathlib.Core.Bool.{true, false}
 use mathlib.Core.List.{List, [], _∷_, _++_, map, map-id}
 use lib.Dec.{eqb}
 use borrow.Author.Tests.{ne-eqb}
 use Rattle.terms.specs.Run.{ZERO, ONE}
-use Rattle.words.specs.Words.{products}
+use Rattle.words.specs.Words.{Word}
 use Rattle.words.specs.Multiply.{PutsWords, JoinsRow, Joins, Multiplies, atom-words}
+use Rattle.words.proofs.Stand.{between-end, between-front, between-short}
 use Rattle.words.proofs.Puts.{puts-none}
 
--- the joined words copied back
-pub multiplied : {ws ss ss′ ws′ : List ℕ} {from middle to n k : ℕ} → Joins ws from middle middle to ss 0 n ss′ → JoinsRow [] ss′ 0 n ws from k ws′
+copied : (ws : List Word) → map (λ w. [] ++ w) ws ≡ ws
+copied ws = simp map-id
+
+-- the words of both sides copied, then joined in place of them
+pub multiplied : {ws ss ss₁ ss₂ ws′ : List ℕ} {from middle to half end k : ℕ}
+    → JoinsRow [] ws from middle ss 0 half ss₁ → JoinsRow [] ws middle to ss₁ half end ss₂ → Joins ss₂ 0 half half end ws from k ws′
     → Multiplies ws from middle to ss k ws′
-multiplied {ws} {ws′ = ws′} {from = from} {k = k} p q =
+multiplied {ss₂ = ss₂} {half = half} p q r =
     record {
-      few = q .few;
-      exact = λ us ts b c f h.
-          let joined = p .exact us ts b c (record { few = omega (arith, f .few); short = f .short; room = h }) in
-          let e : map (λ w. [] ++ w) (products us ts) ≡ products us ts = simp map-id in
-          rw e at (q .exact (products us ts) (joined .put)) f;
+      few = r .few;
+      exact = λ us vs b c few f h.
+          let left = rw (copied us) at (p .exact us b) (record { few = omega (arith, between-end b, between-end c); short = between-short b; room = h }) in
+          let right =
+          rw (copied vs) at (q .exact vs c)
+          (record { few = omega (arith, between-end b, between-end c, between-end (left .put)); short = between-short c; room = omega (arith, left .room) }) in
+          r .exact us vs (between-front ss₂ half (right .front) (le-refl half) (left .put)) (right .put) f;
     }
 
 -- the word of a letter

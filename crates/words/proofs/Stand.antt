@@ -11,7 +11,8 @@ use Rattle.terms.proofs.Positions.{drop-take, front-getD}
 use Rattle.words.specs.Words.{Word}
 use Rattle.words.specs.Rename.{count-from}
 use Rattle.words.specs.Spelled.{SLOT, word-at, words-at}
-use Rattle.words.specs.Multiply.{InSlot, Between, none, more}
+use Rattle.words.specs.Multiply.{LONGEST, InSlot, Between, none, more}
+use Rattle.words.specs.Counts.{longest}
 
 -- where the first n numbers of two lists agree
 front-part : (xs ys : List ℕ) (n i m : ℕ) → take n ys ≡ take n xs → i + m ≤ n → take m (drop i ys) ≡ take m (drop i xs)
@@ -37,6 +38,10 @@ module _ {ws : List ℕ} where
   pub between-end : {j k : ℕ} {us : List Word} → Between ws j k us → k ≡ j + length us
   between-end (none e) = omega arith
   between-end (more s b) = omega (arith, between-end b)
+
+  pub between-short : {j k : ℕ} {us : List Word} → Between ws j k us → longest us ≤ LONGEST
+  between-short (none e) = omega arith
+  between-short (more s b) = omega (arith, s .short, between-short b)
 
   pub between-front : (ws′ : List ℕ) (n : ℕ) {j k : ℕ} {us : List Word} → take (SLOT * n) ws′ ≡ take (SLOT * n) ws → k ≤ n → Between ws j k us → Between ws′ j k us
   between-front ws′ n e h (none d) = none d

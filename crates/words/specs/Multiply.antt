@@ -61,7 +61,7 @@ pub record Joins (xs : List ℕ) (from middle right to : ℕ) (ws : List ℕ) (j
 -- each word in the slots from..middle joined to each in the slots middle..to, and put in place of them, by way of the scratch space ss
 pub record Multiplies (ws : List ℕ) (from middle to : ℕ) (ss : List ℕ) (k : ℕ) (ws′ : List ℕ) : Type 0 where
   pub few : from ≤ MOST → k ≤ MOST
-  pub exact : (us vs : List Word) → Between ws from middle us → Between ws middle to vs → Fits (products us vs) ws from → SLOT * MOST ≤ length ss → Puts (products us vs) ws from k ws′
+  pub exact : (us vs : List Word) → Between ws from middle us → Between ws middle to vs → to ≤ MOST → Fits (products us vs) ws from → SLOT * MOST ≤ length ss → Puts (products us vs) ws from k ws′
 
 -- the words of an atom, by its number in a run
 unfoldable pub atom-words : ℕ → List Word

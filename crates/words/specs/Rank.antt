@@ -1,13 +1,13 @@
 -- A list of words set against a run without being sorted: how many of its words come before the run's next word.
-use Prim.Native.Nat.{ℕ, zero, suc, _+_, _<_}
+use Prim.Native.Nat.{ℕ, zero, suc, _+_, _/_, _<_, _≤_, max}
 use mathlib.Core.Path.{_≡_}
 use mathlib.Core.Bool.{Bool, true}
 use mathlib.Core.List.{List, [], _∷_, map, foldr}
-use lib.ListN.{length}
+use lib.ListN.{length, take}
 use Rattle.terms.specs.Compare.{Ordering, lt, eq, gt, order-numbers}
 use Rattle.terms.specs.Sort.{kept}
 use Rattle.words.specs.Words.{Word, order-words, normal}
-use Rattle.words.specs.Spelled.{spelled}
+use Rattle.words.specs.Spelled.{SLOT, spelled, word-at}
 use Rattle.words.specs.Rename.{count-from}
 use Rattle.words.specs.RenameRun.{rename-run}
 use Rattle.words.specs.WordLists.{slot-words}
@@ -47,6 +47,16 @@ pub record Notes (k : Rank) (o : Ordering) (r : Rank) : Type 0 where
 pub record Ranks (w : Word) (us : List Word) (r : Rank) : Type 0 where
   pub less : r .less ≡ tally if-less w us
   pub upto : r .upto ≡ tally if-upto w us
+
+-- the words in the slots from i up to r begin with the letters x and y
+pub record Paired (ws : List ℕ) (x y i r : ℕ) : Type 0 where
+  pub within : r ≤ max i (length ws / SLOT)
+  pub same : (j : ℕ) → i ≤ j → j < r → take 2 (word-at ws j) ≡ x ∷ y ∷ []
+
+-- what F makes of the words in the slots from i up to r comes after w
+pub record Passes (F : Word → Word) (ws : List ℕ) (w : Word) (i r : ℕ) : Type 0 where
+  pub within : r ≤ max i (length ws / SLOT)
+  pub after : (j : ℕ) → i ≤ j → j < r → order-words (F (word-at ws j)) w ≡ gt
 
 -- the words in the slots ws renamed and sorted
 abbrev pub sorted-renamed : (ℕ → ℕ) → List ℕ → List Word

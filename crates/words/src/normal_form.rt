@@ -105,11 +105,11 @@ fn join_row(a: &[u32], words: &[u32], from: usize, to: usize, out: &mut [u32], k
     next
 }
 
-// Each word in the slots `from..middle` joined to each in the slots `middle..to`, put into `out` from slot 0 on: the next slot.
-fn join(words: &[u32], from: usize, middle: usize, to: usize, out: &mut [u32]) -> usize
-    ensures { λ r. ⌜ Joins (now (words .entry)) from middle middle to (now (out .entry)) 0 r (now (out .exit)) ⌝ }
+// Each word in the slots `from..middle` joined to each in the slots `middle..to`, put into `out` from slot `k` on: the next slot.
+fn join(words: &[u32], from: usize, middle: usize, to: usize, out: &mut [u32], k: usize) -> usize
+    ensures { λ r. ⌜ Joins (now (words .entry)) from middle middle to (now (out .entry)) k r (now (out .exit)) ⌝ }
 {
-    let mut next = 0;
+    let mut next = k;
     let mut i = from;
     while i < middle {
         next = join_row(word_of(words, i), words, middle, to, out, next);
@@ -119,11 +119,13 @@ fn join(words: &[u32], from: usize, middle: usize, to: usize, out: &mut [u32]) -
 }
 
 // Each word in the slots `from..middle` joined to each in the slots `middle..to`, put in place of them: the next slot.
+// The words to be joined are moved out of the way, since they are fewer than the joined ones.
 fn multiply(words: &mut [u32], from: usize, middle: usize, to: usize, scratch: &mut [u32]) -> usize
     ensures { λ r. ⌜ Multiplies (now (words .entry)) from middle to (now (scratch .entry)) r (now (words .exit)) ⌝ }
 {
-    let n = join(words, from, middle, to, scratch);
-    join_row(&[0; 0], scratch, 0, n, words, from)
+    let half = join_row(&[0; 0], words, from, middle, scratch, 0);
+    let end = join_row(&[0; 0], words, middle, to, scratch, half);
+    join(scratch, 0, half, end, words, from)
 }
 
 // The words of an atom, by its number in a run, put into the slots from `k` on: the next slot.

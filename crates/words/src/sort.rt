@@ -1,7 +1,7 @@
 // Slots sorted by the words in them, and the words written as a run.
 ghost use mathlib.Core.Path.{_≡_};
 ghost use Prim.Native.Nat.{_+_, _*_, _≤_, _<_};
-ghost use mathlib.Core.List.{[], _∷_};
+ghost use mathlib.Core.List.{[], _∷_, _++_};
 ghost use lib.ListN.{length, take, drop};
 ghost use Rattle.terms.specs.Sort.{kept};
 ghost use Rattle.words.specs.Words.{normal};
@@ -66,7 +66,16 @@ fn merge(words: &[u32], a: &[u32], b: &[u32], out: &mut [u32])
     }
 }
 
-// The two parts of `order`, each sorted by its words, merged; nothing is moved where they are in order already.
+// The two parts of a list put into `out` in each other's place.
+fn swap_parts(parts: &[u32], mid: usize, out: &mut [u32])
+    requires { ⌜ (mid ≤ length (now parts)) × (length (now out) ≡ length (now parts)) ⌝ }
+    ensures { λ _. ⌜ now (out .exit) ≡ drop mid (now (parts .entry)) ++ take mid (now (parts .entry)) ⌝ }
+{
+    copy(out, 0, &parts[mid..]);
+    copy(out, parts.len() - mid, &parts[..mid]);
+}
+
+// The two parts of `order`, each sorted by its words, merged: two comparisons are enough where the one comes before the other.
 fn merge_parts(words: &[u32], order: &mut [u32], mid: usize, spare: &mut [u32])
     requires { ⌜ (mid ≤ length (now order)) × (length (now order) ≤ length (now spare)) × (0 < mid) ⌝ }
     ensures { λ _. ⌜ Merges (now (words .entry)) (take mid (now (order .entry))) (drop mid (now (order .entry))) (now (order .exit)) ⌝ }
@@ -77,6 +86,10 @@ fn merge_parts(words: &[u32], order: &mut [u32], mid: usize, spare: &mut [u32])
     }
     copy(spare, 0, order);
     let parts = &spare[..n];
+    if takes_first(words, parts, n - 1, parts, 0) {
+        swap_parts(parts, mid, order);
+        return;
+    }
     merge(words, &parts[..mid], &parts[mid..], order);
 }
 

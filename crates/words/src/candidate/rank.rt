@@ -1,14 +1,18 @@
 // Whether two renamed lists of words come after a run, found out without sorting them: most renamings need no more.
 ghost use mathlib.Core.Path.{_≡_};
-ghost use Prim.Native.Nat.{_<_};
-ghost use mathlib.Core.List.{map};
-ghost use lib.ListN.{length};
+ghost use Prim.Native.Nat.{_<_, _/_};
+ghost use mathlib.Core.Bool.{true};
+ghost use mathlib.Core.List.{[], _∷_, map};
+ghost use lib.ListN.{length, take};
+ghost use lib.Seq.{sets};
 ghost use Rattle.terms.specs.Promises.{ordering-of};
 ghost use Rattle.words.specs.Words.{order-words};
+ghost use Rattle.words.specs.Spelled.{SLOT, word-at};
 ghost use Rattle.words.specs.Rename.{renamed};
 ghost use Rattle.words.specs.RenameRun.{rename-number, rename-run};
 ghost use Rattle.words.specs.WordLists.{slot-words};
-ghost use Rattle.words.specs.Rank.{Tabled, first-word, Notes, Ranks, Above, Exceeds};
+ghost use Rattle.words.specs.Rank.{Tabled, first-word, Notes, Ranks, Paired, Passes, Above, Exceeds};
+use super::super::normal_form::front;
 use super::super::normal_form::word_of;
 use super::super::sort::number_slots;
 use super::new_number;
@@ -19,7 +23,17 @@ use terms::term::Comparison;
 const TRIES: usize = 4;
 
 // How many numbers have their new numbers in a table.
-const SMALL: usize = 16;
+pub const SMALL: usize = 16;
+
+// The new numbers of the small numbers.
+pub fn fill_table(names: &[u32], numbers: &[u32], table: &mut [u32])
+    requires { ⌜ length (now table) ≡ 16 ⌝ }
+    ensures { λ _. ⌜ Tabled (renamed (now (names .entry)) (now (numbers .entry))) (now (table .exit)) ⌝ }
+{
+    let mut small = [0u32; SMALL];
+    number_slots(&mut small);
+    rename_run(&small, names, numbers, table);
+}
 
 // The new number of another, by the table if it is small.
 fn number_by(table: &[u32], names: &[u32], numbers: &[u32], x: u32) -> u32
@@ -31,6 +45,21 @@ fn number_by(table: &[u32], names: &[u32], numbers: &[u32], x: u32) -> u32
         return table[i];
     }
     new_number(names, numbers, x)
+}
+
+// A word renamed into a buffer by the table, as far as it fits.
+pub fn rename_by(word: &[u32], table: &[u32], names: &[u32], numbers: &[u32], out: &mut [u32])
+    requires { ⌜ Tabled (renamed (now names) (now numbers)) (now table) ⌝ }
+    ensures { λ _. ⌜ now (out .exit) ≡ sets (now (out .entry)) 0 (rename-run (renamed (now (names .entry)) (now (numbers .entry))) (now (word .entry))) ⌝ }
+{
+    let mut i = 0;
+    while i < word.len() {
+        if out.len() <= i {
+            return;
+        }
+        out[i] = number_by(table, names, numbers, word[i]);
+        i += 1;
+    }
 }
 
 // Which comes first, a word renamed or the first word that a run spells.
@@ -97,6 +126,61 @@ fn note(rank: Rank, found: Comparison) -> Rank
     }
 }
 
+// Whether the word in a slot surely begins with two letters.
+fn begins_with(words: &[u32], k: usize, x: u32, y: u32) -> bool
+    requires { ⌜ k < length (now words) / SLOT ⌝ }
+    ensures { λ r. ⌜ (r ≡ true → take 2 (word-at (now (words .entry)) k) ≡ x ∷ y ∷ []) ⌝ }
+{
+    let at = 17 * k;
+    if words[at] < 2 {
+        return false;
+    }
+    if words[at + 1] == x {
+        if words[at + 2] == y {
+            return true;
+        }
+    }
+    false
+}
+
+// The slot after the words, from slot i on, that begin with two letters.
+fn pair_end(words: &[u32], i: usize, x: u32, y: u32) -> usize
+    ensures { λ r. ⌜ Paired (now (words .entry)) x y i r ⌝ }
+{
+    let mut k = i;
+    while k < words.len() / 17 {
+        if begins_with(words, k, x, y) {
+            k += 1;
+        } else {
+            return k;
+        }
+    }
+    k
+}
+
+// The slot after the words, from slot i on, that begin as its word does, if two letters tell that they come after the first word of a run.
+fn pass_greater(
+    words: &[u32],
+    i: usize,
+    table: &[u32],
+    names: &[u32],
+    numbers: &[u32],
+    run: &[u32],
+) -> usize
+    requires { ⌜ Tabled (renamed (now names) (now numbers)) (now table) ⌝ }
+    ensures { λ r. ⌜ Passes (rename-run (renamed (now (names .entry)) (now (numbers .entry)))) (now (words .entry)) (first-word (now (run .entry))) i r ⌝ }
+{
+    let word = word_of(words, i);
+    if word.len() < 2 {
+        return i;
+    }
+    match compare_first(front(word, 2), table, names, numbers, run) {
+        Comparison::Less => i,
+        Comparison::Equal => i,
+        Comparison::Greater => pair_end(words, i, word[0], word[1]),
+    }
+}
+
 // The words in all the slots, renamed, counted against the first word that a run spells.
 fn rank_of(words: &[u32], table: &[u32], names: &[u32], numbers: &[u32], run: &[u32]) -> Rank
     requires { ⌜ Tabled (renamed (now names) (now numbers)) (now table) ⌝ }
@@ -105,9 +189,14 @@ fn rank_of(words: &[u32], table: &[u32], names: &[u32], numbers: &[u32], run: &[
     let mut counted = Rank { less: 0, upto: 0 };
     let mut i = 0;
     while i < words.len() / 17 {
-        let found = compare_first(word_of(words, i), table, names, numbers, run);
-        counted = note(counted, found);
-        i += 1;
+        let next = pass_greater(words, i, table, names, numbers, run);
+        if i < next {
+            i = next;
+        } else {
+            let found = compare_first(word_of(words, i), table, names, numbers, run);
+            counted = note(counted, found);
+            i += 1;
+        }
     }
     counted
 }
@@ -173,10 +262,8 @@ pub fn is_greater(
     if c == 0 {
         return false;
     }
-    let mut small = [0u32; SMALL];
-    number_slots(&mut small);
     let mut table = [0u32; SMALL];
-    rename_run(&small, names, numbers, &mut table);
+    fill_table(names, numbers, &mut table);
     if is_above(u, &table, names, numbers, run) {
         return is_above(v, &table, names, numbers, run);
     }

@@ -12,6 +12,7 @@ ghost use Rattle.words.specs.RenameRun.{rename-run};
 ghost use Rattle.words.specs.Decoded.{both};
 ghost use Rattle.words.specs.Multiply.{PutsWords};
 ghost use Rattle.words.specs.Candidate.{Visits, Finds};
+ghost use Rattle.words.specs.Rank.{Tabled};
 ghost use Rattle.words.specs.WordLists.{slot-words, word-candidate, RenamesWords, WordRoom, VisitRoom, CanonicalWords};
 use super::super::normal_form::ROOM;
 use super::super::normal_form::front;
@@ -22,8 +23,10 @@ use super::super::sort::spell_sorted;
 use super::Lengths;
 use super::factorial;
 use super::permutation;
+use super::rank::SMALL;
+use super::rank::fill_table;
 use super::rank::is_greater;
-use super::rename_run;
+use super::rank::rename_by;
 use super::try_equation;
 use terms::term;
 use terms::term::Listed;
@@ -58,22 +61,37 @@ fn letters_of_words(u: &[u32], v: &[u32], out: &mut [u32]) -> Listed
 }
 
 // A word renamed and put into slot `k`, if there is room: the next slot.
-fn put_renamed(word: &[u32], names: &[u32], numbers: &[u32], slots: &mut [u32], k: usize) -> usize
+fn put_renamed(
+    word: &[u32],
+    table: &[u32],
+    names: &[u32],
+    numbers: &[u32],
+    slots: &mut [u32],
+    k: usize,
+) -> usize
+    requires { ⌜ Tabled (renamed (now names) (now numbers)) (now table) ⌝ }
     ensures { λ r. ⌜ PutsWords (rename-run (renamed (now (names .entry)) (now (numbers .entry))) (now (word .entry)) ∷ []) (now (slots .entry)) k r (now (slots .exit)) ⌝ }
 {
     let mut letters = [0u32; 16];
-    rename_run(word, names, numbers, &mut letters);
+    rename_by(word, table, names, numbers, &mut letters);
     put_word(slots, k, front(&letters, word.len()), &[0; 0])
 }
 
 // The words in all the slots renamed and put into other slots, if there is room: the next slot.
-fn rename_slots(words: &[u32], names: &[u32], numbers: &[u32], slots: &mut [u32]) -> usize
+fn rename_slots(
+    words: &[u32],
+    table: &[u32],
+    names: &[u32],
+    numbers: &[u32],
+    slots: &mut [u32],
+) -> usize
+    requires { ⌜ Tabled (renamed (now names) (now numbers)) (now table) ⌝ }
     ensures { λ r. ⌜ PutsWords (map (rename-run (renamed (now (names .entry)) (now (numbers .entry)))) (slot-words (now (words .entry)))) (now (slots .entry)) 0 r (now (slots .exit)) ⌝ }
 {
     let mut next = 0;
     let mut i = 0;
     while i < words.len() / 17 {
-        next = put_renamed(word_of(words, i), names, numbers, slots, next);
+        next = put_renamed(word_of(words, i), table, names, numbers, slots, next);
         i += 1;
     }
     next
@@ -89,7 +107,9 @@ fn rename_words(
 ) -> usize
     ensures { λ r. ⌜ RenamesWords (renamed (now (names .entry)) (now (numbers .entry))) (now (words .entry)) (now (slots .entry)) (now (out .entry)) r (now (out .exit)) ⌝ }
 {
-    let n = rename_slots(words, names, numbers, slots);
+    let mut table = [0u32; SMALL];
+    fill_table(names, numbers, &mut table);
+    let n = rename_slots(words, &table, names, numbers, slots);
     spell_sorted(front(slots, 17 * n), out)
 }
 

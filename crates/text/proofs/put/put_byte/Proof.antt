@@ -1,6 +1,7 @@
 -- `put_byte` meets its contract.
+use mathlib.Core.List.{[], _∷_}
 use native.Mathlib.Omega.{arith}
-use Rattle.text.proofs.Overlay.{put-in, put-out}
+use Rattle.text.proofs.Overlay.{put-in, put-past}
 use borrow.Author.Needs.{needs}
 use Rattle.text.proofs.put.put_byte.Statement.{statement}
 use Rattle.text.proofs.put.put_byte.Tie as tie
@@ -21,10 +22,10 @@ add-result-2 : tie.Need-add-result-2
 add-result-2 c = search needs
 
 returns-2 : tie.Need-returns-2
-returns-2 c = put-out (c .before .before .args .out .now) (c .before .before .args .at) (c .before .before .args .b) _ (omega arith) (c .before .if1 .left) (omega arith)
+returns-2 c = put-past (c .before .before .args .b ∷ []) (c .before .before .args .out .now) (c .before .before .args .at) _ (omega arith) (c .before .if1 .left) (omega arith)
 
 returns-3 : tie.Need-returns-3
-returns-3 c = put-out (c .before .before .args .out .now) (c .before .before .args .at) (c .before .before .args .b) _ (omega arith) (c .before .if1 .left) (omega arith)
+returns-3 c = put-past (c .before .before .args .b ∷ []) (c .before .before .args .out .now) (c .before .before .args .at) _ (omega arith) (c .before .if1 .left) (omega arith)
 
 pub put-byte-spec : {M : Type 1} → statement M
 put-byte-spec =

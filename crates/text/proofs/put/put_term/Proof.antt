@@ -8,6 +8,7 @@ use lib.ListN.{length, take}
 use Rattle.text.specs.Bytes.{parted}
 use Rattle.text.specs.Items.{item}
 use Rattle.text.specs.Put.{Put}
+use Rattle.text.proofs.Overlay.{then}
 use Rattle.text.proofs.Items.{put-no-piece, put-piece, put-whole}
 use borrow.Author.Needs.{needs}
 use Rattle.text.proofs.put.put_term.Statement.{statement}
@@ -46,7 +47,7 @@ loop-again c =
     let l = g .before .before .before in (
       omega arith,
       c .before .before .put-item .kept .0 ∙ g .put-gap .kept .0 ∙ l .loop .inv .1,
-      put-piece (code " ") item (l .before .before .before .args .run .now) (l .loop .i) (omega arith) (l .loop .inv .2) (g .put-gap .ensures) (c .before .before .put-item .ensures),
+      put-piece (code " ") item (l .before .before .before .args .run .now) (l .loop .i) (omega arith) (l .loop .inv .2) (then (g .put-gap .ensures) (c .before .before .put-item .ensures)),
     )
 
 same-length : tie.Need-same-length Inv-loop μ-loop

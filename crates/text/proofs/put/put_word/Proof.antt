@@ -2,11 +2,12 @@
 use Prim.Native.Nat.{_≤_, _-_}
 use Prim.Native.Char.{code}
 use mathlib.Core.Path.{_≡_, refl, ap, _∙_}
-use mathlib.Core.List.{map}
+use mathlib.Core.List.{_++_, map}
 use native.Mathlib.Omega.{arith}
 use lib.ListN.{length, take}
 use Rattle.text.specs.Bytes.{parted}
 use Rattle.text.specs.TermText.{write-letter}
+use Rattle.text.specs.Items.{gap}
 use Rattle.text.specs.Put.{Put}
 use Rattle.text.proofs.Overlay.{put-as}
 use Rattle.text.proofs.Items.{put-no-piece, put-piece}
@@ -46,11 +47,8 @@ shared-slice-read-letter-of c = search needs
 letter-of-requires : tie.Need-letter-of-requires Inv-loop μ-loop
 letter-of-requires c κs = search needs
 
-put-gap-requires : tie.Need-put-gap-requires Inv-loop μ-loop
-put-gap-requires c κs = search needs
-
-put-letter-requires : tie.Need-put-letter-requires Inv-loop μ-loop
-put-letter-requires c κs = search needs
+put-next-letter-requires : tie.Need-put-next-letter-requires Inv-loop μ-loop
+put-next-letter-requires c κs = search needs
 
 add-i : tie.Need-add-i Inv-loop μ-loop
 add-i c = search needs
@@ -60,13 +58,12 @@ loop-less c = search needs
 
 loop-again : tie.Need-loop-again Inv-loop μ-loop
 loop-again c =
-    let g = c .before .before .before .before .before .before in
-    let n = g .before .before in
-    let l = n .before .before .before in (
+    let n = c .before .before .before in
+    let l = n .before .before .before .before in (
       omega arith,
-      c .before .before .put-letter .kept .0 ∙ g .put-gap .kept .0 ∙ l .loop .inv .1,
-      put-piece (code " ") letter-text (l .before .before .before .before .args .letters .now) (l .loop .i) (omega arith) (l .loop .inv .2) (g .put-gap .ensures)
-          (put-as (ap write-letter (n .letter-of .ensures)) (c .before .before .put-letter .ensures)),
+      c .before .before .put-next-letter .kept .0 ∙ l .loop .inv .1,
+      put-piece (code " ") letter-text (l .before .before .before .before .args .letters .now) (l .loop .i) (omega arith) (l .loop .inv .2)
+          (put-as (ap (λ k. gap (code " ") (l .loop .i) ++ write-letter k) (n .letter-of .ensures)) (c .before .before .put-next-letter .ensures)),
     )
 
 same-length-2 : tie.Need-same-length-2 Inv-loop μ-loop
@@ -90,8 +87,7 @@ put-word-spec =
     mul-letter-of
     shared-slice-read-letter-of
     letter-of-requires
-    put-gap-requires
-    put-letter-requires
+    put-next-letter-requires
     add-i
     loop-less
     loop-again

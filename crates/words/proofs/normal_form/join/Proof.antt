@@ -11,10 +11,10 @@ use Rattle.words.proofs.normal_form.join.Statement.{statement}
 use Rattle.words.proofs.normal_form.join.Tie as tie
 
 abbrev Inv-loop : tie.InvT-loop
-Inv-loop words from middle to out₀ next₀ i₀ out next i = (from ≤ i) × (i ≤ max from middle) × (length out ≡ length out₀) × Joins words from i middle to out₀ 0 next out
+Inv-loop words from middle to out₀ k next₀ i₀ out next i = (from ≤ i) × (i ≤ max from middle) × (length out ≡ length out₀) × Joins words from i middle to out₀ k next out
 
 abbrev μ-loop : tie.MeasureT-loop
-μ-loop words from middle to out₀ next₀ i₀ out next i = middle - i
+μ-loop words from middle to out₀ k next₀ i₀ out next i = middle - i
 
 loop-holds : tie.Need-loop-holds Inv-loop μ-loop
 loop-holds c = search (join-none, needs)

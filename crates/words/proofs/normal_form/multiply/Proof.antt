@@ -1,17 +1,23 @@
--- `multiply` meets its contract: what `join` puts into the scratch space, `join_row` copies back.
+-- `multiply` meets its contract: what `join_row` copies into the scratch space, `join` puts back joined.
 use Rattle.words.proofs.Multiplied.{multiplied}
 use borrow.Author.Needs.{needs}
 use Rattle.words.proofs.normal_form.multiply.Statement.{statement}
 use Rattle.words.proofs.normal_form.multiply.Tie as tie
-
-join-requires : tie.Need-join-requires
-join-requires c κs = search needs
 
 slice-aggregate-join-row : tie.Need-slice-aggregate-join-row
 slice-aggregate-join-row c = search needs
 
 join-row-requires : tie.Need-join-row-requires
 join-row-requires c κs = search needs
+
+slice-aggregate-join-row-2 : tie.Need-slice-aggregate-join-row-2
+slice-aggregate-join-row-2 c = search needs
+
+join-row-requires-2 : tie.Need-join-row-requires-2
+join-row-requires-2 c κs = search needs
+
+join-requires : tie.Need-join-requires
+join-requires c κs = search needs
 
 same-length : tie.Need-same-length
 same-length c = search needs
@@ -26,9 +32,11 @@ pub multiply-spec : {M : Type 1} → statement M
 multiply-spec =
     tie.close
     (tie.spec
-    join-requires
     slice-aggregate-join-row
     join-row-requires
+    slice-aggregate-join-row-2
+    join-row-requires-2
+    join-requires
     same-length
     same-length-2
     returns)

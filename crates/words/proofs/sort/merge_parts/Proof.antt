@@ -1,10 +1,10 @@
--- `merge_parts` meets its contract: the parts are in order already, or what is merged are the parts of a copy of the order.
+-- `merge_parts` meets its contract: the parts are in order already or the other way round, or what is merged are the parts of a copy of the order.
 use native.Mathlib.Omega.{arith}
-use mathlib.Core.Path.{_≡_, ap, sym, _∙_}
+use mathlib.Core.Path.{_≡_, refl, ap, sym, _∙_}
 use lib.ListN.{length, take}
 use lib.Seq.{length-take-le}
 use Rattle.words.proofs.Parts.{two-parts, front-stored}
-use Rattle.words.proofs.Sorting.{parts-merged, parts-in-order}
+use Rattle.words.proofs.Sorting.{parts-merged, parts-in-order, parts-reversed}
 use borrow.Author.Needs.{needs}
 use Rattle.words.proofs.sort.merge_parts.Statement.{statement}
 use Rattle.words.proofs.sort.merge_parts.Tie as tie
@@ -37,23 +37,14 @@ copied c = rw (c .copy .ensures) (front-stored _ _ (c .before .before .before .b
 slice-aggregate-parts : tie.Need-slice-aggregate-parts
 slice-aggregate-parts c = sym (ap length (copied (c .before .before .before)))
 
-slice-aggregate-merge : tie.Need-slice-aggregate-merge
-slice-aggregate-merge c = rw (copied (c .before .before .before .before)) (sym (length-take-le _ _ (c .before .before .before .before .before .before .before .before .before .before .before .before .before .pre .0)))
+sub-takes-first-2 : tie.Need-sub-takes-first-2
+sub-takes-first-2 c = search needs
 
-mul-merge : tie.Need-mul-merge
-mul-merge c = search needs
+takes-first-requires-2 : tie.Need-takes-first-requires-2
+takes-first-requires-2 c κs = search needs
 
-sub-merge : tie.Need-sub-merge
-sub-merge c = rw (copied (c .before .before .before .before)) (c .before .before .before .before .before .before .before .before .before .before .before .before .before .pre .0)
-
-part-merge-start : tie.Need-part-merge-start
-part-merge-start c = omega (arith, ap length (copied (c .before .before .before .before)), c .before .before .before .before .before .before .before .before .before .before .before .before .before .pre .0)
-
-part-merge-end : tie.Need-part-merge-end
-part-merge-end c = search needs
-
-merge-requires : tie.Need-merge-requires
-merge-requires c κs = rw (copied (c .before .before .before .before .before .before)) (two-parts _ _ (c .before .before .before .before .before .before .before .before .before .before .before .before .before .before .before .pre .0))
+swap-parts-requires : tie.Need-swap-parts-requires
+swap-parts-requires c κs = rw (copied (c .before .before .before .before .before .before)) (c .before .before .before .before .before .before .before .before .before .before .before .before .before .before .before .pre .0, refl)
 
 same-length-2 : tie.Need-same-length-2
 same-length-2 c = search needs
@@ -62,7 +53,41 @@ same-length-3 : tie.Need-same-length-3
 same-length-3 c = search needs
 
 returns-2 : tie.Need-returns-2
-returns-2 c = parts-merged _ _ (c .before .before .merge .last .1 .1 .1 .0) _ (copied (c .before .before .before .before .before .before .before .before .before)) (c .before .before .merge .ensures)
+returns-2 c =
+    let t = c .before .before .before .before in
+    let u = t .before .before .before .before .before .before .before .before in
+    let s = u .before .before .before .before .before .before in
+    parts-reversed (s .args .words .now) (s .args .order .now) _ (s .args .mid) (copied (c .before .before .before .before .before .before .before .before .before)) (s .pre .0) (s .pre .2)
+    (sym (u .before .takes-first .ensures) ∙ u .if1 .left)
+    (sym (t .before .takes-first2 .ensures) ∙ t .if2 .taken)
+    (c .before .before .swap-parts .ensures)
+
+slice-aggregate-merge : tie.Need-slice-aggregate-merge
+slice-aggregate-merge c = rw (copied (c .before .before .before .before .before .before)) (sym (length-take-le _ _ (c .before .before .before .before .before .before .before .before .before .before .before .before .before .before .before .pre .0)))
+
+mul-merge : tie.Need-mul-merge
+mul-merge c = search needs
+
+sub-merge : tie.Need-sub-merge
+sub-merge c = rw (copied (c .before .before .before .before .before .before)) (c .before .before .before .before .before .before .before .before .before .before .before .before .before .before .before .pre .0)
+
+part-merge-start : tie.Need-part-merge-start
+part-merge-start c = omega (arith, ap length (copied (c .before .before .before .before .before .before)), c .before .before .before .before .before .before .before .before .before .before .before .before .before .before .before .pre .0)
+
+part-merge-end : tie.Need-part-merge-end
+part-merge-end c = search needs
+
+merge-requires : tie.Need-merge-requires
+merge-requires c κs = rw (copied (c .before .before .before .before .before .before .before .before)) (two-parts _ _ (c .before .before .before .before .before .before .before .before .before .before .before .before .before .before .before .before .before .pre .0))
+
+same-length-4 : tie.Need-same-length-4
+same-length-4 c = search needs
+
+same-length-5 : tie.Need-same-length-5
+same-length-5 c = search needs
+
+returns-3 : tie.Need-returns-3
+returns-3 c = parts-merged _ _ (c .before .before .merge .last .1 .1 .1 .0) _ (copied (c .before .before .before .before .before .before .before .before .before .before .before)) (c .before .before .merge .ensures)
 
 pub merge-parts-spec : {M : Type 1} → statement M
 merge-parts-spec =
@@ -75,12 +100,18 @@ merge-parts-spec =
     copy-requires
     slice-reshare-prefix-parts
     slice-aggregate-parts
+    sub-takes-first-2
+    takes-first-requires-2
+    swap-parts-requires
+    same-length-2
+    same-length-3
+    returns-2
     slice-aggregate-merge
     mul-merge
     sub-merge
     part-merge-start
     part-merge-end
     merge-requires
-    same-length-2
-    same-length-3
-    returns-2)
+    same-length-4
+    same-length-5
+    returns-3)

@@ -2,7 +2,6 @@
 use native.Mathlib.Omega.{arith}
 use mathlib.Core.Path.{sym}
 use mathlib.Core.Bool.{true≢false}
-use Rattle.words.proofs.FirstWord.{table-made}
 use borrow.Author.Needs.{needs}
 use Rattle.words.proofs.candidate.rank.is_greater.Statement.{statement}
 use Rattle.words.proofs.candidate.rank.is_greater.Tie as tie
@@ -10,42 +9,29 @@ use Rattle.words.proofs.candidate.rank.is_greater.Tie as tie
 returns : tie.Need-returns
 returns c = record { later = λ e. absurd (true≢false (sym e)); first = λ e. absurd (true≢false (sym e)); second = λ e. absurd (true≢false (sym e)) }
 
-slice-aggregate-number-slots : tie.Need-slice-aggregate-number-slots
-slice-aggregate-number-slots c = search needs
+slice-aggregate-fill-table : tie.Need-slice-aggregate-fill-table
+slice-aggregate-fill-table c = search needs
 
-number-slots-requires : tie.Need-number-slots-requires
-number-slots-requires c κs = search needs
-
-slice-aggregate-rename-run : tie.Need-slice-aggregate-rename-run
-slice-aggregate-rename-run c = search needs
-
-slice-aggregate-rename-run-2 : tie.Need-slice-aggregate-rename-run-2
-slice-aggregate-rename-run-2 c = search needs
-
-rename-run-requires : tie.Need-rename-run-requires
-rename-run-requires c κs = search needs
+fill-table-requires : tie.Need-fill-table-requires
+fill-table-requires c κs = search needs
 
 slice-aggregate-is-above : tie.Need-slice-aggregate-is-above
 slice-aggregate-is-above c = search needs
 
 is-above-requires : tie.Need-is-above-requires
-is-above-requires c κs =
-    let r = c .before .before in
-    table-made _ _ (r .before .before .before .before .number-slots .ensures) (r .rename-run .ensures)
+is-above-requires c κs = search needs
 
 slice-aggregate-is-above-2 : tie.Need-slice-aggregate-is-above-2
 slice-aggregate-is-above-2 c = search needs
 
 is-above-requires-2 : tie.Need-is-above-requires-2
-is-above-requires-2 c κs =
-    let r = c .before .before .before .before .before in
-    table-made _ _ (r .before .before .before .before .number-slots .ensures) (r .rename-run .ensures)
+is-above-requires-2 c κs = search needs
 
 returns-2 : tie.Need-returns-2
 returns-2 c =
     let t = c .before .before in
     record {
-      later = λ e. omega (arith, t .before .before .before .before .before .before .before .before .before .before .if1 .left);
+      later = λ e. omega (arith, t .before .before .before .before .before .before .if1 .left);
       first = λ e. t .before .is-above .ensures (t .if2 .taken);
       second = c .is-above2 .ensures;
     }
@@ -58,11 +44,8 @@ is-greater-spec =
     tie.close
     (tie.spec
     returns
-    slice-aggregate-number-slots
-    number-slots-requires
-    slice-aggregate-rename-run
-    slice-aggregate-rename-run-2
-    rename-run-requires
+    slice-aggregate-fill-table
+    fill-table-requires
     slice-aggregate-is-above
     is-above-requires
     slice-aggregate-is-above-2

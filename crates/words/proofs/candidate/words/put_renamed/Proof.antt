@@ -6,11 +6,11 @@ use borrow.Author.Needs.{needs}
 use Rattle.words.proofs.candidate.words.put_renamed.Statement.{statement}
 use Rattle.words.proofs.candidate.words.put_renamed.Tie as tie
 
-slice-aggregate-rename-run : tie.Need-slice-aggregate-rename-run
-slice-aggregate-rename-run c = search needs
+slice-aggregate-rename-by : tie.Need-slice-aggregate-rename-by
+slice-aggregate-rename-by c = search needs
 
-rename-run-requires : tie.Need-rename-run-requires
-rename-run-requires c κs = search needs
+rename-by-requires : tie.Need-rename-by-requires
+rename-by-requires c κs = search needs
 
 slice-aggregate-front : tie.Need-slice-aggregate-front
 slice-aggregate-front c = search needs
@@ -30,16 +30,16 @@ same-length c = search needs
 returns : tie.Need-returns
 returns c =
     let r = c .before .before .before .before .before .before .before .before in
-    let a = r .before .before .before .before .before .before .args in
+    let a = r .before .before .before .before .before .before .before .args in
     word-renamed (renamed (a .names .now) (a .numbers .now)) (a .word .now) _ refl
-    (r .rename-run .ensures) (c .before .before .before .before .front .ensures) (c .before .before .put-word .ensures)
+    (r .rename-by .ensures) (c .before .before .before .before .front .ensures) (c .before .before .put-word .ensures)
 
 pub put-renamed-spec : {M : Type 1} → statement M
 put-renamed-spec =
     tie.close
     (tie.spec
-    slice-aggregate-rename-run
-    rename-run-requires
+    slice-aggregate-rename-by
+    rename-by-requires
     slice-aggregate-front
     front-requires
     slice-aggregate-put-word

@@ -14,13 +14,13 @@ use Rattle.words.proofs.candidate.words.rename_slots.Statement.{stateme
 use Rattle.words.proofs.candidate.words.rename_slots.Tie as tie
 
 abbrev Inv-loop : tie.InvT-loop
-Inv-loop words names numbers slots₀ next₀ i₀ slots next i =
+Inv-loop words table names numbers slots₀ next₀ i₀ slots next i =
     (i ≤ length words / 17)
     × (length slots ≡ length slots₀)
     × PutsWords (map (rename-run (renamed names numbers)) (words-in words i)) slots₀ 0 next slots
 
 abbrev μ-loop : tie.MeasureT-loop
-μ-loop words names numbers slots₀ next₀ i₀ slots next i = length words / 17 - i
+μ-loop words table names numbers slots₀ next₀ i₀ slots next i = length words / 17 - i
 
 loop-holds : tie.Need-loop-holds Inv-loop μ-loop
 loop-holds c = (omega arith, refl, none-renamed _ _ _)
@@ -41,10 +41,10 @@ loop-again : tie.Need-loop-again Inv-loop μ-loop
 loop-again c =
     let p = c .before .before in
     let l = p .before .before .before .before in
-    let a = l .before .before .before .before .before .args in
+    let a = l .before .before .before .before .before .before .args in
     let f = rename-run (renamed (a .names .now) (a .numbers .now)) in (
       omega arith,
-      p .put-renamed .kept .1 .1 .1 .0 ∙ l .loop .inv .1,
+      p .put-renamed .kept .1 .1 .1 .1 .0 ∙ l .loop .inv .1,
       one-more-renamed f (a .words .now) (a .slots .now) (l .loop .i) (l .loop .inv .2) (p .before .before .word-of .ensures) (p .put-renamed .ensures),
     )
 
@@ -54,7 +54,7 @@ same-length c = search needs
 returns : tie.Need-returns Inv-loop μ-loop
 returns c =
     let l = c .before in
-    let e : l .loop .i ≡ length (l .before .before .before .before .before .args .words .now) / 17 = omega arith in
+    let e : l .loop .i ≡ length (l .before .before .before .before .before .before .args .words .now) / 17 = omega arith in
     rw e at (l .loop .inv .2)
 
 pub rename-slots-spec : {M : Type 1} → statement M

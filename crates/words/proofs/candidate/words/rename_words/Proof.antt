@@ -7,6 +7,15 @@ use borrow.Author.Needs.{needs}
 use Rattle.words.proofs.candidate.words.rename_words.Statement.{statement}
 use Rattle.words.proofs.candidate.words.rename_words.Tie as tie
 
+slice-aggregate-fill-table : tie.Need-slice-aggregate-fill-table
+slice-aggregate-fill-table c = search needs
+
+fill-table-requires : tie.Need-fill-table-requires
+fill-table-requires c κs = search needs
+
+slice-aggregate-rename-slots : tie.Need-slice-aggregate-rename-slots
+slice-aggregate-rename-slots c = search needs
+
 rename-slots-requires : tie.Need-rename-slots-requires
 rename-slots-requires c κs = search needs
 
@@ -30,7 +39,7 @@ same-length-2 c = search needs
 returns : tie.Need-returns
 returns c =
     let r = c .before .before .before .before .before .before .before .before in
-    let a = r .before .before .before .before .before .before .before .args in
+    let a = r .before .before .before .before .before .before .before .before .before .before .before .args in
     words-renamed (renamed (a .names .now) (a .numbers .now)) (a .words .now) (a .slots .now)
     (r .rename-slots .ensures) (c .before .before .before .before .front .ensures) (c .before .before .spell-sorted .ensures)
 
@@ -38,6 +47,9 @@ pub rename-words-spec : {M : Type 1} → statement M
 rename-words-spec =
     tie.close
     (tie.spec
+    slice-aggregate-fill-table
+    fill-table-requires
+    slice-aggregate-rename-slots
     rename-slots-requires
     mul-front
     front-requires
