@@ -7,12 +7,13 @@ use mathlib.Core.Path.{_≡_, refl, sym, ap, _∙_}
 use mathlib.Core.Logic.{_⊎_, inl, inr}
 use mathlib.Core.List.{List, [], _∷_, _++_}
 use lib.ListN.{length, take, drop, getD, set, length-append, List·getD-append}
-use lib.Seq.{sets, sets-eq, length-sets, take-take, take-at, getD-at, length-take-le}
+use lib.Seq.{sets, length-sets, take-take, take-at, getD-at, length-take-le}
 use Rattle.terms.specs.Term.{Term, zero, size}
 use Rattle.terms.specs.Held.{IsRun}
 use Rattle.terms.specs.Theory.Held.{size-of}
 use Rattle.terms.proofs.Positions.{front-getD}
 use Rattle.terms.proofs.Held.{held-part, holds-part, front-holds}
+use Rattle.words.proofs.Stores.{take-stored}
 use Rattle.search.specs.Search.{Noted}
 use Rattle.search.specs.Origins.{numbers}
 use Rattle.search.specs.Slots.{SLOT, Spells, origin-of, noted-at, Comes, Slot, Writes}
@@ -67,10 +68,7 @@ module _ (ws ws₂ ws′ : List ℕ) (k : ℕ) (xs : List ℕ) (o : Origin) (d :
   front-length = length-take-le (a + 8) written (omega (arith, long))
 
   whole : take m ws′ ≡ take (a + 8) written ++ xs
-  whole =
-      rw (stored, sets-eq xs written (a + 8) (omega (arith, long)))
-      (take-at (take (a + 8) written ++ xs) (drop (a + 8 + length xs) written) (a + 8 + length xs)
-      (length-append (take (a + 8) written) xs ∙ ap (λ n. n + length xs) front-length))
+  whole = rw stored (take-stored written (a + 8) xs (omega (arith, long)))
 
   front : take (a + 8) ws′ ≡ take (a + 8) written
   front = sym (take-take (a + 8) m ws′ (omega arith)) ∙ ap (take (a + 8)) whole ∙ take-at (take (a + 8) written) xs (a + 8) front-length

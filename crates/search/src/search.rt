@@ -11,6 +11,7 @@ use terms::term::ADD;
 use terms::term::MUL;
 use terms::term::ONE;
 use terms::term::ZERO;
+use words::normal_form::copy;
 
 pub enum Law {
     AddAssoc,
@@ -246,19 +247,13 @@ pub fn bind_sides(law: Law, both: &[u32], middle: usize) -> Binding
     bind(&sides[9..right], both, middle, z)
 }
 
-// Puts numbers after the first `n` of a buffer.
+// Puts numbers after the first `n` of a buffer, which has room for them: the position after them.
 pub fn append(out: &mut [u32], n: usize, src: &[u32]) -> usize
     requires { ⌜ n + length (now src) ≤ length (now out) ⌝ }
     ensures { λ r. ⌜ (r ≡ n + length (now (src .entry))) × (take r (now (out .exit)) ≡ take n (now (out .entry)) ++ now (src .entry)) ⌝ }
 {
-    let mut m = n;
-    let mut j = 0;
-    while j < src.len() {
-        out[m] = src[j];
-        m += 1;
-        j += 1;
-    }
-    m
+    copy(out, n, src);
+    n + src.len()
 }
 
 // What the direct match finds.

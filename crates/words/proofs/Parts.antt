@@ -1,12 +1,13 @@
 -- Parts of a list: the end, lent and given back; a list stored at the front of another.
 use Prim.Native.Nat.{ℕ, _+_, _-_, _≤_}
 use native.Mathlib.Omega.{arith}
-use mathlib.Core.Path.{_≡_, refl, _∙_}
+use native.Mathlib.Nat.{zero-add}
+use mathlib.Core.Path.{_≡_, _∙_}
 use mathlib.Core.List.{List, [], _++_, append-nil}
 use lib.ListN.{length, take, drop, length-drop, length-append, drop-of-length-le}
 use lib.Seq.{sets, sets-eq, take-all, take-at, length-take-le}
 use borrow.Rule.Slice.PartMut.{midOf, putMid}
-use Rattle.words.proofs.Stores.{drop-sets}
+use Rattle.words.proofs.Stores.{take-stored}
 
 module _ (xs : List ℕ) (n : ℕ) where
   whole : length (drop n xs) ≤ length xs - n
@@ -35,4 +36,4 @@ swapped xs out n h e =
     (sets-eq (take n xs) (ys ++ r) (length xs - n) (omega (arith, all, length-take-le n xs h)) ∙ rw (take-at ys r (length xs - n) size, end, append-nil))
 
 pub front-stored : (xs ys : List ℕ) → length ys ≤ length xs → take (length ys) (sets xs 0 ys) ≡ ys
-front-stored xs ys h = rw (drop-sets xs 0 ys (omega arith)) (take-at ys (drop (0 + length ys) xs) (length ys) refl)
+front-stored xs ys h = rw zero-add at (take-stored xs 0 ys (omega arith))

@@ -3,9 +3,9 @@ use Prim.Native.Nat.{ℕ, suc, _+_, _≤_, _<_}
 use native.Mathlib.Omega.{arith}
 use native.Mathlib.Nat.{add-zero}
 use native.Mathlib.Numerals.{add-one}
-use mathlib.Core.Path.{_≡_, refl, sym, _∙_}
+use mathlib.Core.Path.{_≡_, refl, sym, ap, _∙_}
 use mathlib.Core.List.{List, [], _∷_, _++_, append-assoc}
-use lib.ListN.{length, take, drop, getD, set, drop-of-length-le}
+use lib.ListN.{length, take, drop, getD, set, drop-of-length-le, length-append}
 use lib.Seq.{sets, sets-eq, set-out, drop-cons, take-at, drop-at, length-take-le}
 
 -- past the end nothing is stored
@@ -38,3 +38,8 @@ module _ (xs : List ℕ) (i : ℕ) (vs : List ℕ) (h : i + length vs ≤ length
 
   pub drop-sets : drop i (sets xs i vs) ≡ vs ++ drop (i + length vs) xs
   drop-sets = rw (sets-eq vs xs i h, append-assoc) (drop-at (take i xs) (vs ++ drop (i + length vs) xs) i front)
+
+  pub take-stored : take (i + length vs) (sets xs i vs) ≡ take i xs ++ vs
+  take-stored =
+      rw (sets-eq vs xs i h)
+      (take-at (take i xs ++ vs) (drop (i + length vs) xs) (i + length vs) (length-append (take i xs) vs ∙ ap (λ k. k + length vs) front))
