@@ -51,6 +51,7 @@ fn bind_side(p: &[u32], q: &[u32], s: &[u32], at: usize) -> Binding
     Binding::Unbound
 }
 
+// A number that no run has.
 const NONE: u32 = 4100;
 
 // The number that a run begins with where a law is bound forward: 0 where any may, and NONE, which no run has, where a letter of the

@@ -22,7 +22,7 @@ const ONE: u32 = 4097;
 
 const ADD: u32 = 4098;
 
-// Three positions behind each one below it there are others.
+// To a position below it, 3 can be added.
 const FAR: usize = 18446744073709551612;
 
 // One byte.
