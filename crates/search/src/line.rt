@@ -8,13 +8,13 @@ ghost use Rattle.search.specs.Filled.{Fills};
 ghost use Rattle.search.specs.Spliced.{Finishes, Splices, Tries, Outgrows};
 ghost use Rattle.search.specs.declared.search.Binding.the-variants.{Bound};
 use crate::search;
-use crate::search::ADD;
 use crate::search::Binding;
 use crate::search::Direction;
 use crate::search::Law;
-use crate::search::MUL;
 use crate::search::Spans;
 use terms::term;
+use terms::term::ADD;
+use terms::term::MUL;
 
 // Whether each letter of a law's side stands for a part.
 fn binds_all(q: &[u32], z: Spans) -> bool

@@ -7,6 +7,10 @@ ghost use Rattle.search.specs.Coded.{law-of, law-number, numbered-law, d
 ghost use Rattle.search.specs.Span.{span-of, with-span, no-spans, Within, letter-met, Meets, Matches};
 ghost use Rattle.search.specs.Directly.{BindsSides, TakesFirst, Directs};
 use terms::term;
+use terms::term::ADD;
+use terms::term::MUL;
+use terms::term::ONE;
+use terms::term::ZERO;
 
 pub enum Law {
     AddAssoc,
@@ -93,14 +97,6 @@ const A: u32 = 0;
 const B: u32 = 1;
 
 const C: u32 = 2;
-
-const ZERO: u32 = 4096;
-
-const ONE: u32 = 4097;
-
-pub const ADD: u32 = 4098;
-
-pub const MUL: u32 = 4099;
 
 // The sides of a law: at 0 and at 8 how many numbers the left and the right one have, and after that the side's run.
 pub fn row_of(law: Law) -> [u32; 16]

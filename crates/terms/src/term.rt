@@ -6,13 +6,14 @@ ghost use Rattle.terms.specs.Sort.{lost, insert, insert-all};
 ghost use Rattle.terms.specs.Numbers.{put-in, letters-of};
 ghost use Rattle.terms.specs.Promises.{Compares, Equals, Ends, Sized, Extends, Deep, Reads, Fills, Lists};
 
-// The numbers below it are letters.
-const ZERO: u32 = 4096;
+// The numbers of a run that are no letters: 0, 1, a sum and a product. Those below ZERO are letters, and those below ADD atoms.
+pub const ZERO: u32 = 4096;
 
-// The numbers below it are atoms.
-const ADD: u32 = 4098;
+pub const ONE: u32 = 4097;
 
-const MUL: u32 = 4099;
+pub const ADD: u32 = 4098;
+
+pub const MUL: u32 = 4099;
 
 pub enum Comparison {
     Less,

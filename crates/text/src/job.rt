@@ -7,6 +7,10 @@ ghost use lib.Seq.{slice};
 ghost use Rattle.text.specs.Bytes.{digits, read-number};
 ghost use Rattle.text.specs.Marks.{mark};
 ghost use Rattle.text.specs.Reading.{Items, Keys, Lines, Values, limited};
+use terms::term::ADD;
+use terms::term::MUL;
+use terms::term::ONE;
+use terms::term::ZERO;
 
 // A job accepted or refused.
 pub mod accept;
@@ -16,15 +20,6 @@ pub mod lines;
 
 // The sides of the equation.
 pub mod side;
-
-// The numbers of a run that are no letters.
-const ZERO: u32 = 4096;
-
-const ONE: u32 = 4097;
-
-const ADD: u32 = 4098;
-
-const MUL: u32 = 4099;
 
 // The signs of a term.
 pub enum Sign {

@@ -22,18 +22,14 @@ use search::search::Law;
 use search::search::Span;
 use search::search::Spans;
 use terms::term;
+use terms::term::ADD;
+use terms::term::ZERO;
 
 // The whole proof.
 pub mod lambdas;
 
 // The lines of a path.
 pub mod path;
-
-// In a run, the numbers below it are letters.
-const ZERO: u32 = 4096;
-
-// In a run, the numbers from it on are sums and products.
-const ADD: u32 = 4098;
 
 // The place of a letter among the equation's letters: how many they are, if it is none of them.
 fn index_of(names: &[u32], n: u32) -> usize

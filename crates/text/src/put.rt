@@ -14,13 +14,9 @@ ghost use Rattle.text.specs.Items.{sign-of, item, gap};
 ghost use Rattle.text.specs.Words.{word, word-list};
 ghost use Rattle.text.specs.Spelled.{word-size};
 ghost use Rattle.text.specs.Put.{Put};
-
-// In a run, the numbers below it are letters.
-const ZERO: u32 = 4096;
-
-const ONE: u32 = 4097;
-
-const ADD: u32 = 4098;
+use terms::term::ADD;
+use terms::term::ONE;
+use terms::term::ZERO;
 
 // To a position below it, 3 can be added.
 const FAR: usize = 18446744073709551612;

@@ -17,13 +17,13 @@ pub mod words;
 // Renamed lists of words set against a run.
 pub mod rank;
 
-use super::normal_form::ZERO;
 use super::normal_form::copy;
 use super::normal_form::front;
 use terms::candidate::smaller;
 use terms::term;
 use terms::term::Comparison;
 use terms::term::Listed;
+use terms::term::ZERO;
 
 // The first seven factorials: up to six letters are renamed.
 const FACTORIALS: [usize; 7] = [1, 1, 2, 6, 24, 120, 720];

@@ -8,21 +8,16 @@ ghost use Rattle.words.specs.Multiply.{atom-words, PutsWords, JoinsRow, 
 ghost use Rattle.words.specs.WordLists.{WordsOf, ComparesLists};
 use super::sort::spell_sorted;
 use terms::term;
+use terms::term::ADD;
 use terms::term::Comparison;
+use terms::term::ONE;
+use terms::term::ZERO;
 
 // The most words of a term of 31 nodes.
 pub const MOST: usize = 324;
 
 // The numbers in so many slots: a word has at most 16 letters.
 pub const ROOM: usize = 5508;
-
-// In a run the numbers below it are letters, and it is 0.
-pub const ZERO: u32 = 4096;
-
-const ONE: u32 = 4097;
-
-// The numbers below it are atoms, and those above it products.
-const ADD: u32 = 4098;
 
 // The word in slot k, as a part of the slots; no letters where there is no such slot.
 pub fn word_of(words: &[u32], k: usize) -> &[u32]

@@ -22,9 +22,7 @@ use search::path;
 use search::search::Direction;
 use search::search::Law;
 use terms::term;
-
-// In a run, the numbers below it are atoms.
-const ADD: u32 = 4098;
+use terms::term::ADD;
 
 // Where the part of a sum or product on one side starts: an atom is its own part.
 fn part_at(run: &[u32], from: usize, right: bool) -> usize
