@@ -1,4 +1,4 @@
-//! WORDS and RENAME at their worst case.
+//! WORDS and RENAME at their worst cases.
 
 use std::hint::black_box;
 
@@ -9,26 +9,48 @@ use crate::ours::Workspace;
 use crate::table::{head, row};
 
 /// Two sides of 31 nodes with six letters and 324 words each.
-const JOB: Job = Job {
+const MANY_WORDS: Job = Job {
     left: "* + v0 + v1 v2 * + v3 + v4 v5 * + v0 + v1 v2 * + v3 + v4 v5 + v0 + v1 + v2 v3",
     right: "* + v5 + v4 v3 * + v2 + v1 v0 * + v5 + v4 v3 * + v2 + v1 v0 + v5 + v4 + v3 v2",
     limits: [0; 4],
 };
 
+/// The same sizes, and the letters of a side are alike in it: no renaming can be passed over early.
+const ALIKE: Job = Job {
+    left: "* + v0 + v1 v2 * + v0 + v1 v2 * + v0 + v1 v2 * + v0 + v1 v2 * + 1 1 + 1 1",
+    right: "* + v3 + v4 v5 * + v3 + v4 v5 * + v3 + v4 v5 * + v3 + v4 v5 * + 1 1 + 1 1",
+    limits: [0; 4],
+};
+
 pub fn rows(workspace: &mut Workspace) {
     head();
-    let text = JOB.text();
-    let equation = JOB.equation();
+    words("WORDS, 324 words a side", &MANY_WORDS, workspace);
+    rename(
+        "RENAME, six letters, 324 words a side",
+        &MANY_WORDS,
+        workspace,
+    );
+    rename("RENAME, the same, letters alike", &ALIKE, workspace);
+}
+
+fn words(name: &str, job: &Job, workspace: &mut Workspace) {
+    let text = job.text();
+    let equation = job.equation();
     compare(Entry::Words, &text, workspace);
     row(
-        "WORDS, 324 words a side",
+        name,
         200,
         || black_box(&equation).semiring_normalize(),
         || workspace.call(Entry::Words, black_box(&text), 0, PROGRAM_ROOM),
     );
+}
+
+fn rename(name: &str, job: &Job, workspace: &mut Workspace) {
+    let text = job.text();
+    let equation = job.equation();
     compare(Entry::Rename, &text, workspace);
     row(
-        "RENAME, six letters, 324 words a side",
+        name,
         10,
         || {
             let lists = black_box(&equation).semiring_normalize();

@@ -32,24 +32,20 @@ equal? a b = go (below? a b) (below? b a)
     go (inr h) (inr q) = inl (omega arith)
 
 -- a number of the index stored, number i of slot j: each slot keeps what it has
-module _ (ws : List ℕ) (j i v : ℕ) (low : 6 ≤ i) (high : i < SLOT) (off : (i < 8) ⊎ (39 ≤ i)) where
+module _ (ws : List ℕ) (j i v : ℕ) (low : 5 ≤ i) (high : i < 8) where
   run-stored : (k : ℕ) (t : Term) → Spells ws k t → Spells (set ws (SLOT * j + i) v) k t
   run-stored k t s =
       record {
         count = getD-set-other ws (SLOT * j + i) (SLOT * k) v 0 (λ e. omega arith) ∙ s .count;
         small = s .small;
-        held = go (below? (SLOT * j + i) (SLOT * k + 8)) off;
+        held = go (below? (SLOT * j + i) (SLOT * k + 8));
       }
     where
-      past : SLOT * k + 39 ≤ SLOT * j + i → Holds (set ws (SLOT * j + i) v) (SLOT * k + 8) t
-      past h =
-          front-holds ws (set ws (SLOT * j + i) v) (SLOT * j + i) (take-set-le (SLOT * j + i) ws (SLOT * j + i) v (omega arith)) (omega (arith, s .small)) (s .held)
-
-      go : (SLOT * j + i < SLOT * k + 8) ⊎ (SLOT * k + 8 ≤ SLOT * j + i) → (i < 8) ⊎ (39 ≤ i) → Holds (set ws (SLOT * j + i) v) (SLOT * k + 8) t
-      go (inl h) p =
+      go : (SLOT * j + i < SLOT * k + 8) ⊎ (SLOT * k + 8 ≤ SLOT * j + i) → Holds (set ws (SLOT * j + i) v) (SLOT * k + 8) t
+      go (inl h) =
           record { fine = s .held .fine; rest = s .held .rest; here = drop-set-lt (SLOT * k + 8) ws (SLOT * j + i) v h ∙ s .held .here }
-      go (inr h) (inl p) = past (omega arith)
-      go (inr h) (inr p) = past (omega arith)
+      go (inr h) =
+          front-holds ws (set ws (SLOT * j + i) v) (SLOT * j + i) (take-set-le (SLOT * j + i) ws (SLOT * j + i) v (omega arith)) (omega (arith, s .small)) (s .held)
 
   origin-stored : (k : ℕ) → origin-of (set ws (SLOT * j + i) v) k ≡ origin-of ws k
   origin-stored k =
@@ -62,7 +58,7 @@ module _ (ws : List ℕ) (j i v : ℕ) (low : 6 ≤ i) (high : i < SLOT) (off : 
       record {
         run = run-stored k (n .term) (s .run);
         origin = rw (origin-stored k) (s .origin);
-        distance = getD-set-other ws (SLOT * j + i) (SLOT * k + 5) v 0 (λ e. omega arith) ∙ s .distance;
+        distance = getD-set-other ws (SLOT * j + i) (SLOT * k + 39) v 0 (λ e. omega arith) ∙ s .distance;
       }
 
 newest-still : {f g : ℕ → ℕ} {b n k : ℕ} → ((j : ℕ) → j < n → f j ≡ g j) → Newest f b n k → Newest g b n k
@@ -89,13 +85,13 @@ module _ {ws ws′ : List ℕ} (ns : List Noted) (n : Noted) {xs : List ℕ} {o 
   b = bucket (slots-of (length ws)) xs
 
   abbrev hashed : List ℕ
-  hashed = set (E .written) (SLOT * count + 39) (hash xs 0)
+  hashed = set (E .written) (SLOT * count + 5) (hash xs 0)
 
   abbrev linked : List ℕ
   linked = set hashed (SLOT * count + 7) (E .older)
 
   hashed-long : length hashed ≡ length ws
-  hashed-long = length-set (E .written) (SLOT * count + 39) (hash xs 0) ∙ E .writes .size
+  hashed-long = length-set (E .written) (SLOT * count + 5) (hash xs 0) ∙ E .writes .size
 
   linked-long : length linked ≡ length ws
   linked-long = length-set hashed (SLOT * count + 7) (E .older) ∙ hashed-long
@@ -122,7 +118,7 @@ module _ {ws ws′ : List ℕ} (ns : List Noted) (n : Noted) {xs : List ℕ} {o 
       rw (E .links)
       (getD-set-other linked (SLOT * b + 6) (SLOT * c + 6) count 0 (λ e. h (omega arith))
       ∙ getD-set-other hashed (SLOT * count + 7) (SLOT * c + 6) (E .older) 0 (λ e. omega arith)
-      ∙ getD-set-other (E .written) (SLOT * count + 39) (SLOT * c + 6) (hash xs 0) 0 (λ e. omega arith)
+      ∙ getD-set-other (E .written) (SLOT * count + 5) (SLOT * c + 6) (hash xs 0) 0 (λ e. omega arith)
       ∙ E .writes .index c 6 (omega arith) (omega arith))
 
   next-new : next-of ws′ count ≡ E .older
@@ -136,23 +132,23 @@ module _ {ws ws′ : List ℕ} (ns : List Noted) (n : Noted) {xs : List ℕ} {o 
       rw (E .links)
       (getD-set-other linked (SLOT * b + 6) (SLOT * k + 7) count 0 (λ e. omega arith)
       ∙ getD-set-other hashed (SLOT * count + 7) (SLOT * k + 7) (E .older) 0 (λ e. omega arith)
-      ∙ getD-set-other (E .written) (SLOT * count + 39) (SLOT * k + 7) (hash xs 0) 0 (λ e. omega arith)
+      ∙ getD-set-other (E .written) (SLOT * count + 5) (SLOT * k + 7) (hash xs 0) 0 (λ e. omega arith)
       ∙ E .writes .index k 7 (omega arith) (omega arith))
 
   -- the links leave the hash that is written
   hash-stored : (k : ℕ) → hash-of ws′ k ≡ hash-of hashed k
   hash-stored k =
       rw (E .links)
-      (getD-set-other linked (SLOT * b + 6) (SLOT * k + 39) count 0 (λ e. omega arith)
-      ∙ getD-set-other hashed (SLOT * count + 7) (SLOT * k + 39) (E .older) 0 (λ e. omega arith))
+      (getD-set-other linked (SLOT * b + 6) (SLOT * k + 5) count 0 (λ e. omega arith)
+      ∙ getD-set-other hashed (SLOT * count + 7) (SLOT * k + 5) (E .older) 0 (λ e. omega arith))
 
   hash-new : hash-of ws′ count ≡ hash xs 0
-  hash-new = hash-stored count ∙ getD-set-same (E .written) (SLOT * count + 39) (hash xs 0) 0 (omega (arith, E .room, E .writes .size))
+  hash-new = hash-stored count ∙ getD-set-same (E .written) (SLOT * count + 5) (hash xs 0) 0 (omega (arith, E .room, E .writes .size))
 
   hash-still : (k : ℕ) → k < count → hash-of ws′ k ≡ hash-of ws k
   hash-still k h =
-      hash-stored k ∙ getD-set-other (E .written) (SLOT * count + 39) (SLOT * k + 39) (hash xs 0) 0 (λ e. omega arith)
-      ∙ front-getD ws (E .written) (SLOT * count) (SLOT * k + 39) (E .writes .kept) (omega arith)
+      hash-stored k ∙ getD-set-other (E .written) (SLOT * count + 5) (SLOT * k + 5) (hash xs 0) 0 (λ e. omega arith)
+      ∙ front-getD ws (E .written) (SLOT * count) (SLOT * k + 5) (E .writes .kept) (omega arith)
 
   -- a slot is one of the old ones, or the new one
   old-or-new : (k : ℕ) → k < length more → (k ≡ count) ⊎ (k < count)
@@ -193,9 +189,9 @@ module _ {ws ws′ : List ℕ} (ns : List Noted) (n : Noted) {xs : List ℕ} {o 
       record {
         slot = λ k h.
             rw (E .links)
-            (slot-stored linked b 6 count (omega arith) (omega arith) (inl (omega arith))
-            (slot-stored hashed count 7 (E .older) (omega arith) (omega arith) (inl (omega arith))
-            (slot-stored (E .written) count 39 (hash xs 0) (omega arith) (omega arith) (inr (omega arith)) (slots k h))));
+            (slot-stored linked b 6 count (omega arith) (omega arith)
+            (slot-stored hashed count 7 (E .older) (omega arith) (omega arith)
+            (slot-stored (E .written) count 5 (hash xs 0) (omega arith) (omega arith) (slots k h))));
         index = record { head = heads; next = nexts; hashed = hashes };
       }
     where

@@ -28,6 +28,7 @@ pub mod Turning
 pub mod Traced
 pub mod Running
 pub mod Resulting
+pub mod Repeating
 pub mod InTurn
 pub mod Taking
 pub mod Searching

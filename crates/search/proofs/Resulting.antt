@@ -37,11 +37,11 @@ use Rattle.search.proofs.Unknown.{unknown-append}
 -- the lines that keep the limits
 
 module _ (m : Limits) where
-  allowed-in : (x : Line) (xs : List Line) → within m (x .result) ≡ true → allowed m (x ∷ xs) ≡ x ∷ allowed m xs
+  pub allowed-in : (x : Line) (xs : List Line) → within m (x .result) ≡ true → allowed m (x ∷ xs) ≡ x ∷ allowed m xs
   unfolding allowed
   allowed-in x xs e = rw (e, allowed)
 
-  allowed-out : (x : Line) (xs : List Line) → within m (x .result) ≡ false → allowed m (x ∷ xs) ≡ allowed m xs
+  pub allowed-out : (x : Line) (xs : List Line) → within m (x .result) ≡ false → allowed m (x ∷ xs) ≡ allowed m xs
   unfolding allowed
   allowed-out x xs e = rw (e, allowed)
 
@@ -123,6 +123,11 @@ line-marks s t h z k =
 
 -- lines one after another
 
+pub joined-append : (ns : List Noted) (m : Limits) (ys xs zs : List Line) → joined ns ys (allowed m (xs ++ zs)) ≡ joined ns (joined ns ys (allowed m xs)) (allowed m zs)
+joined-append ns m ys xs zs =
+    rw (allowed-append m xs zs, unknown-append ns (allowed m xs) (allowed m zs))
+    (foldl-append (λ l x. insert lost by-result x l) ys (unknown ns (allowed m xs)) (unknown ns (allowed m zs)))
+
 module _ {ws : List ℕ} {noted : ℕ} {xs : List ℕ} {room deep from : ℕ} where
   pub adds-none : (res order : List ℕ) (count : ℕ) → Adds ws noted xs room deep from (λ t. []) 0 res order count res order count
   unfolding allowed unknown
@@ -136,18 +141,21 @@ module _ {ws : List ℕ} {noted : ℕ} {xs : List ℕ} {room deep from : ℕ} wh
         low = omega (arith, A .low, B .low);
         high = omega (arith, A .high, B .high);
         exact = λ ns t m ys S c h s d O.
-            let xs = allowed m (new t) in
-            let ys′ = allowed m (new′ t) in
-            rw (allowed-append m (new t) (new′ t), unknown-append ns xs ys′, foldl-append (λ l x. insert lost by-result x l) ys (unknown ns xs) (unknown ns ys′))
-            (B .exact ns t m (joined ns ys xs) S c h s d (A .exact ns t m ys S c h s d O));
+            rw (joined-append ns m ys (new t) (new′ t)) (B .exact ns t m (joined ns ys (allowed m (new t))) S c h s d (A .exact ns t m ys S c h s d O));
       }
+
+  -- other lines that give the same results
+  pub adds-same : {new : Term → List Line} (new′ : Term → List Line) {most : ℕ} (most′ : ℕ) {res order res′ order′ : List ℕ} {count r : ℕ}
+      → ((ns : List Noted) (t : Term) (m : Limits) (ys : List Line) → joined ns ys (allowed m (new′ t)) ≡ joined ns ys (allowed m (new t))) → most ≤ most′
+      → Adds ws noted xs room deep from new most res order count res′ order′ r → Adds ws noted xs room deep from new′ most′ res order count res′ order′ r
+  adds-same new′ most′ e h A =
+      record { low = A .low; high = omega (arith, A .high); exact = λ ns t m ys S c k s d O. rw (e ns t m ys) (A .exact ns t m ys S c k s d O) }
 
   -- the same lines, said another way
   pub adds-as : {new : Term → List Line} (new′ : Term → List Line) {most : ℕ} (most′ : ℕ) {res order res′ order′ : List ℕ} {count r : ℕ}
-      → ((t : Term) → IsRun xs t → new t ≡ new′ t) → most ≤ most′ → Adds ws noted xs room deep from new most res order count res′ order′ r
+      → ((t : Term) → new′ t ≡ new t) → most ≤ most′ → Adds ws noted xs room deep from new most res order count res′ order′ r
       → Adds ws noted xs room deep from new′ most′ res order count res′ order′ r
-  adds-as new′ most′ e h A =
-      record { low = A .low; high = omega (arith, A .high); exact = λ ns t m ys S c k s d O. rw (← (e t k)) (A .exact ns t m ys S c k s d O) }
+  adds-as new′ most′ e h A = adds-same new′ most′ (λ ns t m ys. ap (λ zs. joined ns ys (allowed m zs)) (e t)) h A
 
 -- a step tried
 

@@ -6,8 +6,8 @@ use native.Mathlib.Numerals.{towards-suc}
 use mathlib.Core.Path.{_≡_, refl, sym, ap, _∙_}
 use mathlib.Core.Logic.{_⊎_, inl, inr}
 use mathlib.Core.List.{List, [], _∷_, _++_}
-use lib.ListN.{length, take, drop, getD, set, length-append, List·getD-append}
-use lib.Seq.{sets, length-sets, take-take, take-at, getD-at, length-take-le}
+use lib.ListN.{length, take, drop, getD, set, length-set, length-append, List·getD-append}
+use lib.Seq.{sets, length-sets, take-take, take-at, take-set-le, getD-at, getD-set-same, getD-set-other, length-take-le}
 use Rattle.terms.specs.Term.{Term, zero, size}
 use Rattle.terms.specs.Held.{IsRun}
 use Rattle.terms.specs.Theory.Held.{size-of}
@@ -16,7 +16,7 @@ use Rattle.terms.proofs.Held.{held-part, holds-part, front-holds}
 use Rattle.words.proofs.Stores.{take-stored}
 use Rattle.search.specs.Search.{Noted}
 use Rattle.search.specs.Origins.{numbers}
-use Rattle.search.specs.Slots.{SLOT, Spells, origin-of, noted-at, Comes, Slot, Writes}
+use Rattle.search.specs.Slots.{SLOT, Spells, origin-of, distance-of, noted-at, Comes, Slot, Writes}
 use Rattle.search.specs.declared.bounded_search.Origin.{Origin}
 use Rattle.search.specs.declared.bounded_search.Origin.the-variants.{Start, From}
 use Rattle.search.proofs.Front.{front-part}
@@ -32,34 +32,36 @@ run-in ws k = take (run-length ws k) (drop (SLOT * k + 8) ws)
 pub run-spelled : {ws : List ℕ} {k : ℕ} {t : Term} → Spells ws k t → IsRun (run-in ws k) t
 run-spelled {ws} {k} s = held-part (run-length ws k) (s .held) (omega (arith, s .count))
 
--- the numbers before a run
-abbrev header : ℕ → Origin → ℕ → List ℕ
-header n o d = n ∷ numbers o ++ (d ∷ [])
+-- the numbers at the front of a slot
+abbrev header : ℕ → Origin → List ℕ
+header n o = n ∷ numbers o
 
-header-length : (n : ℕ) (o : Origin) (d : ℕ) → length (header n o d) ≡ 6
-header-length n o d = omega (arith, length-append (numbers o) (d ∷ []), four o)
+header-length : (n : ℕ) (o : Origin) → length (header n o) ≡ 5
+header-length n o = omega (arith, four o)
 
-header-stores : (ws : List ℕ) (a n : ℕ) (o : Origin) (d : ℕ) → set (sets (set ws a n) (a + 1) (numbers o)) (a + 5) d ≡ sets ws a (header n o d)
-header-stores ws a n Start d = simp towards-suc
-header-stores ws a n (From s) d = simp towards-suc
+header-stores : (ws : List ℕ) (a n : ℕ) (o : Origin) → sets (set ws a n) (a + 1) (numbers o) ≡ sets ws a (header n o)
+header-stores ws a n o = simp towards-suc
 
 -- what the stores of `write_slot` leave: ws₂ with the origin, ws′ with the run
 module _ (ws ws₂ ws′ : List ℕ) (k : ℕ) (xs : List ℕ) (o : Origin) (d : ℕ) (room : SLOT * k + SLOT ≤ length ws) (short : length xs ≤ 31)
-    (e : ws₂ ≡ sets (set ws (SLOT * k) (length xs)) (SLOT * k + 1) (numbers o)) (f : ws′ ≡ sets (set ws₂ (SLOT * k + 5) d) (SLOT * k + 8) xs) where
+    (e : ws₂ ≡ sets (set ws (SLOT * k) (length xs)) (SLOT * k + 1) (numbers o)) (f : ws′ ≡ sets (set ws₂ (SLOT * k + 39) d) (SLOT * k + 8) xs) where
   abbrev a : ℕ
   a = SLOT * k
 
+  abbrev headed : List ℕ
+  headed = sets ws a (header (length xs) o)
+
   abbrev written : List ℕ
-  written = sets ws a (header (length xs) o d)
+  written = set headed (a + 39) d
 
   abbrev m : ℕ
   m = a + 8 + length xs
 
   stored : ws′ ≡ sets written (a + 8) xs
-  stored = rw (e, header-stores ws a (length xs) o d) at f
+  stored = rw (e, header-stores ws a (length xs) o) at f
 
   long : length written ≡ length ws
-  long = length-sets ws a (header (length xs) o d)
+  long = length-set headed (a + 39) d ∙ length-sets ws a (header (length xs) o)
 
   size-kept : length ws′ ≡ length ws
   size-kept = rw stored (length-sets written (a + 8) xs ∙ long)
@@ -70,18 +72,20 @@ module _ (ws ws₂ ws′ : List ℕ) (k : ℕ) (xs : List ℕ) (o : Origin) (d :
   whole : take m ws′ ≡ take (a + 8) written ++ xs
   whole = rw stored (take-stored written (a + 8) xs (omega (arith, long)))
 
-  front : take (a + 8) ws′ ≡ take (a + 8) written
-  front = sym (take-take (a + 8) m ws′ (omega arith)) ∙ ap (take (a + 8)) whole ∙ take-at (take (a + 8) written) xs (a + 8) front-length
+  front : take (a + 8) ws′ ≡ take (a + 8) headed
+  front =
+      sym (take-take (a + 8) m ws′ (omega arith)) ∙ ap (take (a + 8)) whole ∙ take-at (take (a + 8) written) xs (a + 8) front-length
+      ∙ take-set-le (a + 8) headed (a + 39) d (omega arith)
 
-  number : (i : ℕ) → i < 6 → getD ws′ (a + i) 0 ≡ getD (header (length xs) o d) i 0
+  number : (i : ℕ) → i < 5 → getD ws′ (a + i) 0 ≡ getD (header (length xs) o) i 0
   number i h =
-      front-getD written ws′ (a + 8) (a + i) front (omega arith)
-      ∙ getD-sets ws a (header (length xs) o d) i (omega (arith, header-length (length xs) o d)) (omega (arith, header-length (length xs) o d))
+      front-getD headed ws′ (a + 8) (a + i) front (omega arith)
+      ∙ getD-sets ws a (header (length xs) o) i (omega (arith, header-length (length xs) o)) (omega (arith, header-length (length xs) o))
 
   old : take a ws′ ≡ take a ws
   old =
-      sym (take-take a (a + 8) ws′ (omega arith)) ∙ ap (take a) front ∙ take-take a (a + 8) written (omega arith)
-      ∙ take-sets a ws a (header (length xs) o d) (omega arith)
+      sym (take-take a (a + 8) ws′ (omega arith)) ∙ ap (take a) front ∙ take-take a (a + 8) headed (omega arith)
+      ∙ take-sets a ws a (header (length xs) o) (omega arith)
 
   new-run : (t : Term) → IsRun xs t → Spells ws′ k t
   new-run t h =
@@ -96,17 +100,21 @@ module _ (ws ws₂ ws′ : List ℕ) (k : ℕ) (xs : List ℕ) (o : Origin) (d :
   new-origin : origin-of ws′ k ≡ o
   new-origin =
       origin-back ws′ (a + 1) o
-      (λ i h.
-      let e : a + 1 + i ≡ a + suc i = omega arith in
-      let n : i < length (numbers o) = omega (arith, four o) in
-      rw e (number (suc i) (omega arith) ∙ List·getD-append (numbers o) (d ∷ []) 0 i n))
+      (λ i h. let e : a + 1 + i ≡ a + suc i = omega arith in rw e (number (suc i) (omega arith)))
+
+  new-distance : distance-of ws′ k ≡ d
+  new-distance =
+      rw stored
+      (getD-sets-other written (a + 8) xs (a + 39) (λ h. omega arith)
+      ∙ getD-set-same headed (a + 39) d 0 (omega (arith, length-sets ws a (header (length xs) o))))
 
   -- the stores leave numbers 6 and 7 of each slot
   apart : (j i : ℕ) → 6 ≤ i → i ≤ 7 → getD ws′ (SLOT * j + i) 0 ≡ getD ws (SLOT * j + i) 0
   apart j i low high =
       rw stored
       (getD-sets-other written (a + 8) xs (SLOT * j + i) (λ h. omega arith)
-      ∙ getD-sets-other ws a (header (length xs) o d) (SLOT * j + i) (λ h. omega (arith, header-length (length xs) o d)))
+      ∙ getD-set-other headed (a + 39) (SLOT * j + i) d 0 (λ h. omega arith)
+      ∙ getD-sets-other ws a (header (length xs) o) (SLOT * j + i) (λ h. omega (arith, header-length (length xs) o)))
 
   pub writes : Writes ws ws′ k xs o d
   writes =
@@ -116,7 +124,7 @@ module _ (ws ws₂ ws′ : List ℕ) (k : ℕ) (xs : List ℕ) (o : Origin) (d :
         index = apart;
         run = new-run;
         origin = new-origin;
-        distance = number 5 (omega arith) ∙ getD-at (numbers o) d [] 0 4 (four o);
+        distance = new-distance;
       }
 
 -- the slots before a new one keep what they have
@@ -156,7 +164,7 @@ module _ (ns : List Noted) (n : Noted) where
       record {
         run = run-kept ws ws′ (length ns) e k (noted-at ns k .term) h (s .run);
         origin = rw (origin-kept ws ws′ (length ns) e k h) (comes-still (origin-of ws k) k (noted-at ns k) (omega arith) (s .origin));
-        distance = front-getD ws ws′ (SLOT * length ns) (SLOT * k + 5) e (omega arith) ∙ s .distance;
+        distance = front-getD ws ws′ (SLOT * length ns) (SLOT * k + 39) e (omega arith) ∙ s .distance;
       }
 
   -- the slots and one more

@@ -22,7 +22,7 @@ use Rattle.search.proofs.Rising.{line-at, Rising, below, rising-at, ris
 use Rattle.search.proofs.Running.{note-known}
 
 -- by what a test gives
-told : {P : Type 0} (b : Bool) → (b ≡ true → P) → (b ≡ false → P) → P
+pub told : {P : Type 0} (b : Bool) → (b ≡ true → P) → (b ≡ false → P) → P
 told true f g = f refl
 told false f g = g refl
 

@@ -8,14 +8,16 @@ use lib.ListN.{length, getD}
 use Rattle.terms.specs.Term.{Term, size}
 use Rattle.terms.specs.Run.{ADD, MUL, run}
 use Rattle.terms.specs.Held.{Fine, IsRun, Holds}
+use Rattle.search.specs.Law as law
 use Rattle.search.specs.Match.{Bindings, unbound, match, put}
-use Rattle.search.specs.Line.{from, to, rewrite}
+use Rattle.search.specs.Line.{forward, back, from, to, rewrite}
 use Rattle.search.specs.Place.{subterm-at}
 use Rattle.search.specs.Span.{Pattern, Means, BoundWithin}
 use Rattle.search.specs.Coded.{law-of, direction-of}
 use Rattle.search.specs.declared.search.Law.{Law}
 use Rattle.search.specs.declared.search.Law.the-variants.{AddAssoc, AddComm, AddZeroRight, MulAssoc, MulOneLeft, MulOneRight, LeftDistrib, RightDistrib, ZeroMul, MulZero}
 use Rattle.search.specs.declared.search.Direction.{Direction}
+use Rattle.search.specs.declared.search.Direction.the-variants.{Back}
 use Rattle.search.specs.declared.search.Spans.{Spans}
 use Rattle.search.specs.declared.search.Binding.{Binding}
 use Rattle.search.specs.declared.search.Binding.the-variants.{Bound, Unbound}
@@ -76,6 +78,14 @@ first-back MulZero = MUL
 pub record Begins (w : Law) (d : Direction) (n : ℕ) : Type 0 where
   pub other : (t : Term) → Fine t → 3 ≤ n → (getD (run t) 0 0 ≡ n → ⊥) → rewrite (from (direction-of d) (law-of w)) (to (direction-of d) (law-of w)) t ≡ none
   pub letter : (t : Term) → n < 3 → (u : Term) × (rewrite (from (direction-of d) (law-of w)) (to (direction-of d) (law-of w)) t ≡ some u) × (size u ≡ size t + 2)
+
+-- the law makes of every term the same back as forward
+abbrev pub BackAsForward : law.Law → Type 0
+BackAsForward w = (t : Term) → rewrite (from back w) (to back w) t ≡ rewrite (from forward w) (to forward w) t
+
+-- of `repeats`: where it is true the law is read back and makes what it makes forward
+pub record Repeats (w : Law) (d : Direction) (r : Bool) : Type 0 where
+  pub exact : r ≡ true → (d ≡ Back) × BackAsForward (law-of w)
 
 -- of `bind_law`
 pub record BindsLaw (w : Law) (d : Direction) (xs : List ℕ) (at : ℕ) (r : Binding) : Type 0 where

@@ -1,5 +1,5 @@
 -- The index of a workspace with 40 numbers to a slot: as many buckets as slots, a bucket for each run. Number 6 of slot b leads to the
--- newest slot whose run is in bucket b, number 7 of a slot to the next older one in the same bucket, and number 39 is the hash of its run.
+-- newest slot whose run is in bucket b, number 7 of a slot to the next older one in the same bucket, and number 5 is the hash of its run.
 use Prim.Native.Nat.{ℕ, _+_, _*_, _/_, _%_, _≤_, _<_, min}
 use mathlib.Core.Path.{_≡_}
 use mathlib.Core.List.{List, [], _∷_}
@@ -35,7 +35,7 @@ abbrev pub next-of : List ℕ → ℕ → ℕ
 next-of ws k = getD ws (SLOT * k + 7) 0
 
 abbrev pub hash-of : List ℕ → ℕ → ℕ
-hash-of ws k = getD ws (SLOT * k + 39) 0
+hash-of ws k = getD ws (SLOT * k + 5) 0
 
 -- k is the newest slot below n whose bucket is b, or n if there is none
 pub record Newest (home : ℕ → ℕ) (b n k : ℕ) : Type 0 where

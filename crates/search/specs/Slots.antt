@@ -1,5 +1,5 @@
--- The noted terms in a workspace, 40 numbers to a slot: number 0 is the length of the term's run, 1 to 4 are its origin, 5 is its
--- distance, 6, 7 and 39 are of the index, and the run stands from 8 on.
+-- The noted terms in a workspace, 40 numbers to a slot: number 0 is the length of the term's run, 1 to 4 are its origin, 5 to 7 are
+-- of the index, the run stands from 8 on, and 39 is its distance.
 use Prim.Native.Nat.{ℕ, _+_, _*_, _≤_, _<_}
 use mathlib.Core.Path.{_≡_}
 use mathlib.Core.Bool.{Bool}
@@ -29,7 +29,7 @@ abbrev pub origin-of : List ℕ → ℕ → Origin
 origin-of ws k = origin-at ws (SLOT * k + 1)
 
 abbrev pub distance-of : List ℕ → ℕ → ℕ
-distance-of ws k = getD ws (SLOT * k + 5) 0
+distance-of ws k = getD ws (SLOT * k + 39) 0
 
 -- the step stands for the line x on the term t
 pub record Marks (s : Step) (t : Term) (x : Line) : Type 0 where
@@ -106,7 +106,7 @@ pub record Enters (before after : List ℕ) (k : ℕ) (xs : List ℕ) (o : Origi
   pub writes : Writes before written k xs o d
   pub older : ℕ
   pub newest : Heads before k (bucket (slots-of (length before)) xs) older
-  pub links : after ≡ set (set (set written (SLOT * k + 39) (hash xs 0)) (SLOT * k + 7) older) (SLOT * bucket (slots-of (length before)) xs + 6) k
+  pub links : after ≡ set (set (set written (SLOT * k + 5) (hash xs 0)) (SLOT * k + 7) older) (SLOT * bucket (slots-of (length before)) xs + 6) k
 
 -- of `note_start`
 pub record Starts (after xs : List ℕ) : Type 0 where

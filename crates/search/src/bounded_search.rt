@@ -1,6 +1,6 @@
 // The bounded search, with the noted terms in slots of 40 numbers.
-// Of a slot, number 0 is the length of a run, 1 to 4 are its origin, 5 is its distance, 6, 7 and 39 are of the index, and the run
-// stands from number 8 on.
+// Of a slot, number 0 is the length of a run, 1 to 4 are its origin, 5 to 7 are of the index, the run stands from number 8 on, and 39
+// is its distance. So what a look-up reads stands together.
 ghost use mathlib.Core.Path.{_≡_};
 ghost use Prim.Native.Nat.{_+_, _*_, _≤_, _<_};
 ghost use lib.ListN.{length};
@@ -107,7 +107,7 @@ pub fn write_slot(ws: &mut [u32], k: usize, s: &[u32], o: Origin, distance: u32)
     let a = SLOT * k;
     ws[a] = s.len() as u32;
     write_origin(ws, a + 1, o);
-    ws[a + 5] = distance;
+    ws[a + 39] = distance;
     normal_form::copy(ws, a + 8, s);
 }
 
@@ -121,7 +121,7 @@ fn note_slot(ws: &mut [u32], k: usize, s: &[u32], o: Origin, distance: u32)
     let new = k as u32;
     let older = index::newest(ws, new, b);
     write_slot(ws, k, s, o, distance);
-    ws[SLOT * k + 39] = h;
+    ws[SLOT * k + 5] = h;
     ws[SLOT * k + 7] = older;
     ws[SLOT * b + 6] = new;
 }
@@ -234,7 +234,7 @@ fn explore(
         if limits.nodes <= i {
             break;
         }
-        let distance = ws[SLOT * i + 5];
+        let distance = ws[SLOT * i + 39];
         if limits.steps <= distance as usize {
             break;
         }

@@ -1,6 +1,6 @@
 // The index of the noted terms, by which a term is looked for among those of one bucket only. It stands in three numbers of each slot:
 // number 6 of slot b is the head of bucket b, the newest slot whose run is in it, number 7 of a slot leads to the next older one in its
-// bucket, or to the slot itself, and number 39 is the hash of its run. Nothing is cleared beforehand: a head counts only if it leads to a
+// bucket, or to the slot itself, and number 5 is the hash of its run. Nothing is cleared beforehand: a head counts only if it leads to a
 // noted slot of its bucket.
 ghost use mathlib.Core.Path.{_≡_};
 ghost use Prim.Native.Nat.{_+_, _*_, _≤_, _<_};
@@ -54,7 +54,7 @@ pub fn newest(ws: &[u32], count: u32, b: usize) -> u32
         return count;
     }
     let buckets = slots_of(ws.len());
-    if bucket_at(ws[SLOT * (k as usize) + 39], buckets) == b {
+    if bucket_at(ws[SLOT * (k as usize) + 5], buckets) == b {
         return k;
     }
     count
@@ -65,7 +65,7 @@ pub fn has_run(ws: &[u32], k: u32, s: &[u32], h: u32) -> bool
     requires { ⌜ SLOT * k + SLOT ≤ length (now ws) ⌝ }
     ensures { λ r. ⌜ Compares (now (ws .entry)) k (now (s .entry)) h r ⌝ }
 {
-    if ws[SLOT * (k as usize) + 39] == h {
+    if ws[SLOT * (k as usize) + 5] == h {
         return term::equal(s, path::run_of(ws, k));
     }
     false

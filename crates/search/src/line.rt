@@ -3,7 +3,7 @@ ghost use mathlib.Core.Path.{_≡_};
 ghost use Prim.Native.Nat.{_≤_};
 ghost use lib.ListN.{length};
 ghost use Rattle.search.specs.Span.{Within};
-ghost use Rattle.search.specs.Bound.{BindsAll, BindsSide, first-forward, first-back, Begins, BindsLaw, Misses};
+ghost use Rattle.search.specs.Bound.{BindsAll, BindsSide, first-forward, first-back, Begins, Repeats, BindsLaw, Misses};
 ghost use Rattle.search.specs.Filled.{Fills};
 ghost use Rattle.search.specs.Spliced.{Finishes, Splices, Tries, Outgrows};
 ghost use Rattle.search.specs.declared.search.Binding.the-variants.{Bound};
@@ -51,6 +51,7 @@ fn bind_side(p: &[u32], q: &[u32], s: &[u32], at: usize) -> Binding
     Binding::Unbound
 }
 
+// A number that no run has.
 const NONE: u32 = 4100;
 
 // The number that a run begins with where a law is bound forward: 0 where any may, and NONE, which no run has, where a letter of the
@@ -232,4 +233,17 @@ pub fn outgrows(law: Law, direction: Direction, len: usize, room: usize) -> bool
         return true;
     }
     room - len < 2
+}
+
+// Whether a law makes of every term the same back as forward: the sides of add_comm are equal but for the names of their letters.
+pub fn repeats(law: Law, direction: Direction) -> bool
+    ensures { λ r. ⌜ Repeats law direction r ⌝ }
+{
+    let Direction::Back = direction else {
+        return false;
+    };
+    let Law::AddComm = law else {
+        return false;
+    };
+    true
 }

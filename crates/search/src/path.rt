@@ -11,7 +11,7 @@ use terms::term;
 fn distance_of(ws: &[u32], k: u32) -> usize
     ensures { λ r. ⌜ r ≡ distance-of (now (ws .entry)) k ⌝ }
 {
-    let at = SLOT * (k as usize) + 5;
+    let at = SLOT * (k as usize) + 39;
     if ws.len() <= at {
         return 0;
     }

@@ -110,7 +110,8 @@ fn keep_line(
     keep(ws, noted, &out[..m], step, res, order, count)
 }
 
-// Tries each law at a place, forward before back. One with a letter left unbound is passed over, and so is one whose result has no room.
+// Tries each law at a place, forward before back. One with a letter left unbound is passed over, and so is one whose result has no room
+// and one back that makes what it made forward.
 fn lines_at(
     ws: &[u32],
     noted: usize,
@@ -133,6 +134,9 @@ fn lines_at(
         let law = search::law_of(n / 2);
         let direction = search::direction_of(n % 2);
         n += 1;
+        if line::repeats(law, direction) {
+            continue;
+        }
         if line::outgrows(law, direction, s.len(), out.len()) {
             continue;
         }
@@ -151,8 +155,9 @@ fn lines_at(
     kept
 }
 
-// The results of the term of a run that keep size and depth and are not noted, in term order: `order` names their slots. Twenty lines
-// are tried at each place, one for each law and each direction. A term of so many places that they may have no room is not tried.
+// The results of the term of a run that keep size and depth and are not noted, in term order: `order` names their slots. At each
+// place there are at most twenty lines, one for each law and each direction. A term of so many places that they may have no room is not
+// tried.
 pub fn results_of(
     ws: &[u32],
     noted: usize,

@@ -18,7 +18,7 @@ use terms::term::ADD;
 use terms::term::ONE;
 use terms::term::ZERO;
 
-// Three positions behind each one below it there are others.
+// To a position below it, 3 can be added.
 const FAR: usize = 18446744073709551612;
 
 // One byte.

@@ -114,7 +114,7 @@ fn join(words: &[u32], from: usize, middle: usize, to: usize, out: &mut [u32], k
 }
 
 // Each word in the slots `from..middle` joined to each in the slots `middle..to`, put in place of them: the next slot.
-// The words to be joined are moved out of the way, since they are fewer than the joined ones.
+// The words to be joined are moved out of the way first, since the joined ones are written over them.
 fn multiply(words: &mut [u32], from: usize, middle: usize, to: usize, scratch: &mut [u32]) -> usize
     ensures { λ r. ⌜ Multiplies (now (words .entry)) from middle to (now (scratch .entry)) r (now (words .exit)) ⌝ }
 {

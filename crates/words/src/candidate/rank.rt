@@ -143,7 +143,7 @@ fn begins_with(words: &[u32], k: usize, x: u32, y: u32) -> bool
     false
 }
 
-// The slot after the words, from slot i on, that begin with two letters.
+// The slot after the words, from slot i on, that begin with the letters x and y.
 fn pair_end(words: &[u32], i: usize, x: u32, y: u32) -> usize
     ensures { λ r. ⌜ Paired (now (words .entry)) x y i r ⌝ }
 {

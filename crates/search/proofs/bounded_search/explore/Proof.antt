@@ -69,7 +69,7 @@ slice-read-distance : tie.Need-slice-read-distance Inv-loop μ-loop Inv-outer μ
 slice-read-distance c = search needs
 
 cast-if2 : tie.Need-cast-if2 Inv-loop μ-loop Inv-outer μ-outer
-cast-if2 c = omega (arith, c .slice-known4 .given (40 * c .before .before .before .before .outer .i + 5))
+cast-if2 c = omega (arith, c .slice-known4 .given (40 * c .before .before .before .before .outer .i + 39))
 
 open-slot-requires : tie.Need-open-slot-requires Inv-loop μ-loop Inv-outer μ-outer
 open-slot-requires c κs = search needs

@@ -24,7 +24,7 @@ shared-slice-read-result : tie.Need-shared-slice-read-result
 shared-slice-read-result c = search needs
 
 cast-result : tie.Need-cast-result
-cast-result c = omega (arith, c .shared-slice-known .given (SLOT * c .before .before .args .k + 5))
+cast-result c = omega (arith, c .shared-slice-known .given (SLOT * c .before .before .args .k + 39))
 
 returns-2 : tie.Need-returns-2
 returns-2 c = search needs

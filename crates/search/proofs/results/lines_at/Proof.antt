@@ -4,7 +4,7 @@ use native.Mathlib.Omega.{arith}
 use mathlib.Core.Path.{_≡_, refl, _∙_}
 use lib.ListN.{length}
 use Rattle.search.specs.Resulted.{Adds}
-use Rattle.search.proofs.InTurn.{in-turn, turns-none, step-lines, step-kept, step-passed, step-outgrown, steps-all}
+use Rattle.search.proofs.InTurn.{in-turn, turns-none, step-lines, step-kept, step-passed, step-outgrown, step-repeated, steps-all}
 use Rattle.search.proofs.Trying.{law-bound}
 use borrow.Author.Needs.{needs}
 use Rattle.search.proofs.results.lines_at.Statement.{statement}
@@ -28,14 +28,23 @@ direction-of-requires c κs = search needs
 add-n : tie.Need-add-n Inv-loop μ-loop
 add-n c = search needs
 
-outgrows-requires : tie.Need-outgrows-requires Inv-loop μ-loop
-outgrows-requires c κs = search needs
+repeats-requires : tie.Need-repeats-requires Inv-loop μ-loop
+repeats-requires c κs = search needs
 
 loop-less : tie.Need-loop-less Inv-loop μ-loop
 loop-less c = search needs
 
 loop-again : tie.Need-loop-again Inv-loop μ-loop
-loop-again c = search (step-outgrown, needs)
+loop-again c = search (step-repeated, needs)
+
+outgrows-requires : tie.Need-outgrows-requires Inv-loop μ-loop
+outgrows-requires c κs = search needs
+
+loop-less-2 : tie.Need-loop-less-2 Inv-loop μ-loop
+loop-less-2 c = search needs
+
+loop-again-2 : tie.Need-loop-again-2 Inv-loop μ-loop
+loop-again-2 c = search (step-outgrown, needs)
 
 bind-law-requires : tie.Need-bind-law-requires Inv-loop μ-loop
 bind-law-requires c κs = search needs
@@ -46,33 +55,34 @@ enum-known-binding c = search needs
 enum-told : tie.Need-enum-told Inv-loop μ-loop
 enum-told c = search needs
 
-loop-less-2 : tie.Need-loop-less-2 Inv-loop μ-loop
-loop-less-2 c = search needs
+loop-less-3 : tie.Need-loop-less-3 Inv-loop μ-loop
+loop-less-3 c = search needs
 
-loop-again-2 : tie.Need-loop-again-2 Inv-loop μ-loop
-loop-again-2 c = search (step-passed, needs)
+loop-again-3 : tie.Need-loop-again-3 Inv-loop μ-loop
+loop-again-3 c = search (step-passed, needs)
 
 keep-line-requires : tie.Need-keep-line-requires Inv-loop μ-loop
 keep-line-requires c κs =
-    let l = c .before .before .before .before .before .before .before .before .before .before .before .before .loop in
-    let p = c .before .before .before .before .before .before .before .before .before .before .before .before .before .before .before .before .before .before .pre in (
+    let h = c .before .before .before .before .before .before .before .before .before .before .before .before .before in
+    let l = h .before .loop in
+    let p = h .before .before .before .before .before .before .before .pre in (
       p .0,
       p .1,
       p .2,
       law-bound _ _ _ _ _ _ (c .before .before .before .before .before .before .bind-law .ensures) (c .before .before .before .before .binding .given .1),
       omega (arith, l .inv .1, p .3),
-      omega (arith, l .inv .2, l .inv .4 .high, p .4, c .before .before .before .before .before .before .before .before .before .before .before .loop-test .taken),
-      omega (arith, l .inv .3, l .inv .4 .high, p .5, c .before .before .before .before .before .before .before .before .before .before .before .loop-test .taken),
-      omega (arith, l .inv .4 .high, p .6, c .before .before .before .before .before .before .before .before .before .before .before .loop-test .taken),
+      omega (arith, l .inv .2, l .inv .4 .high, p .4, h .loop-test .taken),
+      omega (arith, l .inv .3, l .inv .4 .high, p .5, h .loop-test .taken),
+      omega (arith, l .inv .4 .high, p .6, h .loop-test .taken),
     )
 
-loop-less-3 : tie.Need-loop-less-3 Inv-loop μ-loop
-loop-less-3 c = search needs
+loop-less-4 : tie.Need-loop-less-4 Inv-loop μ-loop
+loop-less-4 c = omega (arith, c .before .before .before .before .before .before .before .before .before .before .before .before .before .before .before .before .before .before .before .before .loop-test .taken)
 
-loop-again-3 : tie.Need-loop-again-3 Inv-loop μ-loop
-loop-again-3 c =
+loop-again-4 : tie.Need-loop-again-4 Inv-loop μ-loop
+loop-again-4 c =
     let f = c .before .before .before .before .before .before .keep-line in
-    let d = c .before .before .before .before .before .before .before .before .before .before .before .before .before .before .before .before in
+    let d = c .before .before .before .before .before .before .before .before .before .before .before .before .before .before .before .before .before .before in
     let w = d .before in
     let h = w .before in
     let l = h .before .loop in (
@@ -105,17 +115,20 @@ lines-at-spec =
     law-of-requires
     direction-of-requires
     add-n
-    outgrows-requires
+    repeats-requires
     loop-less
     loop-again
+    outgrows-requires
+    loop-less-2
+    loop-again-2
     bind-law-requires
     enum-known-binding
     enum-told
-    loop-less-2
-    loop-again-2
-    keep-line-requires
     loop-less-3
     loop-again-3
+    keep-line-requires
+    loop-less-4
+    loop-again-4
     same-length
     same-length-2
     same-length-3
