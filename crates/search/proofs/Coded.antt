@@ -11,6 +11,7 @@ use lib.ListN.{drop, drop-of-length-le}
 use lib.Seq.{drop-cons}
 use Rattle.terms.specs.Theory.Reflects.{both}
 use Rattle.terms.specs.Theory.Order.{below?}
+use Rattle.search.specs.Law as law
 use Rattle.search.specs.Law.{rank, semiring}
 use Rattle.search.specs.Coded.{name-of, law-number, numbered-law, law-at, law-of, direction-number, numbered-direction}
 use Rattle.search.specs.declared.search.Law.{Law}
@@ -38,7 +39,7 @@ law-read-back = each-law (λ w. numbered-law (law-number w) ≡ w) (refl, refl, 
 pub law-ranked : (w : Law) → law-number w ≡ rank (name-of w)
 law-ranked = each-law (λ w. law-number w ≡ rank (name-of w)) (refl, refl, refl, refl, refl, refl, refl, refl, refl, refl)
 
-pub number-below : (w : Law) → law-number w < 10
+number-below : (w : Law) → law-number w < 10
 number-below = each-law (λ w. law-number w < 10) (omega arith, omega arith, omega arith, omega arith, omega arith, omega arith, omega arith, omega arith, omega arith, omega arith)
 
 pub direction-read-back : (d : Direction) → numbered-direction (direction-number d) ≡ d
@@ -60,7 +61,7 @@ unfolding semiring
 no-laws-left n h = drop-of-length-le semiring h
 
 -- a test of the numbers below k
-every : (ℕ → Bool) → ℕ → Bool
+unfoldable pub every : (ℕ → Bool) → ℕ → Bool
 every f zero = true
 every f (suc k) = f k && every f k
 
@@ -70,6 +71,10 @@ every-below f zero n h p = absurd (omega arith)
 every-below f (suc k) n h p =
     let (i, j) = both (f k) (every f k) h in
     ⊎-elim (λ q. every-below f k n j q) (λ q. let e : k ≡ n = omega arith in rw e at i) (below? n k)
+
+-- a test that the laws of the list pass is passed by each
+pub law-tested : (f : law.Law → Bool) → T (every (λ n. f (law-at n)) 10) → (w : Law) → T (f (law-of w))
+law-tested f h w = every-below (λ n. f (law-at n)) 10 (law-number w) h (number-below w)
 
 pub number-read-back : (n : ℕ) → n < 10 → law-number (numbered-law n) ≡ n
 unfolding every

@@ -1,5 +1,5 @@
 -- The rows of the laws' sides: that the row made from a law has its sides is one test, computed over the law list.
-use Prim.Native.Nat.{ℕ, zero, suc, _+_, _<_}
+use Prim.Native.Nat.{ℕ, _+_}
 use native.Mathlib.Omega.{arith}
 use mathlib.Core.Path.{_≡_}
 use mathlib.Core.Bool.{Bool, true, false, _&&_}
@@ -17,9 +17,9 @@ use Rattle.terms.specs.Theory.Coding.{numbers-order}
 use Rattle.search.specs.Law as law
 use Rattle.search.specs.Law.{semiring}
 use Rattle.search.specs.Span.{Pattern}
-use Rattle.search.specs.Coded.{law-number, law-at, law-of, SideAt, Row}
+use Rattle.search.specs.Coded.{law-at, law-of, SideAt, Row}
 use Rattle.search.specs.declared.search.Law.{Law}
-use Rattle.search.proofs.Coded.{number-below}
+use Rattle.search.proofs.Coded.{every, law-tested}
 
 -- how many numbers a side has, its run, and zeros up to the eighth number
 unfoldable pub side-row : Term → List ℕ
@@ -67,7 +67,7 @@ side-is r i p h =
     let (a, f) = pattern-is p g in
     record { pattern = a; short = leb→le (getD r i 0) 7 s; is = record { fine = f; whole = equal-lists (take (getD r i 0) (drop (i + 1) r)) (run p) e } }
 
--- the test of the rows
+-- the test of a row
 
 is-row : List ℕ → law.Law → Bool
 is-row r w = eqb (length r) 16 && (has-side r 0 (w .left) && has-side r 8 (w .right))
@@ -79,16 +79,6 @@ row-is r w h =
     let (a, b) = both (has-side r 0 (w .left)) (has-side r 8 (w .right)) h′ in
     record { count = eqb→eq (length r) 16 n; left = side-is r 0 (w .left) a; right = side-is r 8 (w .right) b }
 
-are-rows : List law.Law → Bool
-are-rows [] = true
-are-rows (w ∷ ws) = is-row (row w) w && are-rows ws
-
-rows-are : (ws : List law.Law) → T (are-rows ws) → (n : ℕ) → n < length ws → (w : law.Law) → Row (row (getD ws n w)) (getD ws n w)
-unfolding are-rows
-rows-are [] h n k w = absurd (omega arith)
-rows-are (v ∷ ws) h zero k w = row-is (row v) v (both (is-row (row v) v) (are-rows ws) h .0)
-rows-are (v ∷ ws) h (suc n) k w = rows-are ws (both (is-row (row v) v) (are-rows ws) h .1) n (omega arith) w
-
 pub law-row : (w v : Law) → w ≡ v → Row (row (law-of v)) (law-of w)
-unfolding law-at are-rows is-row has-side is-pattern row side-row run semiring lexicographic then
-law-row w v e = rw e (rows-are semiring tt (law-number v) (number-below v) _)
+unfolding law-at every is-row has-side is-pattern row side-row run semiring lexicographic then
+law-row w v e = rw e (row-is (row (law-of v)) (law-of v) (law-tested (λ u. is-row (row u) u) tt v))

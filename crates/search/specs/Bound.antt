@@ -1,13 +1,13 @@
 -- A law's letters bound at one place: the side that is read matches there, and each letter of the side that is put in is known.
-use Prim.Native.Nat.{ℕ, _+_, _≤_, _<_}
+use Prim.Native.Nat.{ℕ, _<_}
 use mathlib.Core.Path.{_≡_}
 use mathlib.Core.Bool.{Bool, true, false}
 use mathlib.Core.Option.{Option, none, some}
 use mathlib.Core.List.{List}
 use lib.ListN.{length, getD}
 use Rattle.terms.specs.Term.{Term, size}
-use Rattle.terms.specs.Run.{ADD, MUL, run}
-use Rattle.terms.specs.Held.{Fine, IsRun, Holds}
+use Rattle.terms.specs.Run.{run}
+use Rattle.terms.specs.Held.{IsRun, Holds}
 use Rattle.search.specs.Law as law
 use Rattle.search.specs.Match.{Bindings, unbound, match, put}
 use Rattle.search.specs.Line.{forward, back, from, to, rewrite}
@@ -15,7 +15,6 @@ use Rattle.search.specs.Place.{subterm-at}
 use Rattle.search.specs.Span.{Pattern, Means, BoundWithin}
 use Rattle.search.specs.Coded.{law-of, direction-of}
 use Rattle.search.specs.declared.search.Law.{Law}
-use Rattle.search.specs.declared.search.Law.the-variants.{AddAssoc, AddComm, AddZeroRight, MulAssoc, MulOneLeft, MulOneRight, LeftDistrib, RightDistrib, ZeroMul, MulZero}
 use Rattle.search.specs.declared.search.Direction.{Direction}
 use Rattle.search.specs.declared.search.Direction.the-variants.{Back}
 use Rattle.search.specs.declared.search.Spans.{Spans}
@@ -48,36 +47,15 @@ pub record BindsSide (p q xs : List ℕ) (at : ℕ) (r : Binding) : Type 0 where
   pub within : BoundWithin (length xs) r
   pub exact : (u v t : Term) → IsRun p u → Pattern u → IsRun q v → Pattern v → Holds xs at t → Answers xs u v t r
 
--- the number that a run begins with where a law is bound: 0 where any may, 4100, which no run has, where none does
-abbrev pub first-forward : Law → ℕ
-first-forward AddAssoc = ADD
-first-forward AddComm = ADD
-first-forward AddZeroRight = 0
-first-forward MulAssoc = MUL
-first-forward MulOneLeft = 0
-first-forward MulOneRight = 0
-first-forward LeftDistrib = ADD
-first-forward RightDistrib = ADD
-first-forward ZeroMul = 4100
-first-forward MulZero = 4100
+-- the number that a run begins with where p is rewritten to q: the first of p, a letter of which stands for any term; 4100, which no run
+-- has, where q has a letter that p leaves unbound
+unfoldable pub first-number : Term → Term → ℕ
+unfolding rewrite run
+first-number p q = elim (rewrite p q p) [ none ↦ 4100 | some u ↦ getD (run p) 0 0 ]
 
-abbrev pub first-back : Law → ℕ
-first-back AddAssoc = ADD
-first-back AddComm = ADD
-first-back AddZeroRight = ADD
-first-back MulAssoc = MUL
-first-back MulOneLeft = MUL
-first-back MulOneRight = MUL
-first-back LeftDistrib = MUL
-first-back RightDistrib = MUL
-first-back ZeroMul = MUL
-first-back MulZero = MUL
-
--- of `first_of`: a term whose run begins with another number than n is not rewritten; if n is a letter of a law, each term is, to one
--- with two nodes more
-pub record Begins (w : Law) (d : Direction) (n : ℕ) : Type 0 where
-  pub other : (t : Term) → Fine t → 3 ≤ n → (getD (run t) 0 0 ≡ n → ⊥) → rewrite (from (direction-of d) (law-of w)) (to (direction-of d) (law-of w)) t ≡ none
-  pub letter : (t : Term) → n < 3 → (u : Term) × (rewrite (from (direction-of d) (law-of w)) (to (direction-of d) (law-of w)) t ≡ some u) × (size u ≡ size t + 2)
+-- of `first_of`
+abbrev pub first-of : Law → Direction → ℕ
+first-of w d = first-number (from (direction-of d) (law-of w)) (to (direction-of d) (law-of w))
 
 -- the law makes of every term the same back as forward
 abbrev pub BackAsForward : law.Law → Type 0

@@ -3,10 +3,11 @@ ghost use mathlib.Core.Path.{_≡_};
 ghost use Prim.Native.Nat.{_≤_};
 ghost use lib.ListN.{length};
 ghost use Rattle.search.specs.Span.{Within};
-ghost use Rattle.search.specs.Bound.{BindsAll, BindsSide, first-forward, first-back, Begins, Repeats, BindsLaw, Misses};
+ghost use Rattle.search.specs.Bound.{BindsAll, BindsSide, first-of, Repeats, BindsLaw, Misses};
 ghost use Rattle.search.specs.Filled.{Fills};
 ghost use Rattle.search.specs.Spliced.{Finishes, Splices, Tries, Outgrows};
 ghost use Rattle.search.specs.declared.search.Binding.the-variants.{Bound};
+ghost use Rattle.search.specs.declared.search.Direction.the-variants.{Forward, Back};
 use crate::search;
 use crate::search::Binding;
 use crate::search::Direction;
@@ -57,7 +58,7 @@ const NONE: u32 = 4100;
 // The number that a run begins with where a law is bound forward: 0 where any may, and NONE, which no run has, where a letter of the
 // right side is always left unbound.
 fn first_forward(law: Law) -> u32
-    ensures { λ r. ⌜ r ≡ first-forward law ⌝ }
+    ensures { λ r. ⌜ r ≡ first-of law Forward ⌝ }
 {
     match law {
         Law::AddAssoc => ADD,
@@ -75,7 +76,7 @@ fn first_forward(law: Law) -> u32
 
 // The number that a run begins with where a law is bound back.
 fn first_back(law: Law) -> u32
-    ensures { λ r. ⌜ r ≡ first-back law ⌝ }
+    ensures { λ r. ⌜ r ≡ first-of law Back ⌝ }
 {
     match law {
         Law::AddAssoc => ADD,
@@ -93,7 +94,7 @@ fn first_back(law: Law) -> u32
 
 // The number that a run begins with where a law is bound.
 fn first_of(law: Law, direction: Direction) -> u32
-    ensures { λ r. ⌜ Begins law direction r ⌝ }
+    ensures { λ r. ⌜ r ≡ first-of law direction ⌝ }
 {
     match direction {
         Direction::Forward => first_forward(law),

@@ -1,5 +1,5 @@
 -- `first_of` meets its contract: each law has a number in either direction.
-use Rattle.search.proofs.Firsts.{forward-begins, back-begins}
+use Rattle.search.proofs.Firsts.{direction-told}
 use borrow.Author.Needs.{needs}
 use Rattle.search.proofs.line.first_of.Statement.{statement}
 use Rattle.search.proofs.line.first_of.Tie as tie
@@ -17,10 +17,10 @@ first-back-requires : tie.Need-first-back-requires
 first-back-requires c κs = search needs
 
 returns : tie.Need-returns
-returns c = search (forward-begins, needs)
+returns c = search (direction-told, needs)
 
 returns-2 : tie.Need-returns-2
-returns-2 c = search (back-begins, needs)
+returns-2 c = search (direction-told, needs)
 
 pub first-of-spec : {M : Type 1} → statement M
 first-of-spec =
