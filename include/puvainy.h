@@ -39,8 +39,10 @@
  *     workspace  1 to 6 leave it untouched. After any other return its contents are free, and no
  *                later answer depends on them: it need not be cleared.
  *
- * Stack: at most 112,000 bytes for puvainy_find, 98,000 for puvainy_words and 186,000 for
- * puvainy_rename, as measured on x86-64 by examples/stack.c. A thread with 256 KiB has enough.
+ * Stack: at most 120,000 bytes for puvainy_find, 100,000 for puvainy_words and 190,000 for
+ * puvainy_rename on x86-64. That is more than the frames of the deepest calls take together, with a
+ * path of 16 lines and terms 15 deep; examples/stack.c measures calls. A thread with 256 KiB has
+ * enough.
  */
 #ifndef PUVAINY_H
 #define PUVAINY_H
