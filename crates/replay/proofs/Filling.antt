@@ -4,7 +4,7 @@ use native.Mathlib.Omega.{arith}
 use native.Mathlib.Nat.{zero-add, sub-zero}
 use native.Mathlib.Numerals.{add-one}
 use mathlib.Core.Path.{_≡_, refl, sym, ap, _∙_}
-use mathlib.Core.List.{List, [], _∷_, _++_, append-nil}
+use mathlib.Core.List.{List, _∷_, _++_, append-nil}
 use lib.ListN.{length, take, drop, getD, set, drop-of-length-le, length-set}
 use lib.Seq.{paste-suc, drop-cons, take-all}
 use Rattle.replay.specs.Dirt.{dirt, over}

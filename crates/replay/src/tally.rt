@@ -1,5 +1,4 @@
 // Counts of calls: how many, how many that differ, and for each entry its answers and refusals.
-use crate::call;
 use crate::call::Fault;
 use crate::record::Record;
 use libc::STDOUT_FILENO;
@@ -76,11 +75,11 @@ fn print_fault(at: u32, call: Record, fault: Fault) {
         Fault::Buffers => {
             io::write_all(STDOUT_FILENO, b" needs larger buffers");
         }
-        Fault::Number(n) => {
+        Fault::Number(n, due) => {
             io::write_all(STDOUT_FILENO, b" returned ");
             print_number(n);
             io::write_all(STDOUT_FILENO, b", due ");
-            print_number(call::due_number(call));
+            print_number(due);
         }
         Fault::Output => {
             io::write_all(STDOUT_FILENO, b" left other bytes in the output");
