@@ -2,3 +2,4 @@
 pub mod Filling
 pub mod Looking
 pub mod Calling
+pub mod Counting
