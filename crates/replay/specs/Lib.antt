@@ -1,1 +1,4 @@
 pub mod Records
+pub mod Dirt
+pub mod Calls
+pub mod Tally

@@ -1,10 +1,14 @@
 -- Where a stored call stands in the list.
-use Prim.Native.Nat.{ℕ, _<_, _≤_}
+use Prim.Native.Nat.{ℕ, _-_, _<_, _≤_}
 use mathlib.Core.List.{List}
-use lib.ListN.{length}
+use lib.ListN.{length, take, drop}
 use Rattle.replay.specs.declared.record.Record.{Record}
 use Rattle.replay.specs.declared.record.Reading.{Reading}
 use Rattle.replay.specs.declared.record.Reading.the-variants.{Broken, Whole}
+
+-- the part of the list from one position up to another
+abbrev pub part : (start end : ℕ) → List ℕ → List ℕ
+part start end s = take (end - start) (drop start s)
 
 -- the parts of a record are in the list, one after the other
 abbrev pub Within : List ℕ → Record → Type 0

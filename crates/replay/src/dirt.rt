@@ -1,7 +1,13 @@
 // Dirty buffers: filled before a call, and looked at after it.
+ghost use mathlib.Core.Path.{_≡_};
+ghost use lib.ListN.{length, drop, getD};
+ghost use Rattle.terms.specs.Theory.Reflects.{Reflects};
+ghost use Rattle.replay.specs.Dirt.{bytes, numbers, over, due};
 
 // Fills the output, each byte another than the one before it.
-pub fn fill_bytes(output: &mut [u8], first: u8) {
+pub fn fill_bytes(output: &mut [u8], first: u8)
+    ensures { λ r. ⌜ now (output .exit) ≡ bytes first (length (now (output .entry))) ⌝ }
+{
     let mut b = first;
     let mut i = 0;
     while i < output.len() {
@@ -12,7 +18,9 @@ pub fn fill_bytes(output: &mut [u8], first: u8) {
 }
 
 // Whether the text is at the front of the output, and the bytes behind it are those that were filled in.
-pub fn is_due(output: &[u8], text: &[u8], first: u8) -> bool {
+pub fn is_due(output: &[u8], text: &[u8], first: u8) -> bool
+    ensures { λ r. ⌜ Reflects (now (output .entry) ≡ due (now (text .entry)) first (length (now (output .entry)))) r ⌝ }
+{
     let mut b = first;
     let mut i = 0;
     while i < output.len() {
@@ -26,24 +34,33 @@ pub fn is_due(output: &[u8], text: &[u8], first: u8) -> bool {
     text.len() <= output.len()
 }
 
-fn byte_due(text: &[u8], i: usize, filled: u8) -> u8 {
+// The text's byte here, or behind the text the one filled in.
+fn byte_due(text: &[u8], i: usize, filled: u8) -> u8
+    ensures { λ r. ⌜ r ≡ getD (now (text .entry)) i filled ⌝ }
+{
     if i < text.len() {
         return text[i];
     }
     filled
 }
 
-pub fn fill_numbers(numbers: &mut [u32], first: u32) {
+// Fills the workspace in the same way.
+pub fn fill_numbers(workspace: &mut [u32], first: u32)
+    ensures { λ r. ⌜ now (workspace .exit) ≡ numbers first (length (now (workspace .entry))) ⌝ }
+{
     let mut x = first;
     let mut i = 0;
-    while i < numbers.len() {
-        numbers[i] = x;
+    while i < workspace.len() {
+        workspace[i] = x;
         x = std::num::wrapping_add_u32(x, 2654435769);
         i += 1;
     }
 }
 
-pub fn copy_numbers(from: &[u32], to: &mut [u32]) {
+// Copies as many numbers as there is room for.
+pub fn copy_numbers(from: &[u32], to: &mut [u32])
+    ensures { λ r. ⌜ now (to .exit) ≡ over (now (from .entry)) (now (to .entry)) ⌝ }
+{
     let mut i = 0;
     while i < from.len() {
         if to.len() <= i {
@@ -55,7 +72,9 @@ pub fn copy_numbers(from: &[u32], to: &mut [u32]) {
 }
 
 // Whether both have the same numbers from a position on.
-pub fn is_same_from(a: &[u32], b: &[u32], from: usize) -> bool {
+pub fn is_same_from(a: &[u32], b: &[u32], from: usize) -> bool
+    ensures { λ r. ⌜ Reflects (drop from (now (a .entry)) ≡ drop from (now (b .entry))) r ⌝ }
+{
     let mut i = from;
     while i < a.len() {
         if b.len() <= i {
@@ -66,5 +85,5 @@ pub fn is_same_from(a: &[u32], b: &[u32], from: usize) -> bool {
         }
         i += 1;
     }
-    true
+    b.len() <= i
 }

@@ -50,6 +50,40 @@ fn replay(
     }
 }
 
+fn print_field(name: &[u8], n: u32) {
+    io::write_all(STDOUT_FILENO, name);
+    io::print_decimal(STDOUT_FILENO, n as u64);
+}
+
+// The answers and the refusals 1 to 8 of an entry.
+fn print_entry(counts: &[u32], name: &[u8], entry: usize) {
+    io::write_all(STDOUT_FILENO, name);
+    if 3 < entry {
+        return;
+    }
+    print_field(b" answers=", tally::count_at(counts, entry * 16));
+    let mut n: usize = 1;
+    while n < 9 {
+        io::write_all(STDOUT_FILENO, b" refused_");
+        io::print_decimal(STDOUT_FILENO, n as u64);
+        print_field(b"=", tally::count_at(counts, entry * 16 + n));
+        n += 1;
+    }
+    io::write_all(STDOUT_FILENO, b"\n");
+}
+
+fn print_counts(counts: &[u32]) {
+    print_field(b"calls=", tally::count_at(counts, tally::CALLS));
+    print_field(
+        b"\ndifferences=",
+        tally::count_at(counts, tally::DIFFERENCES),
+    );
+    io::write_all(STDOUT_FILENO, b"\n");
+    print_entry(counts, b"find", 1);
+    print_entry(counts, b"words", 2);
+    print_entry(counts, b"rename", 3);
+}
+
 // A list that fills the array may be cut off.
 fn main() {
     let mut input = [0u8; 655360];
@@ -69,5 +103,5 @@ fn main() {
         &mut former,
         &mut counts,
     );
-    tally::print_counts(&counts);
+    print_counts(&counts);
 }

@@ -1,15 +1,19 @@
 // Counts of calls: how many, how many that differ, and for each entry its answers and refusals.
-use crate::call;
+ghost use mathlib.Core.Path.{_≡_};
+ghost use lib.ListN.{getD};
+ghost use Rattle.replay.specs.Tally.{one-more, place, is-fault, counted};
 use crate::call::Fault;
 use crate::record::Record;
 use libc::STDOUT_FILENO;
 
 // Where the calls and the differences are counted; entry e has its answers at 16 e, refusal n at 16 e + n.
-const CALLS: usize = 0;
+pub const CALLS: usize = 0;
 
-const DIFFERENCES: usize = 1;
+pub const DIFFERENCES: usize = 1;
 
-fn add_one(counts: &mut [u32], at: usize) {
+fn add_one(counts: &mut [u32], at: usize)
+    ensures { λ r. ⌜ now (counts .exit) ≡ one-more at (now (counts .entry)) ⌝ }
+{
     if counts.len() <= at {
         return;
     }
@@ -19,7 +23,9 @@ fn add_one(counts: &mut [u32], at: usize) {
     }
 }
 
-fn count_at(counts: &[u32], at: usize) -> u32 {
+pub fn count_at(counts: &[u32], at: usize) -> u32
+    ensures { λ r. ⌜ r ≡ getD (now (counts .entry)) at 0 ⌝ }
+{
     if counts.len() <= at {
         return 0;
     }
@@ -27,9 +33,9 @@ fn count_at(counts: &[u32], at: usize) -> u32 {
 }
 
 // Where a call is counted by its entry and what it is to give.
-fn place_of(call: Record) -> usize {
-    let entry = call.entry;
-    let number = call.number;
+fn place_of(entry: usize, number: usize) -> usize
+    ensures { λ r. ⌜ r ≡ place entry number ⌝ }
+{
     if 3 < entry {
         return 0;
     }
@@ -39,24 +45,33 @@ fn place_of(call: Record) -> usize {
     entry * 16 + number
 }
 
-fn is_fault(fault: Fault) -> bool {
+fn is_fault(fault: Fault) -> bool
+    ensures { λ r. ⌜ r ≡ is-fault fault ⌝ }
+{
     match fault {
         Fault::Nothing => false,
-        _ => true,
+        Fault::Buffers => true,
+        Fault::Number(_, _) => true,
+        Fault::Output => true,
+        Fault::Workspace => true,
     }
 }
 
 // The first call that differs is printed.
-fn count_difference(counts: &mut [u32], call: Record, fault: Fault) {
+fn count_difference(counts: &mut [u32], call: Record, fault: Fault)
+    ensures { λ r. ⌜ now (counts .exit) ≡ one-more 1 (now (counts .entry)) ⌝ }
+{
     if count_at(counts, DIFFERENCES) == 0 {
         print_fault(count_at(counts, CALLS), call, fault);
     }
     add_one(counts, DIFFERENCES);
 }
 
-pub fn count(counts: &mut [u32], call: Record, fault: Fault) {
+pub fn count(counts: &mut [u32], call: Record, fault: Fault)
+    ensures { λ r. ⌜ now (counts .exit) ≡ counted call fault (now (counts .entry)) ⌝ }
+{
     add_one(counts, CALLS);
-    add_one(counts, place_of(call));
+    add_one(counts, place_of(call.entry, call.number));
     if is_fault(fault) {
         count_difference(counts, call, fault);
     }
@@ -76,11 +91,11 @@ fn print_fault(at: u32, call: Record, fault: Fault) {
         Fault::Buffers => {
             io::write_all(STDOUT_FILENO, b" needs larger buffers");
         }
-        Fault::Number(n) => {
+        Fault::Number(n, due) => {
             io::write_all(STDOUT_FILENO, b" returned ");
             print_number(n);
             io::write_all(STDOUT_FILENO, b", due ");
-            print_number(call::due_number(call));
+            print_number(due);
         }
         Fault::Output => {
             io::write_all(STDOUT_FILENO, b" left other bytes in the output");
@@ -90,35 +105,4 @@ fn print_fault(at: u32, call: Record, fault: Fault) {
         }
     }
     io::write_all(STDOUT_FILENO, b"\n");
-}
-
-fn print_field(name: &[u8], n: u32) {
-    io::write_all(STDOUT_FILENO, name);
-    io::print_decimal(STDOUT_FILENO, n as u64);
-}
-
-// The answers and the refusals 1 to 8 of an entry.
-fn print_entry(counts: &[u32], name: &[u8], entry: usize) {
-    io::write_all(STDOUT_FILENO, name);
-    if 3 < entry {
-        return;
-    }
-    print_field(b" answers=", count_at(counts, entry * 16));
-    let mut n: usize = 1;
-    while n < 9 {
-        io::write_all(STDOUT_FILENO, b" refused_");
-        print_number(n);
-        print_field(b"=", count_at(counts, entry * 16 + n));
-        n += 1;
-    }
-    io::write_all(STDOUT_FILENO, b"\n");
-}
-
-pub fn print_counts(counts: &[u32]) {
-    print_field(b"calls=", count_at(counts, CALLS));
-    print_field(b"\ndifferences=", count_at(counts, DIFFERENCES));
-    io::write_all(STDOUT_FILENO, b"\n");
-    print_entry(counts, b"find", 1);
-    print_entry(counts, b"words", 2);
-    print_entry(counts, b"rename", 3);
 }

@@ -1,7 +1,10 @@
--- `fault_of` is safe and ends.
+-- `fault_of` meets its contract.
 use native.Mathlib.Omega.{arith}
+use mathlib.Core.Path.{refl}
+use mathlib.Core.Logic.{inl, inr}
 use lib.ListN.{length-take}
 use borrow.Author.Needs.{needs}
+use Rattle.replay.proofs.Calling.{replayed}
 use Rattle.replay.proofs.call.fault_of.Statement.{statement}
 use Rattle.replay.proofs.call.fault_of.Tie as tie
 
@@ -9,10 +12,10 @@ numbers-for-requires : tie.Need-numbers-for-requires
 numbers-for-requires c κs = search needs
 
 returns : tie.Need-returns
-returns c = search needs
+returns c = inl (inl (omega arith), refl)
 
 returns-2 : tie.Need-returns-2
-returns-2 c = search needs
+returns-2 c = inl (inr (omega arith), refl)
 
 fill-bytes-requires : tie.Need-fill-bytes-requires
 fill-bytes-requires c κs = search needs
@@ -44,8 +47,32 @@ slice-aggregate-made-2 c = simp length-take (omega arith)
 made-requires : tie.Need-made-requires
 made-requires c κs = search needs
 
+sub-due-number : tie.Need-sub-due-number
+sub-due-number c = search needs
+
+part-due-number-start : tie.Need-part-due-number-start
+part-due-number-start c = search needs
+
+part-due-number-end : tie.Need-part-due-number-end
+part-due-number-end c = search needs
+
 due-number-requires : tie.Need-due-number-requires
 due-number-requires c κs = search needs
+
+changed-up-to-requires : tie.Need-changed-up-to-requires
+changed-up-to-requires c κs = search needs
+
+sub-verdict : tie.Need-sub-verdict
+sub-verdict c = search needs
+
+part-verdict-start : tie.Need-part-verdict-start
+part-verdict-start c = search needs
+
+part-verdict-end : tie.Need-part-verdict-end
+part-verdict-end c = search needs
+
+verdict-requires : tie.Need-verdict-requires
+verdict-requires c κs = search needs
 
 same-length : tie.Need-same-length
 same-length c = search needs
@@ -57,61 +84,18 @@ same-length-3 : tie.Need-same-length-3
 same-length-3 c = search needs
 
 returns-3 : tie.Need-returns-3
-returns-3 c = search needs
-
-sub-is-due : tie.Need-sub-is-due
-sub-is-due c = search needs
-
-part-is-due-start : tie.Need-part-is-due-start
-part-is-due-start c = search needs
-
-part-is-due-end : tie.Need-part-is-due-end
-part-is-due-end c = search needs
-
-is-due-requires : tie.Need-is-due-requires
-is-due-requires c κs = search needs
-
-same-length-4 : tie.Need-same-length-4
-same-length-4 c = search needs
-
-same-length-5 : tie.Need-same-length-5
-same-length-5 c = search needs
-
-same-length-6 : tie.Need-same-length-6
-same-length-6 c = search needs
-
-returns-4 : tie.Need-returns-4
-returns-4 c = search needs
-
-changed-up-to-requires : tie.Need-changed-up-to-requires
-changed-up-to-requires c κs = search needs
-
-is-same-from-requires : tie.Need-is-same-from-requires
-is-same-from-requires c κs = search needs
-
-same-length-7 : tie.Need-same-length-7
-same-length-7 c = search needs
-
-same-length-8 : tie.Need-same-length-8
-same-length-8 c = search needs
-
-same-length-9 : tie.Need-same-length-9
-same-length-9 c = search needs
-
-returns-5 : tie.Need-returns-5
-returns-5 c = search needs
-
-same-length-10 : tie.Need-same-length-10
-same-length-10 c = search needs
-
-same-length-11 : tie.Need-same-length-11
-same-length-11 c = search needs
-
-same-length-12 : tie.Need-same-length-12
-same-length-12 c = search needs
-
-returns-6 : tie.Need-returns-6
-returns-6 c = search needs
+returns-3 c =
+    let m = c .before .before .before .before .before .before .before .before .before .before .before .before in
+    let p = m .before .before .before .before .before .before in
+    inr
+    (replayed
+    (p .before .before .before .before .before .before .before .before .before .numbers-for .ensures)
+    (p .before .before .before .before .before .fill-bytes .ensures)
+    (p .copy-numbers .ensures)
+    (m .made .ensures)
+    (c .before .before .before .before .before .before .due-number .ensures)
+    (c .before .before .before .before .before .changed-up-to .ensures)
+    (c .verdict .ensures))
 
 pub fault-of-spec : {M : Type 1} → statement M
 fault-of-spec =
@@ -130,26 +114,16 @@ fault-of-spec =
     slice-relend-prefix-made-2
     slice-aggregate-made-2
     made-requires
+    sub-due-number
+    part-due-number-start
+    part-due-number-end
     due-number-requires
+    changed-up-to-requires
+    sub-verdict
+    part-verdict-start
+    part-verdict-end
+    verdict-requires
     same-length
     same-length-2
     same-length-3
-    returns-3
-    sub-is-due
-    part-is-due-start
-    part-is-due-end
-    is-due-requires
-    same-length-4
-    same-length-5
-    same-length-6
-    returns-4
-    changed-up-to-requires
-    is-same-from-requires
-    same-length-7
-    same-length-8
-    same-length-9
-    returns-5
-    same-length-10
-    same-length-11
-    same-length-12
-    returns-6)
+    returns-3)

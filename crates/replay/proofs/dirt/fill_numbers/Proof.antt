@@ -1,25 +1,25 @@
--- `fill_numbers` is safe and ends.
-use Prim.Native.Nat.{_-_}
-use mathlib.Core.Path.{_≡_}
+-- `fill_numbers` meets its contract.
+use Prim.Native.Nat.{_-_, _^_}
 use lib.ListN.{length}
 use borrow.Author.Needs.{needs}
+use Rattle.replay.proofs.Filling.{Filled, filled-start, filled-more, filled-end}
 use Rattle.replay.proofs.dirt.fill_numbers.Statement.{statement}
 use Rattle.replay.proofs.dirt.fill_numbers.Tie as tie
 
 abbrev Inv-loop : tie.InvT-loop
-Inv-loop numbers₀ first x₀ i₀ numbers x i = length numbers ≡ length numbers₀
+Inv-loop workspace₀ first x₀ i₀ workspace x i = Filled 2654435769 (2 ^ 32) first workspace₀ workspace x i
 
 abbrev μ-loop : tie.MeasureT-loop
-μ-loop numbers₀ first x₀ i₀ numbers x i = length numbers₀ - i
+μ-loop workspace₀ first x₀ i₀ workspace x i = length workspace₀ - i
 
 loop-holds : tie.Need-loop-holds Inv-loop μ-loop
-loop-holds c = search needs
+loop-holds c = search (filled-start, needs)
 
-mul-numbers : tie.Need-mul-numbers Inv-loop μ-loop
-mul-numbers c = search needs
+mul-workspace : tie.Need-mul-workspace Inv-loop μ-loop
+mul-workspace c = search needs
 
-slice-write-numbers : tie.Need-slice-write-numbers Inv-loop μ-loop
-slice-write-numbers c = search needs
+slice-write-workspace : tie.Need-slice-write-workspace Inv-loop μ-loop
+slice-write-workspace c = search needs
 
 wrapping-add-u32-requires : tie.Need-wrapping-add-u32-requires Inv-loop μ-loop
 wrapping-add-u32-requires c κs = search needs
@@ -31,13 +31,13 @@ loop-less : tie.Need-loop-less Inv-loop μ-loop
 loop-less c = search needs
 
 loop-again : tie.Need-loop-again Inv-loop μ-loop
-loop-again c = search needs
+loop-again c = search (filled-more, needs)
 
 same-length : tie.Need-same-length Inv-loop μ-loop
 same-length c = search needs
 
 returns : tie.Need-returns Inv-loop μ-loop
-returns c = search needs
+returns c = search (filled-end, needs)
 
 pub fill-numbers-spec : {M : Type 1} → statement M
 fill-numbers-spec =
@@ -46,8 +46,8 @@ fill-numbers-spec =
     Inv-loop
     μ-loop
     loop-holds
-    mul-numbers
-    slice-write-numbers
+    mul-workspace
+    slice-write-workspace
     wrapping-add-u32-requires
     add-i
     loop-less

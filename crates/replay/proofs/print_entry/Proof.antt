@@ -1,8 +1,8 @@
 -- `print_entry` is safe and ends.
 use Prim.Native.Nat.{_≤_, _-_}
 use borrow.Author.Needs.{needs}
-use Rattle.replay.proofs.tally.print_entry.Statement.{statement}
-use Rattle.replay.proofs.tally.print_entry.Tie as tie
+use Rattle.replay.proofs.print_entry.Statement.{statement}
+use Rattle.replay.proofs.print_entry.Tie as tie
 
 abbrev Inv-loop : tie.InvT-loop
 Inv-loop counts name entry n₀ t6 t7 t8 n = n ≤ 9
@@ -37,8 +37,8 @@ slice-aggregate-write-all c = search needs
 write-all-requires-2 : tie.Need-write-all-requires-2 Inv-loop μ-loop
 write-all-requires-2 c κs = search needs
 
-print-number-requires : tie.Need-print-number-requires Inv-loop μ-loop
-print-number-requires c κs = search needs
+print-decimal-requires : tie.Need-print-decimal-requires Inv-loop μ-loop
+print-decimal-requires c κs = search needs
 
 slice-aggregate-print-field-2 : tie.Need-slice-aggregate-print-field-2 Inv-loop μ-loop
 slice-aggregate-print-field-2 c = search needs
@@ -88,7 +88,7 @@ print-entry-spec =
     loop-holds
     slice-aggregate-write-all
     write-all-requires-2
-    print-number-requires
+    print-decimal-requires
     slice-aggregate-print-field-2
     mul-count-at-2
     add-count-at

@@ -1,0 +1,50 @@
+-- `made` meets its contract.
+use borrow.Author.Needs.{needs}
+use Rattle.replay.proofs.Calling.{made-find, made-words, made-rename}
+use Rattle.replay.proofs.call.made.Statement.{statement}
+use Rattle.replay.proofs.call.made.Tie as tie
+
+puvainy-find-requires : tie.Need-puvainy-find-requires
+puvainy-find-requires c κs = search needs
+
+same-length : tie.Need-same-length
+same-length c = search needs
+
+same-length-2 : tie.Need-same-length-2
+same-length-2 c = search needs
+
+returns : tie.Need-returns
+returns c = search (made-find, needs)
+
+puvainy-words-requires : tie.Need-puvainy-words-requires
+puvainy-words-requires c κs = search needs
+
+same-length-3 : tie.Need-same-length-3
+same-length-3 c = search needs
+
+returns-2 : tie.Need-returns-2
+returns-2 c = search (made-words, needs)
+
+puvainy-rename-requires : tie.Need-puvainy-rename-requires
+puvainy-rename-requires c κs = search needs
+
+same-length-4 : tie.Need-same-length-4
+same-length-4 c = search needs
+
+returns-3 : tie.Need-returns-3
+returns-3 c = search (made-rename, needs)
+
+pub made-spec : {M : Type 1} → statement M
+made-spec =
+    tie.close
+    (tie.spec
+    puvainy-find-requires
+    same-length
+    same-length-2
+    returns
+    puvainy-words-requires
+    same-length-3
+    returns-2
+    puvainy-rename-requires
+    same-length-4
+    returns-3)

@@ -1,0 +1,62 @@
+-- What a stored call is made on, what is due of it, and what a fault says of it.
+use Prim.Native.Nat.{ℕ, _+_, _*_, _%_, _<_}
+use mathlib.Core.Path.{_≡_}
+use mathlib.Core.Bool.{true, false, _&&_}
+use mathlib.Core.Logic.{_⊎_}
+use mathlib.Core.List.{List, _++_}
+use lib.Dec.{eqb, ltb}
+use lib.ListN.{length, take, drop}
+use Rattle.text.specs.Entry.{Call, FindCall}
+use Rattle.text.specs.Words.{words-entry}
+use Rattle.text.specs.Rename.{rename-entry}
+use Rattle.replay.specs.Records.{part}
+use Rattle.replay.specs.Dirt.{bytes, over, due}
+use Rattle.replay.specs.declared.record.Record.{Record}
+use Rattle.replay.specs.declared.call.Fault.{Fault}
+use Rattle.replay.specs.declared.call.Fault.the-variants.{Nothing, Buffers, Number, Output, Workspace}
+
+-- the numbers lent to a call: 40 to a slot, and some more that make no slot
+abbrev pub lent-numbers : (slots : ℕ) → ℕ
+lent-numbers slots = elim (ltb 1000 slots) [ true ↦ 41000 | false ↦ slots * 40 + slots % 40 ]
+
+-- the number to return: a refusal's, or 100 and the answer's length
+abbrev pub due-number : (stored : ℕ) (answer : List ℕ) → ℕ
+due-number stored answer = elim (eqb stored 0) [ true ↦ 100 + length answer | false ↦ stored ]
+
+-- where the workspace may be changed up to: in the lent part, by a call of FIND that returns more than 6
+abbrev pub changed-to : (entry number lent : ℕ) → ℕ
+changed-to entry number lent = elim (eqb entry 1 && ltb 6 number) [ true ↦ lent | false ↦ 0 ]
+
+-- a call of the entry with this number: FIND, WORDS or else RENAME
+pub record Made (entry : ℕ) (job out work : List ℕ) (r : ℕ) (out′ work′ : List ℕ) : Type 0 where
+  pub find : entry ≡ 1 → FindCall job out work r out′ work′
+  pub words : entry ≡ 2 → Call (words-entry job (length out)) out r out′ × (work′ ≡ work)
+  pub rename : (entry ≡ 1 → ⊥) → (entry ≡ 2 → ⊥) → Call (rename-entry job (length out)) out r out′ × (work′ ≡ work)
+
+-- the first that is not as due of a call: its number (r where d is due), its output, its workspace
+abbrev pub Verdict : (r d : ℕ) (output workspace : Type 0) → Fault → Type 0
+Verdict r d output workspace Nothing = (r ≡ d) × output × workspace
+Verdict r d output workspace Buffers = ⊥
+Verdict r d output workspace (Number m n) = (m ≡ r) × (n ≡ d) × (r ≡ d → ⊥)
+Verdict r d output workspace Output = (r ≡ d) × (output → ⊥)
+Verdict r d output workspace Workspace = (r ≡ d) × output × (workspace → ⊥)
+
+-- a stored call made on lent parts of the buffers, and held to the stored answer
+pub record Replayed (s : List ℕ) (c : Record) (first : ℕ) (out work former out′ work′ former′ : List ℕ) (f : Fault) : Type 0 where
+  pub number : ℕ
+  pub bytes-after : List ℕ
+  pub numbers-after : List ℕ
+  pub made : Made (c .entry) (part (c .job) (c .answer) s) (take (c .room) (bytes first (length out))) (take (lent-numbers (c .slots)) work) number bytes-after numbers-after
+  pub output : out′ ≡ bytes-after ++ drop (c .room) (bytes first (length out))
+  pub workspace : work′ ≡ numbers-after ++ drop (lent-numbers (c .slots)) work
+  pub former-is : former′ ≡ over work former
+  pub verdict :
+      let answer = part (c .answer) (c .next) s in
+      let from = changed-to (c .entry) number (lent-numbers (c .slots)) in
+      Verdict number (due-number (c .number) answer) (out′ ≡ due answer first (length out′)) (drop from work′ ≡ drop from former′) f
+
+-- of `fault_of`: the buffers are too small, or the call is made
+abbrev pub Faults : (s : List ℕ) (c : Record) (first : ℕ) (out work former out′ work′ former′ : List ℕ) → Fault → Type 0
+Faults s c first out work former out′ work′ former′ f =
+    (((length out < c .room) ⊎ (length work < lent-numbers (c .slots))) × (f ≡ Buffers))
+    ⊎ Replayed s c first out work former out′ work′ former′ f
