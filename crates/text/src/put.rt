@@ -80,7 +80,7 @@ fn put_three(out: &mut [u8], at: usize, a: u8, b: u8, c: u8) -> usize
     put_byte(out, q, c)
 }
 
-// A letter by its number.
+// A letter by its number. Most have one digit, which is put without the number's recursion.
 fn put_letter(out: &mut [u8], at: usize, n: u32) -> usize
     ensures { λ r. ⌜ Put (write-letter n) (now (out .entry)) at r (now (out .exit)) ⌝ }
 {
