@@ -58,39 +58,61 @@ const LARGE: [Case; 7] = [
     ),
 ];
 
-pub fn rows(workspace: &mut Workspace) {
-    head();
-    for case in SMALL {
-        let settings = ("program", PROGRAM, PROGRAM_SLOTS, 200);
-        one(case, settings, workspace);
-    }
-    for case in MIDDLE {
-        one(case, ("3 7 3 1000", PROGRAM, MOST_SLOTS, 100), workspace);
-    }
-    for case in LARGE {
-        one(case, ("largest", LARGEST, MOST_SLOTS, 3), workspace);
-    }
+/// A job with what it is called, its slots and the rounds in which it is timed.
+pub struct Timed {
+    pub what: String,
+    pub job: Job,
+    pub slots: usize,
+    pub rounds: usize,
 }
 
-/// What the limits are called, the limits, the slots and the rounds.
+/// The limits with what they are called, the slots and the rounds.
 type Settings = (&'static str, [usize; 4], usize, usize);
 
-fn one((what, left, right): Case, settings: Settings, workspace: &mut Workspace) {
-    let (name, limits, slots, rounds) = settings;
+pub fn jobs() -> Vec<Timed> {
+    let program = ("program", PROGRAM, PROGRAM_SLOTS, 200);
+    let middle = ("3 7 3 1000", PROGRAM, MOST_SLOTS, 100);
+    let largest = ("largest", LARGEST, MOST_SLOTS, 3);
+    let small = SMALL.iter().map(|case| timed(case, program));
+    let more = MIDDLE.iter().map(|case| timed(case, middle));
+    let most = LARGE.iter().map(|case| timed(case, largest));
+    small.chain(more).chain(most).collect()
+}
+
+fn timed(&(what, left, right): &Case, (name, limits, slots, rounds): Settings) -> Timed {
+    let what = format!("FIND, {name}: {what}");
     let job = Job {
         left,
         right,
         limits,
     };
-    let text = job.text();
-    let told = compare(&text, slots, workspace);
-    let (equation, bounds) = (job.equation(), job.bounds());
-    row(
-        &format!("FIND, {name}: {what} ({told})"),
+    Timed {
+        what,
+        job,
+        slots,
         rounds,
-        || search_bounded_rewrite("bench", black_box(&equation), bounds),
-        || workspace.call(Entry::Find, black_box(&text), slots, PROGRAM_ROOM),
-    );
+    }
+}
+
+pub fn rows(workspace: &mut Workspace) {
+    head("Rust");
+    for Timed {
+        what,
+        job,
+        slots,
+        rounds,
+    } in jobs()
+    {
+        let text = job.text();
+        let told = compare(&text, slots, workspace);
+        let (equation, bounds) = (job.equation(), job.bounds());
+        row(
+            &format!("{what} ({told})"),
+            rounds,
+            || search_bounded_rewrite("bench", black_box(&equation), bounds),
+            || workspace.call(Entry::Find, black_box(&text), slots, PROGRAM_ROOM),
+        );
+    }
 }
 
 /// Compares our answer with the oracle's, and says what it is and how many terms are noted.

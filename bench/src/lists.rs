@@ -9,21 +9,21 @@ use crate::ours::Workspace;
 use crate::table::{head, row};
 
 /// Two sides of 31 nodes with six letters and 324 words each.
-const MANY_WORDS: Job = Job {
+pub const MANY_WORDS: Job = Job {
     left: "* + v0 + v1 v2 * + v3 + v4 v5 * + v0 + v1 v2 * + v3 + v4 v5 + v0 + v1 + v2 v3",
     right: "* + v5 + v4 v3 * + v2 + v1 v0 * + v5 + v4 v3 * + v2 + v1 v0 + v5 + v4 + v3 v2",
     limits: [0; 4],
 };
 
 /// The same sizes, and the letters of a side are alike in it: no renaming can be passed over early.
-const ALIKE: Job = Job {
+pub const ALIKE: Job = Job {
     left: "* + v0 + v1 v2 * + v0 + v1 v2 * + v0 + v1 v2 * + v0 + v1 v2 * + 1 1 + 1 1",
     right: "* + v3 + v4 v5 * + v3 + v4 v5 * + v3 + v4 v5 * + v3 + v4 v5 * + 1 1 + 1 1",
     limits: [0; 4],
 };
 
 pub fn rows(workspace: &mut Workspace) {
-    head();
+    head("Rust");
     words("WORDS, 324 words a side", &MANY_WORDS, workspace);
     rename(
         "RENAME, six letters, 324 words a side",

@@ -1,7 +1,9 @@
 //! The three entries beside the Rust, in one process, on the same jobs. Each pair's answers are compared first.
 //!
 //! With an argument, one part alone: `find`, `lists`, `noted`, or `ours`, the search at the largest limits on our side, for a profiler.
+//! `beside LIBRARY` times our entries beside those of an earlier release.
 
+mod beside;
 mod find;
 mod job;
 mod lists;
@@ -11,7 +13,8 @@ mod table;
 
 fn main() {
     let mut workspace = ours::Workspace::new();
-    match std::env::args().nth(1).as_deref() {
+    let mut words = std::env::args().skip(1);
+    match words.next().as_deref() {
         None => {
             find::rows(&mut workspace);
             lists::rows(&mut workspace);
@@ -21,6 +24,7 @@ fn main() {
         Some("lists") => lists::rows(&mut workspace),
         Some("noted") => noted::rows(&mut workspace),
         Some("ours") => find::ours_alone(&mut workspace),
+        Some("beside") => beside::rows(words.next().as_deref(), &mut workspace),
         Some(other) => panic!("no part is called {other}"),
     }
 }

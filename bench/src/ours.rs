@@ -2,7 +2,8 @@
 
 use oracle::{Entry, Given};
 
-const SLOT: usize = 40;
+/// The numbers of a slot.
+pub const SLOT: usize = 40;
 
 /// The most slots that are used.
 pub const MOST_SLOTS: usize = 65_535;
@@ -12,8 +13,8 @@ const ROOM: usize = 1 << 20;
 
 /// The slots and the output that every call shares: each leaves them as it likes for the next.
 pub struct Workspace {
-    numbers: Vec<u32>,
-    output: Vec<u8>,
+    pub numbers: Vec<u32>,
+    pub output: Vec<u8>,
 }
 
 impl Workspace {

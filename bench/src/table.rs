@@ -1,31 +1,31 @@
-//! The table of times: the Rust, ours, and how many times faster ours is. Times are this thread's on the processor, so that other work
-//! on the machine counts for less.
+//! The table of times: another side's, ours, and how many times faster ours is. Times are this thread's on the processor, so that other
+//! work on the machine counts for less.
 
 use std::hint::black_box;
 use std::time::Duration;
 
-pub fn head() {
-    let (rust, ours, ratio) = ("Rust µs", "ours µs", "ratio");
-    println!("\n{:<56} {rust:>14} {ours:>12} {ratio:>8}", "");
+pub fn head(other: &str) {
+    let (other, ours, ratio) = (format!("{other} µs"), "ours µs", "ratio");
+    println!("\n{:<56} {other:>14} {ours:>12} {ratio:>8}", "");
 }
 
 /// One line of the table: the best of several rounds of each, turn by turn.
 pub fn row<R, O>(
     what: &str,
     rounds: usize,
-    mut rust: impl FnMut() -> R,
+    mut other: impl FnMut() -> R,
     mut ours: impl FnMut() -> O,
 ) {
-    let (many, often) = (batch(&mut rust), batch(&mut ours));
+    let (many, often) = (batch(&mut other), batch(&mut ours));
     let (mut theirs, mut own) = (Duration::MAX, Duration::MAX);
     for _ in 0..rounds {
-        theirs = theirs.min(time(many, &mut rust));
+        theirs = theirs.min(time(many, &mut other));
         own = own.min(time(often, &mut ours));
     }
     let theirs = theirs.as_secs_f64() * 1e6 / f64::from(many);
     let own = own.as_secs_f64() * 1e6 / f64::from(often);
     println!(
-        "{what:<56} {theirs:>14.1} {own:>12.1} {:>8.1}",
+        "{what:<56} {theirs:>14.1} {own:>12.1} {:>8.2}",
         theirs / own
     );
 }

@@ -1,0 +1,138 @@
+//! Our entries beside those of an earlier release, on the same jobs and buffers. The earlier ones come as a shared library made of that
+//! release's archive.
+
+use std::ffi::{CString, c_char, c_int, c_void};
+use std::hint::black_box;
+use std::process::exit;
+
+use oracle::{Entry, PROGRAM_ROOM};
+
+use crate::find::{self, Timed};
+use crate::lists::{ALIKE, MANY_WORDS};
+use crate::ours::{SLOT, Workspace};
+use crate::table::{head, row};
+
+unsafe extern "C" {
+    fn dlopen(file: *const c_char, flags: c_int) -> *mut c_void;
+    fn dlsym(library: *mut c_void, name: *const c_char) -> *mut c_void;
+}
+
+type Find = unsafe extern "C" fn(*const u8, usize, *mut u8, usize, *mut u32, usize) -> usize;
+type Lists = unsafe extern "C" fn(*const u8, usize, *mut u8, usize) -> usize;
+
+/// The entries of the earlier release.
+struct Earlier {
+    find: Find,
+    words: Lists,
+    rename: Lists,
+}
+
+impl Earlier {
+    fn load(file: &str) -> Option<Earlier> {
+        const NOW: c_int = 2;
+        let name = CString::new(file).ok()?;
+        let library = unsafe { dlopen(name.as_ptr(), NOW) };
+        if library.is_null() {
+            return None;
+        }
+        let named = |name: &str| {
+            let name = CString::new(name).ok()?;
+            let function = unsafe { dlsym(library, name.as_ptr()) };
+            (!function.is_null()).then_some(function)
+        };
+        // The header has declared the three so since the first release.
+        unsafe {
+            Some(Earlier {
+                find: std::mem::transmute::<*mut c_void, Find>(named("puvainy_find")?),
+                words: std::mem::transmute::<*mut c_void, Lists>(named("puvainy_words")?),
+                rename: std::mem::transmute::<*mut c_void, Lists>(named("puvainy_rename")?),
+            })
+        }
+    }
+
+    fn call(&self, entry: Entry, job: &[u8], slots: usize, workspace: &mut Workspace) -> usize {
+        let (text, length) = (job.as_ptr(), job.len());
+        let (out, numbers) = (
+            workspace.output.as_mut_ptr(),
+            workspace.numbers.as_mut_ptr(),
+        );
+        assert!(slots * SLOT <= workspace.numbers.len() && PROGRAM_ROOM <= workspace.output.len());
+        unsafe {
+            match entry {
+                Entry::Find => (self.find)(text, length, out, PROGRAM_ROOM, numbers, slots * SLOT),
+                Entry::Words => (self.words)(text, length, out, PROGRAM_ROOM),
+                Entry::Rename => (self.rename)(text, length, out, PROGRAM_ROOM),
+            }
+        }
+    }
+}
+
+/// Rounds for the jobs at the largest limits: more than beside the Rust, which takes seconds there.
+const LEAST_ROUNDS: usize = 20;
+
+pub fn rows(library: Option<&str>, workspace: &mut Workspace) {
+    let Some(file) = library else {
+        eprintln!("bench: beside which library? cargo run --release -- beside LIBRARY");
+        exit(2);
+    };
+    let Some(earlier) = Earlier::load(file) else {
+        eprintln!("bench: {file} is no shared library with the three entries");
+        exit(2);
+    };
+    head("before");
+    for Timed {
+        what,
+        job,
+        slots,
+        rounds,
+    } in find::jobs()
+    {
+        let rounds = rounds.max(LEAST_ROUNDS);
+        one(
+            &what,
+            Entry::Find,
+            &job.text(),
+            slots,
+            rounds,
+            &earlier,
+            workspace,
+        );
+    }
+    for (what, entry, job) in [
+        ("WORDS, 324 words a side", Entry::Words, MANY_WORDS),
+        ("RENAME, 324 words a side", Entry::Rename, MANY_WORDS),
+        ("RENAME, the same, letters alike", Entry::Rename, ALIKE),
+    ] {
+        one(what, entry, &job.text(), 0, 100, &earlier, workspace);
+    }
+}
+
+fn one(
+    what: &str,
+    entry: Entry,
+    text: &[u8],
+    slots: usize,
+    rounds: usize,
+    earlier: &Earlier,
+    workspace: &mut Workspace,
+) {
+    let given = earlier.call(entry, text, slots, workspace);
+    let before = workspace.output.clone();
+    let same = workspace.call(entry, text, slots, PROGRAM_ROOM) == given;
+    let note = if same && workspace.output == before {
+        ""
+    } else {
+        " (another answer)"
+    };
+    let workspace = std::cell::RefCell::new(workspace);
+    row(
+        &format!("{what}{note}"),
+        rounds,
+        || earlier.call(entry, black_box(text), slots, &mut workspace.borrow_mut()),
+        || {
+            workspace
+                .borrow_mut()
+                .call(entry, black_box(text), slots, PROGRAM_ROOM)
+        },
+    );
+}
