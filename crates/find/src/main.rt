@@ -14,7 +14,7 @@ fn respond(input: &[u8], output: &mut [u8], workspace: &mut [u32]) -> usize
     requires { ⌜ (length (now output) ≡ 32768) × (length (now workspace) ≡ 16000) ⌝ }
     ensures { λ r. ⌜ Prints (program (now (input .entry))) (now (output .exit)) r ⌝ }
 {
-    let number = entry::puvainy_find(input, output, workspace);
+    let number = entry::find(input, output, workspace);
     if 100 <= number {
         return number - 100;
     }

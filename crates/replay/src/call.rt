@@ -6,7 +6,6 @@ ghost use Rattle.replay.specs.Dirt.{due};
 ghost use Rattle.replay.specs.Calls.{lent-numbers, due-number, changed-to, Made, Verdict, Faults};
 use crate::dirt;
 use crate::record::Record;
-use text::entry;
 
 // What is not as it is stored.
 pub enum Fault {
@@ -43,12 +42,12 @@ fn made(entry: usize, job: &[u8], output: &mut [u8], workspace: &mut [u32]) -> u
     ensures { λ r. ⌜ Made entry (now (job .entry)) (now (output .entry)) (now (workspace .entry)) r (now (output .exit)) (now (workspace .exit)) ⌝ }
 {
     if entry == 1 {
-        return entry::puvainy_find(job, output, workspace);
+        return puvainy::puvainy_find(job, output, workspace);
     }
     if entry == 2 {
-        return entry::puvainy_words(job, output);
+        return puvainy::puvainy_words(job, output);
     }
-    entry::puvainy_rename(job, output)
+    puvainy::puvainy_rename(job, output)
 }
 
 // Where the workspace may be changed up to: nowhere by 1 to 6 and by WORDS and RENAME, else in the lent part.

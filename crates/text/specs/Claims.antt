@@ -4,8 +4,9 @@ use Prim.Native.String.{String}
 use mathlib.Core.Path.{_≡_}
 use mathlib.Core.Logic.{_↔_}
 use mathlib.Core.Option.{some}
-use mathlib.Core.List.{List, [], _∷_, map}
+use mathlib.Core.List.{List, [], _∷_, _++_, map}
 use lib.ListN.{length, take, drop}
+use Rattle.terms.specs.Lists.{_∈_}
 use Rattle.terms.specs.Compare.{lt}
 use Rattle.terms.specs.Term.{Term, order}
 use Rattle.words.specs.Words.{Word, words}
@@ -58,18 +59,28 @@ pub record Answered (job : List ℕ) (slots room : ℕ) (t : List ℕ) : Type 0 
   -- path, ends, fewest lines, number opened, and when a path is returned
   pub claims : Claims semiring (List Word) words (read .limits) (read .left) (read .right)
 
--- of a call that gives an answer, returns r and leaves out′ where out was
-pub record CallClaims (answer : Answer (List ℕ)) (out : List ℕ) (r : ℕ) (out′ : List ℕ) : Type 0 where
+-- of a call that gives an answer, or a refusal by one of the numbers ns, returns r and leaves out′ where out was
+pub record CallClaims (ns : List ℕ) (answer : Answer (List ℕ)) (out : List ℕ) (r : ℕ) (out′ : List ℕ) : Type 0 where
   -- a number below 100 is that of a refusal, and a refusal's is below 100
   pub refusal : (r < 100) ↔ (answer ≡ refused r)
-  -- a refusal has a number from 1 to 8 and leaves the output untouched
-  pub numbered : r < 100 → (1 ≤ r) × (r ≤ 8)
+  -- a refusal has one of these numbers and leaves the output untouched
+  pub numbered : r < 100 → r ∈ ns
   pub untouched : r < 100 → out′ ≡ out
   -- an answer not refused is the first r - 100 bytes of the output, and the rest keeps its bytes
   pub text : 100 ≤ r → answer ≡ accepted (take (r - 100) out′)
   pub kept : 100 ≤ r → drop (r - 100) out′ ≡ drop (r - 100) out
 
+-- the numbers by which a job is refused before anything is answered; WORDS and RENAME have 8 beside them, FIND 7 and 8
+abbrev pub job-numbers : List ℕ
+job-numbers = 1 ∷ 2 ∷ 3 ∷ 4 ∷ 5 ∷ 6 ∷ []
+
+abbrev pub list-numbers : List ℕ
+list-numbers = job-numbers ++ (8 ∷ [])
+
+abbrev pub find-numbers : List ℕ
+find-numbers = job-numbers ++ (7 ∷ 8 ∷ [])
+
 -- of a call of FIND, whatever the buffers held before: all is claimed of an answer not refused that demand 3 claims of a text
 pub record FindClaims (job out work : List ℕ) (r : ℕ) (out′ : List ℕ) : Type 0 where
-  pub call : CallClaims (find job (slots-of (length work)) (length out)) out r out′
+  pub call : CallClaims find-numbers (find job (slots-of (length work)) (length out)) out r out′
   pub answered : 100 ≤ r → Answered job (slots-of (length work)) (length out) (take (r - 100) out′)

@@ -1,4 +1,4 @@
-// What hosts call: a job's text comes in, and the answer's bytes go out at the front of the output.
+// FIND, WORDS and RENAME: a job's text comes in, and the answer's bytes go out at the front of the output.
 // A number below 100 is a refusal's; otherwise it is 100 plus the answer's length.
 ghost use lib.ListN.{length};
 ghost use Rattle.text.specs.Words.{words-entry};
@@ -12,8 +12,7 @@ use crate::job::accept::read_job;
 use words::normal_form::front;
 
 // FIND. The workspace holds the noted terms, 40 numbers to a slot.
-#[no_mangle]
-pub extern "C" fn puvainy_find(job: &[u8], output: &mut [u8], workspace: &mut [u32]) -> usize
+pub fn find(job: &[u8], output: &mut [u8], workspace: &mut [u32]) -> usize
     ensures { λ r. ⌜ FindCall (now (job .entry)) (now (output .entry)) (now (workspace .entry)) r (now (output .exit)) (now (workspace .exit)) ⌝ }
 {
     let mut left = [0u32; 31];
@@ -35,8 +34,7 @@ pub extern "C" fn puvainy_find(job: &[u8], output: &mut [u8], workspace: &mut [u
 }
 
 // WORDS.
-#[no_mangle]
-pub extern "C" fn puvainy_words(job: &[u8], output: &mut [u8]) -> usize
+pub fn words(job: &[u8], output: &mut [u8]) -> usize
     ensures { λ r. ⌜ Call (words-entry (now (job .entry)) (length (now (output .entry)))) (now (output .entry)) r (now (output .exit)) ⌝ }
 {
     let mut left = [0u32; 31];
@@ -52,8 +50,7 @@ pub extern "C" fn puvainy_words(job: &[u8], output: &mut [u8]) -> usize
 }
 
 // RENAME.
-#[no_mangle]
-pub extern "C" fn puvainy_rename(job: &[u8], output: &mut [u8]) -> usize
+pub fn rename(job: &[u8], output: &mut [u8]) -> usize
     ensures { λ r. ⌜ Call (rename-entry (now (job .entry)) (length (now (output .entry)))) (now (output .entry)) r (now (output .exit)) ⌝ }
 {
     let mut left = [0u32; 31];

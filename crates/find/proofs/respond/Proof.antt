@@ -6,8 +6,8 @@ use borrow.Author.Needs.{needs}
 use Rattle.find.proofs.respond.Statement.{statement}
 use Rattle.find.proofs.respond.Tie as tie
 
-puvainy-find-requires : tie.Need-puvainy-find-requires
-puvainy-find-requires c κs = search needs
+find-requires : tie.Need-find-requires
+find-requires c κs = search needs
 
 same-length : tie.Need-same-length
 same-length c = search needs
@@ -19,7 +19,7 @@ returns : tie.Need-returns
 returns c =
     let f = c .before .before .before .before .before in
     let p = f .before .before .before .before .before .before .pre in
-    answer-prints (p .0) (p .1) (f .puvainy-find .ensures) (c .if1 .taken)
+    answer-prints (p .0) (p .1) (f .find .ensures) (c .if1 .taken)
 
 slice-aggregate-put-bytes : tie.Need-slice-aggregate-put-bytes
 slice-aggregate-put-bytes c = search needs
@@ -48,13 +48,13 @@ returns-2 c =
     let f = e .before .before .before .before .before in
     let p = f .before .before .before .before .before .before .pre in
     let put = then (then (b .put-bytes .ensures) (n .put-number .ensures)) (c .before .before .put-byte .ensures) in
-    refusal-prints (p .0) (p .1) (f .puvainy-find .ensures) (e .if1 .left) (put-as (refusal-text (f .puvainy-find .result)) put)
+    refusal-prints (p .0) (p .1) (f .find .ensures) (e .if1 .left) (put-as (refusal-text (f .find .result)) put)
 
 pub respond-spec : {M : Type 1} → statement M
 respond-spec =
     tie.close
     (tie.spec
-    puvainy-find-requires
+    find-requires
     same-length
     same-length-2
     returns

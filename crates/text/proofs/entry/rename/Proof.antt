@@ -1,8 +1,8 @@
--- `puvainy_words` meets its contract: the job is refused, or answered.
-use Rattle.text.proofs.Entries.{words-refused, words-answered}
+-- `rename` meets its contract: the job is refused, or answered.
+use Rattle.text.proofs.Entries.{rename-refused, rename-answered}
 use borrow.Author.Needs.{needs}
-use Rattle.text.proofs.entry.puvainy_words.Statement.{statement}
-use Rattle.text.proofs.entry.puvainy_words.Tie as tie
+use Rattle.text.proofs.entry.rename.Statement.{statement}
+use Rattle.text.proofs.entry.rename.Tie as tie
 
 slice-aggregate-read-job : tie.Need-slice-aggregate-read-job
 slice-aggregate-read-job c = search needs
@@ -31,14 +31,14 @@ slice-aggregate-front-2 c = search needs
 front-requires-2 : tie.Need-front-requires-2
 front-requires-2 c κs = search needs
 
-answer-words-requires : tie.Need-answer-words-requires
-answer-words-requires c κs = search needs
+answer-rename-requires : tie.Need-answer-rename-requires
+answer-rename-requires c κs = search needs
 
 returns : tie.Need-returns
 returns c =
     let j = c .before .before .before .before .before in
     let a = j .before .before .before .before .before .args in
-    words-refused (a .job .now) (a .output .now) (rw (c .before .n .given .1) at (j .read-job .ensures))
+    rename-refused (a .job .now) (a .output .now) (rw (c .before .n .given .1) at (j .read-job .ensures))
 
 same-length : tie.Need-same-length
 same-length c = search needs
@@ -49,11 +49,11 @@ returns-2 c =
     let told = f .before .before .before in
     let j = told .before .before .before .before in
     let a = j .before .before .before .before .before .args in
-    words-answered (a .job .now) (rw (told .j .given .1) at (j .read-job .ensures)) (f .front .ensures) (c .before .before .before .before .front2 .ensures) (a .output .now)
-    (c .before .before .answer-words .ensures)
+    rename-answered (a .job .now) (rw (told .j .given .1) at (j .read-job .ensures)) (f .front .ensures) (c .before .before .before .before .front2 .ensures) (a .output .now)
+    (c .before .before .answer-rename .ensures)
 
-pub puvainy-words-spec : {M : Type 1} → statement M
-puvainy-words-spec =
+pub rename-spec : {M : Type 1} → statement M
+rename-spec =
     tie.close
     (tie.spec
     slice-aggregate-read-job
@@ -65,7 +65,7 @@ puvainy-words-spec =
     front-requires
     slice-aggregate-front-2
     front-requires-2
-    answer-words-requires
+    answer-rename-requires
     returns
     same-length
     returns-2)

@@ -1,8 +1,8 @@
--- `puvainy_find` meets its contract: the job is refused, or answered by the search.
-use Rattle.text.proofs.Entries.{find-refused, find-answered}
+-- `words` meets its contract: the job is refused, or answered.
+use Rattle.text.proofs.Entries.{words-refused, words-answered}
 use borrow.Author.Needs.{needs}
-use Rattle.text.proofs.entry.puvainy_find.Statement.{statement}
-use Rattle.text.proofs.entry.puvainy_find.Tie as tie
+use Rattle.text.proofs.entry.words.Statement.{statement}
+use Rattle.text.proofs.entry.words.Tie as tie
 
 slice-aggregate-read-job : tie.Need-slice-aggregate-read-job
 slice-aggregate-read-job c = search needs
@@ -31,33 +31,29 @@ slice-aggregate-front-2 c = search needs
 front-requires-2 : tie.Need-front-requires-2
 front-requires-2 c κs = search needs
 
-answer-find-requires : tie.Need-answer-find-requires
-answer-find-requires c κs = search needs
+answer-words-requires : tie.Need-answer-words-requires
+answer-words-requires c κs = search needs
 
 returns : tie.Need-returns
 returns c =
     let j = c .before .before .before .before .before in
-    let a = j .before .before .before .before .before .before .args in
-    find-refused (a .job .now) (a .output .now) (rw (c .before .n .given .1) at (j .read-job .ensures)) (a .workspace .now)
+    let a = j .before .before .before .before .before .args in
+    words-refused (a .job .now) (a .output .now) (rw (c .before .n .given .1) at (j .read-job .ensures))
 
 same-length : tie.Need-same-length
 same-length c = search needs
 
-same-length-2 : tie.Need-same-length-2
-same-length-2 c = search needs
-
 returns-2 : tie.Need-returns-2
 returns-2 c =
-    let g = c .before .before .before .before in
-    let f = g .before .before .before .before .before in
+    let f = c .before .before .before .before .before .before in
     let told = f .before .before .before in
     let j = told .before .before .before .before in
-    let a = j .before .before .before .before .before .before .args in
-    find-answered (a .job .now) (rw (told .j .given .1) at (j .read-job .ensures)) (f .front .ensures) (g .before .before .before .front2 .ensures) (a .output .now)
-    (g .answer-find .ensures)
+    let a = j .before .before .before .before .before .args in
+    words-answered (a .job .now) (rw (told .j .given .1) at (j .read-job .ensures)) (f .front .ensures) (c .before .before .before .before .front2 .ensures) (a .output .now)
+    (c .before .before .answer-words .ensures)
 
-pub puvainy-find-spec : {M : Type 1} → statement M
-puvainy-find-spec =
+pub words-spec : {M : Type 1} → statement M
+words-spec =
     tie.close
     (tie.spec
     slice-aggregate-read-job
@@ -69,8 +65,7 @@ puvainy-find-spec =
     front-requires
     slice-aggregate-front-2
     front-requires-2
-    answer-find-requires
+    answer-words-requires
     returns
     same-length
-    same-length-2
     returns-2)
