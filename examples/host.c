@@ -1,30 +1,66 @@
-/* Answers the job in a file by FIND, from C.
- * host JOB-FILE: prints the answer, or `answer=refused` and `number=N`. */
+/* Answers a job by one of the three entries, from C.
+ * host ENTRY JOB-FILE: ENTRY is find, words or rename; the JOB-FILE `-` is standard input.
+ * Prints the answer, or `answer=refused` and `number=N`. Status 1: the answer could not be written;
+ * 2: wrong arguments, or the job could not be read. */
+#include <errno.h>
+#include <signal.h>
 #include <stdio.h>
+#include <string.h>
 
 #include "puvainy.h"
 
-enum { SLOTS = 400, ROOM = 32768 };
+/* A job has at most 1,024 bytes: one more is read, so that a longer one is seen to be too long. */
+enum { JOB = 1025, SLOTS = 400, ROOM = 32768 };
+enum entry { FIND, WORDS, RENAME, NONE };
 
-static uint8_t output[ROOM];
+static uint8_t job[JOB], output[ROOM];
 static uint32_t workspace[SLOTS * PUVAINY_SLOT];
+
+static enum entry named(const char *word)
+{
+    static const char *const names[] = {"find", "words", "rename"};
+    int entry = FIND;
+    while (entry < NONE && strcmp(word, names[entry]))
+        entry++;
+    return entry;
+}
+
+static size_t answer(enum entry entry, size_t length)
+{
+    if (entry == FIND)
+        return puvainy_find(job, length, output, ROOM, workspace, SLOTS * PUVAINY_SLOT);
+    if (entry == WORDS)
+        return puvainy_words(job, length, output, ROOM);
+    return puvainy_rename(job, length, output, ROOM);
+}
+
+static int cannot(const char *verb, const char *what, int status)
+{
+    fprintf(stderr, "host: cannot %s %s: %s\n", verb, what, strerror(errno));
+    return status;
+}
 
 int main(int count, char **words)
 {
-    /* One byte more than a job may have, so that a longer one is seen to be too long. */
-    uint8_t job[1025];
-    FILE *file = count == 2 ? fopen(words[1], "rb") : NULL;
-    if (!file) {
-        fprintf(stderr, "usage: host JOB-FILE\n");
+    enum entry entry = count == 3 ? named(words[1]) : NONE;
+    if (entry == NONE) {
+        fprintf(stderr, "usage: host find|words|rename JOB-FILE (- is standard input)\n");
         return 2;
     }
-    size_t length = fread(job, 1, sizeof job, file);
-    fclose(file);
+    FILE *file = strcmp(words[2], "-") ? fopen(words[2], "rb") : stdin;
+    if (!file)
+        return cannot("open", words[2], 2);
+    size_t length = fread(job, 1, JOB, file);
+    if (ferror(file))
+        return cannot("read", words[2], 2);
 
-    size_t number = puvainy_find(job, length, output, ROOM, workspace, SLOTS * PUVAINY_SLOT);
+    size_t number = answer(entry, length);
+    signal(SIGPIPE, SIG_IGN); /* a pipe that nobody reads is told as a failed write */
     if (number < PUVAINY_ANSWER)
         printf("answer=refused\nnumber=%zu\n", number);
     else
         fwrite(output, 1, number - PUVAINY_ANSWER, stdout);
+    if (fflush(stdout) || ferror(stdout))
+        return cannot("write", "the answer", 1);
     return 0;
 }

@@ -1,4 +1,5 @@
-/* Puvainy's three entries. The library is target/staticlib/libtext.a, written by `rt staticlib text`.
+/* Puvainy's three entries. The library is target/staticlib/libpuvainy.a, written by
+ * `rt staticlib puvainy`.
  *
  * Each entry is proved for every job and for buffers of any length and contents. It keeps no pointer
  * and no state from call to call, allocates nothing, and makes no call to the system. Calls on
@@ -39,10 +40,16 @@
  *     workspace  1 to 6 leave it untouched. After any other return its contents are free, and no
  *                later answer depends on them: it need not be cleared.
  *
+ *                A memory checker (valgrind, MemorySanitizer) reports reads of a workspace that was
+ *                never written. They are harmless: FIND reads the heads of its index before it has
+ *                written them, and a head counts only if it leads below the number of noted terms to
+ *                one of its own bucket (crates/search/src/index.rt), so no answer depends on what was
+ *                there. A workspace that is cleared once keeps the checker quiet.
+ *
  * Stack: at most 120,000 bytes for puvainy_find, 100,000 for puvainy_words and 190,000 for
- * puvainy_rename on x86-64. That is more than the frames of the deepest calls take together, with a
- * path of 16 lines and terms 15 deep; examples/stack.c measures calls. A thread with 256 KiB has
- * enough.
+ * puvainy_rename on x86-64 (the macros below). That is more than the frames of the deepest calls take
+ * together, with a path of 16 lines and terms 15 deep. The gate makes the calls of examples/deep.calls
+ * on stacks of just these figures (examples/stack.c). A thread with 256 KiB has enough.
  */
 #ifndef PUVAINY_H
 #define PUVAINY_H
@@ -61,6 +68,11 @@ extern "C" {
 
 /* What an answer's length is added to. */
 #define PUVAINY_ANSWER 100
+
+/* The most bytes of stack that a call takes. */
+#define PUVAINY_FIND_STACK 120000
+#define PUVAINY_WORDS_STACK 100000
+#define PUVAINY_RENAME_STACK 190000
 
 /* A shortest chain of lines from the smaller side to the larger, with its proof text, or that there
  * is none within the limits. */

@@ -64,7 +64,7 @@ def read(path):
     with open(path, encoding="ascii") as file:
         rows = [row.split("=", 1) for row in file.read().splitlines()]
     if rows[0] != ["answer", "proved"]:
-        raise ValueError(path + ": no proved answer, nothing to draw")
+        raise ValueError(path)
     terms, lines = [value for key, value in rows if key == "left"], []
     for key, value in rows:
         if key == "step":
@@ -233,17 +233,24 @@ def picture(name, terms, lines):
     return "\n".join(head + out + ["</svg>"]) + "\n"
 
 
+def fail(why):
+    sys.stderr.write(f"draw.py: {why}\n")
+    sys.exit(2)
+
+
 def main(paths):
     if not paths:
-        sys.exit(__doc__.strip())
+        fail("no answer to draw (usage: draw.py NAME.answer..)")
     for path in paths:
         stem = path.removesuffix(".answer")
         try:
             text = picture(os.path.basename(stem), *read(path))
-        except ValueError as error:
-            sys.exit(str(error))
-        with open(stem + ".svg", "w", encoding="utf-8", newline="\n") as file:
-            file.write(text)
+            with open(stem + ".svg", "w", encoding="utf-8", newline="\n") as file:
+                file.write(text)
+        except OSError as error:
+            fail(f"{error.filename}: {error.strerror}")
+        except (ValueError, IndexError, KeyError):
+            fail(f"{path}: no proved answer, nothing to draw")
 
 
 if __name__ == "__main__":

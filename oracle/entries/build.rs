@@ -1,17 +1,18 @@
-//! Links the static library of the crate `text`, which `rt staticlib text` writes.
+//! Links the static library, which `rt staticlib puvainy` writes.
 
 use std::path::PathBuf;
 
 fn main() {
     let package = PathBuf::from(std::env::var("CARGO_MANIFEST_DIR").expect("cargo sets it"));
-    let folder = package.join("../../target/staticlib");
-    let library = folder.join("libtext.a");
+    let repository = package.join("../..").canonicalize().expect("it exists");
+    let folder = repository.join("target/staticlib");
+    let library = folder.join("libpuvainy.a");
     println!("cargo::rerun-if-changed={}", library.display());
-    assert!(
-        library.exists(),
-        "\n\nNo {}: run `rt staticlib text` first.\n\n",
-        library.display()
-    );
+    if !library.exists() {
+        let library = library.display();
+        println!("cargo::error=no {library}: run `rt staticlib puvainy` first");
+        return;
+    }
     println!("cargo::rustc-link-search=native={}", folder.display());
-    println!("cargo::rustc-link-lib=static=text");
+    println!("cargo::rustc-link-lib=static=puvainy");
 }

@@ -29,47 +29,56 @@ fn main() {
     println!("cargo::rerun-if-env-changed={VARIABLE}");
     println!("cargo::rerun-if-changed=build.rs");
     println!("cargo::rerun-if-changed=stand_in.rs");
-    let sources = sources();
+    if let Err(why) = build() {
+        println!("cargo::error={why}");
+    }
+}
+
+/// Writes both files, or says in one line why it cannot.
+fn build() -> Result<(), String> {
+    let sources = sources()?;
     let out = PathBuf::from(env::var("OUT_DIR").expect("cargo sets OUT_DIR"));
 
     let bridge = out.join("kernel_bridge.rs");
-    write(&bridge, &without_kernel(&read(&sources, "kernel_bridge")));
+    write(&bridge, &without_kernel(&read(&sources, "kernel_bridge")?)?)?;
 
     let mut root = String::new();
     for name in UNCHANGED {
-        read(&sources, name);
+        read(&sources, name)?;
         root += &module(name, &sources.join(format!("{name}.rs")));
     }
     root += "#[allow(unused_imports)]\n";
     root += &module("kernel_bridge", &bridge);
-    write(&out.join("upstream.rs"), &root);
+    write(&out.join("upstream.rs"), &root)
 }
 
 /// The folder of the six files. A relative name is taken from the repository's root.
-fn sources() -> PathBuf {
+fn sources() -> Result<PathBuf, String> {
     let named = env::var(VARIABLE).unwrap_or_else(|_| DEFAULT.to_owned());
     let package = PathBuf::from(env::var("CARGO_MANIFEST_DIR").expect("cargo sets it"));
-    let repository = package.join("../..");
+    let repository = package.join("../..").canonicalize().expect("it exists");
     let folder = repository.join(&named).join("theorem-finder/src");
-    folder.canonicalize().unwrap_or_else(|error| {
-        panic!(
-            "\n\nNo Rust sources at {}: {error}.\n\
-             Set {VARIABLE} to the folder that holds theorem-finder/src.\n\n",
+    folder.canonicalize().map_err(|error| {
+        format!(
+            "no Rust sources at {} ({error}): set {VARIABLE} to the folder that holds theorem-finder/src",
             folder.display()
         )
     })
 }
 
-fn read(sources: &Path, name: &str) -> String {
+fn read(sources: &Path, name: &str) -> Result<String, String> {
     let file = sources.join(format!("{name}.rs"));
     println!("cargo::rerun-if-changed={}", file.display());
-    fs::read_to_string(&file)
-        .unwrap_or_else(|error| panic!("\n\nCannot read {}: {error}.\n\n", file.display()))
+    fs::read_to_string(&file).map_err(|error| {
+        format!(
+            "cannot read {} ({error}): {VARIABLE} names another folder",
+            file.display()
+        )
+    })
 }
 
-fn write(file: &Path, text: &str) {
-    fs::write(file, text)
-        .unwrap_or_else(|error| panic!("cannot write {}: {error}", file.display()));
+fn write(file: &Path, text: &str) -> Result<(), String> {
+    fs::write(file, text).map_err(|error| format!("cannot write {}: {error}", file.display()))
 }
 
 fn module(name: &str, file: &Path) -> String {
@@ -77,26 +86,25 @@ fn module(name: &str, file: &Path) -> String {
 }
 
 /// The bridge's text before the kernel part, its rendering part, and the stand-in.
-fn without_kernel(bridge: &str) -> String {
-    let kernel = place(bridge, KERNEL);
-    let rendering = place(bridge, RENDERING);
-    let check = place(bridge, CHECK);
-    assert!(
-        kernel < rendering && rendering < check,
-        "\n\nkernel_bridge.rs has its parts in another order than expected.\n\n"
-    );
+fn without_kernel(bridge: &str) -> Result<String, String> {
+    let kernel = place(bridge, KERNEL)?;
+    let rendering = place(bridge, RENDERING)?;
+    let check = place(bridge, CHECK)?;
+    if kernel > rendering || rendering > check {
+        return Err("kernel_bridge.rs has its parts in another order than expected".to_owned());
+    }
     let (before, rendered) = (&bridge[..kernel], &bridge[rendering..check]);
-    format!("{before}{rendered}{STAND_IN}")
+    Ok(format!("{before}{rendered}{STAND_IN}"))
 }
 
 /// Where the mark stands, which must be once.
-fn place(text: &str, mark: &str) -> usize {
+fn place(text: &str, mark: &str) -> Result<usize, String> {
     let found: Vec<usize> = text.match_indices(mark).map(|(at, _)| at).collect();
     match found[..] {
-        [at] => at,
-        _ => panic!(
-            "\n\nkernel_bridge.rs holds the mark {mark:?} {} times, not once.\n\n",
+        [at] => Ok(at),
+        _ => Err(format!(
+            "kernel_bridge.rs holds the mark {mark:?} {} times, not once",
             found.len()
-        ),
+        )),
     }
 }

@@ -3,6 +3,7 @@ ghost use mathlib.Core.Path.{_≡_};
 ghost use lib.ListN.{length};
 ghost use Rattle.text.specs.Entry.{program};
 ghost use Rattle.find.specs.Prints.{Prints};
+use libc::STDERR_FILENO;
 use libc::STDIN_FILENO;
 use libc::STDOUT_FILENO;
 use text::entry;
@@ -29,5 +30,8 @@ fn main() {
     let mut output = [0u8; 32768];
     let mut workspace = [0u32; 16000];
     let length = respond(&input[..n], &mut output, &mut workspace);
-    io::write_all(STDOUT_FILENO, &output[..length]);
+    if io::write_all(STDOUT_FILENO, &output[..length]) {
+        return;
+    }
+    io::write_all(STDERR_FILENO, b"find: the answer could not be written\n");
 }

@@ -38,6 +38,15 @@ write-all-requires c κs = search needs
 returns : tie.Need-returns
 returns c = search needs
 
+slice-aggregate-write-all-2 : tie.Need-slice-aggregate-write-all-2
+slice-aggregate-write-all-2 c = search needs
+
+write-all-requires-2 : tie.Need-write-all-requires-2
+write-all-requires-2 c κs = search needs
+
+returns-2 : tie.Need-returns-2
+returns-2 c = search needs
+
 pub main-spec : {M : Type 1} → statement M
 main-spec =
     tie.close
@@ -52,4 +61,7 @@ main-spec =
     array-share-prefix-output
     slice-aggregate-write-all
     write-all-requires
-    returns)
+    returns
+    slice-aggregate-write-all-2
+    write-all-requires-2
+    returns-2)
