@@ -144,10 +144,10 @@ pub fn note(ws: &mut [u32], count: usize, s: &[u32], step: Step, distance: u32)
 
 // How far a search goes: lines in a path, size and depth of a result, terms that are opened.
 pub struct Limits {
-    pub steps: usize,
-    pub size: usize,
-    pub depth: usize,
-    pub nodes: usize,
+    pub steps: u32,
+    pub size: u32,
+    pub depth: u32,
+    pub nodes: u32,
 }
 
 // The results of the term noted in slot `i` that are not among the first `noted`.
@@ -164,7 +164,9 @@ fn open_slot(
 {
     let k = i as u32;
     let s = path::run_of(ws, k);
-    results::results_of(ws, noted, s, k, limits.size, limits.depth, res, order)
+    let size = limits.size as usize;
+    let depth = limits.depth as usize;
+    results::results_of(ws, noted, s, k, size, depth, res, order)
 }
 
 // What became of a result: it is noted now and may be right, or no slot is left for it.
@@ -224,18 +226,18 @@ fn explore(
     res: &mut [u32],
     order: &mut [u32],
 ) -> Outcome
-    requires { ⌜ (0 < slots) × (slots ≤ 65535) × (SLOT * slots ≤ length (now ws)) × (SLOT * length (now order) ≤ length (now res)) × (length (now order) ≤ 620) × (limits .steps ≤ 4294967295) ⌝ }
+    requires { ⌜ (0 < slots) × (slots ≤ 65535) × (SLOT * slots ≤ length (now ws)) × (SLOT * length (now order) ≤ length (now res)) × (length (now order) ≤ 620) ⌝ }
     ensures { λ r. ⌜ Explores (now (right .entry)) limits slots (most-nodes (now (order .entry))) (now (ws .entry)) (now (ws .exit)) r ⌝ }
 {
     let mut outcome = Outcome::Unproved(0);
     let mut noted = 1;
     let mut i = 0;
     'outer: while i < noted {
-        if limits.nodes <= i {
+        if limits.nodes as usize <= i {
             break;
         }
         let distance = ws[SLOT * i + 39];
-        if limits.steps <= distance as usize {
+        if limits.steps <= distance {
             break;
         }
         let count = open_slot(ws, noted, i, limits, res, order);
@@ -264,7 +266,7 @@ fn explore(
 // Explores among terms of at most 7 nodes. Each has at most 140 results, of 40 numbers: one for each place, each law and each direction.
 // The buffers are filled with zeros first, and to fill larger ones takes as long as a short search.
 fn explore_small(right: &[u32], limits: Limits, ws: &mut [u32], slots: usize) -> Outcome
-    requires { ⌜ (0 < slots) × (slots ≤ 65535) × (SLOT * slots ≤ length (now ws)) × (limits .steps ≤ 4294967295) ⌝ }
+    requires { ⌜ (0 < slots) × (slots ≤ 65535) × (SLOT * slots ≤ length (now ws)) ⌝ }
     ensures { λ r. ⌜ Explores (now (right .entry)) limits slots 7 (now (ws .entry)) (now (ws .exit)) r ⌝ }
 {
     let mut res = [0u32; 5600];
@@ -274,7 +276,7 @@ fn explore_small(right: &[u32], limits: Limits, ws: &mut [u32], slots: usize) ->
 
 // Explores among terms of at most 31 nodes. Each has at most 620 results.
 fn explore_large(right: &[u32], limits: Limits, ws: &mut [u32], slots: usize) -> Outcome
-    requires { ⌜ (0 < slots) × (slots ≤ 65535) × (SLOT * slots ≤ length (now ws)) × (limits .steps ≤ 4294967295) ⌝ }
+    requires { ⌜ (0 < slots) × (slots ≤ 65535) × (SLOT * slots ≤ length (now ws)) ⌝ }
     ensures { λ r. ⌜ Explores (now (right .entry)) limits slots 31 (now (ws .entry)) (now (ws .exit)) r ⌝ }
 {
     let mut res = [0u32; 24800];
@@ -290,7 +292,6 @@ pub fn search_bounded_rewrite(
     limits: Limits,
     ws: &mut [u32],
 ) -> Outcome
-    requires { ⌜ limits .steps ≤ 4294967295 ⌝ }
     ensures { λ r. ⌜ Searches (now (left .entry)) (now (right .entry)) limits (now (ws .entry)) (now (ws .exit)) r ⌝ }
 {
     let direct = search::search_direct_axiom(left, right);

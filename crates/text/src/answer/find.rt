@@ -149,10 +149,7 @@ pub fn answer_find(
 ) -> usize
     ensures { λ r. ⌜ ((bs : List ℕ) (j : Job) → read-job bs ≡ accepted j → IsRun (now (left .entry)) (j .left) → IsRun (now (right .entry)) (j .right) → limits-of limits ≡ j .limits → Call (find bs (slots-of (length (now (ws .entry)))) (length (now (out .entry)))) (now (out .entry)) r (now (out .exit))) ⌝ }
 {
-    let nodes = limits.nodes;
-    if 16 < limits.steps {
-        return 5;
-    }
+    let nodes = limits.nodes as usize;
     let outcome = bounded_search::search_bounded_rewrite(left, right, limits, ws);
     match outcome {
         Outcome::Direct(law) => answer_direct(left, right, law, out),

@@ -56,6 +56,9 @@ module _ (c : tie.At-loop Inv-loop μ-loop Inv-outer μ-outer) where
 outer-holds : tie.Need-outer-holds Inv-loop μ-loop Inv-outer μ-outer
 outer-holds c = search (starts, needs)
 
+cast-if1 : tie.Need-cast-if1 Inv-loop μ-loop Inv-outer μ-outer
+cast-if1 c = search needs
+
 mul-distance : tie.Need-mul-distance Inv-loop μ-loop Inv-outer μ-outer
 mul-distance c = search needs
 
@@ -67,9 +70,6 @@ mul-distance-2 c = search needs
 
 slice-read-distance : tie.Need-slice-read-distance Inv-loop μ-loop Inv-outer μ-outer
 slice-read-distance c = search needs
-
-cast-if2 : tie.Need-cast-if2 Inv-loop μ-loop Inv-outer μ-outer
-cast-if2 c = omega (arith, c .slice-known4 .given (40 * c .before .before .before .before .outer .i + 39))
 
 open-slot-requires : tie.Need-open-slot-requires Inv-loop μ-loop Inv-outer μ-outer
 open-slot-requires c κs = search needs
@@ -224,11 +224,11 @@ explore-spec =
     Inv-outer
     μ-outer
     outer-holds
+    cast-if1
     mul-distance
     add-distance
     mul-distance-2
     slice-read-distance
-    cast-if2
     open-slot-requires
     loop-holds
     mul-k
