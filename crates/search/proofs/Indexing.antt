@@ -17,11 +17,11 @@ use Rattle.search.specs.Line.{Line}
 use Rattle.search.specs.Search.{Noted, entry}
 use Rattle.search.specs.Index.{SLOT, slots-of, hash, bucket, head-of, next-of, hash-of, Newest}
 use Rattle.search.specs.Slots.{Spells, origin-of, Marks, noted-at, Comes, Slot, home, Slots, Enters, Starts, Notes}
-use Rattle.search.specs.declared.bounded_search.Step.{Step}
-use Rattle.search.specs.declared.bounded_search.Origin.{Origin}
-use Rattle.search.specs.declared.bounded_search.Origin.the-variants.{Start, From}
+use Rattle.search.specs.declared.slots.Step.{Step}
+use Rattle.search.specs.declared.slots.Origin.{Origin}
+use Rattle.search.specs.declared.slots.Origin.the-variants.{Start, From}
 use Rattle.search.proofs.Hashing.{hash-small, bucket-small}
-use Rattle.search.proofs.Slots.{noted-before, noted-last, slot-more}
+use Rattle.search.proofs.Writing.{noted-before, noted-last, slot-more}
 
 equal? : (a b : ℕ) → (a ≡ b) ⊎ (a ≡ b → ⊥)
 equal? a b = go (below? a b) (below? b a)
@@ -198,7 +198,7 @@ module _ {ws ws′ : List ℕ} (ns : List Noted) (n : Noted) {xs : List ℕ} {o 
       slots : (k : ℕ) → k < length more → Slot (E .written) more k (noted-at more k)
       slots =
           slot-more ns n ws (E .written) (E .writes .kept) (S .slot)
-          (record { run = E .writes .run (n .term) r; origin = rw (E .writes .origin) c; distance = E .writes .distance ∙ e })
+          (record { run = E .writes .run (n .term) r; origin = rw (E .writes .origin) c; distance = E .writes .value ∙ e })
 
 pub starts : {ws ws′ xs : List ℕ} → Enters ws ws′ 0 xs Start 0 → Starts ws′ xs
 starts {ws} E = record { slots = λ t h. entered [] (record { term = t; trail = [] }) E none h (refl, refl) refl }

@@ -16,11 +16,11 @@ use Rattle.search.specs.Line.{Line, by-result}
 use Rattle.search.specs.Search.{Noted, is-noted}
 use Rattle.search.specs.Slots.{SLOT, Slots, Finds, Writes}
 use Rattle.search.specs.Ordered.{Result, Named, none, more, inserted, unknown, joined, Spotted, Keeps}
-use Rattle.search.specs.declared.bounded_search.Step.{Step}
-use Rattle.search.specs.declared.bounded_search.Origin.the-variants.{From}
+use Rattle.search.specs.declared.slots.Step.{Step}
+use Rattle.search.specs.declared.slots.Origin.the-variants.{From}
 use Rattle.search.specs.declared.results.Spot.{Spot}
 use Rattle.search.specs.declared.results.Spot.the-variants.{At, Already}
-use Rattle.search.proofs.Slots.{run-kept, origin-kept}
+use Rattle.search.proofs.Writing.{run-kept, origin-kept}
 use Rattle.search.proofs.Rising.{rising-inserted}
 use Rattle.search.proofs.Unknown.{unknown-in, unknown-out}
 

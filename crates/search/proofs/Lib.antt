@@ -15,7 +15,7 @@ pub mod Trying
 pub mod Firsts
 pub mod Directing
 pub mod Origins
-pub mod Slots
+pub mod Writing
 pub mod Indexing
 pub mod Hashing
 pub mod Noting

@@ -15,9 +15,9 @@ use Rattle.search.specs.Ordered.{Result}
 use Rattle.search.specs.Traced.{Originates, Shows}
 use Rattle.search.specs.Resulted.{Resulted}
 use Rattle.search.specs.Searched.{limits-of, Opens, Takes}
-use Rattle.search.specs.declared.bounded_search.Step.{Step}
-use Rattle.search.specs.declared.bounded_search.Origin.{Origin}
-use Rattle.search.specs.declared.bounded_search.Origin.the-variants.{Start, From}
+use Rattle.search.specs.declared.slots.Step.{Step}
+use Rattle.search.specs.declared.slots.Origin.{Origin}
+use Rattle.search.specs.declared.slots.Origin.the-variants.{Start, From}
 use Rattle.search.specs.declared.bounded_search.Limits.{Limits}
 use Rattle.search.specs.declared.bounded_search.Taken.the-variants.{Right, Full}
 use Rattle.search.specs.declared.bounded_search.Taken.the-variants as taken

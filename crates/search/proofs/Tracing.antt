@@ -8,12 +8,12 @@ use lib.Seq.{slice, slice-empty, slice-cons, append-snoc, getD-set-same, drop-se
 use Rattle.terms.proofs.Held.{holds-within}
 use Rattle.search.specs.Line.{Line}
 use Rattle.search.specs.Search.{Noted}
-use Rattle.search.specs.Slots.{SLOT, Spells, origin-of, distance-of, noted-at, Leads, Slots}
+use Rattle.search.specs.Slots.{SLOT, Spells, origin-of, value-of, noted-at, Leads, Slots}
 use Rattle.search.specs.Traced.{Linked, Traced, none, more, Originates, Shows, Traces}
-use Rattle.search.specs.declared.bounded_search.Step.{Step}
-use Rattle.search.specs.declared.bounded_search.Origin.{Origin}
-use Rattle.search.specs.declared.bounded_search.Origin.the-variants.{Start, From}
-use Rattle.search.proofs.Slots.{run-in, run-spelled}
+use Rattle.search.specs.declared.slots.Step.{Step}
+use Rattle.search.specs.declared.slots.Origin.{Origin}
+use Rattle.search.specs.declared.slots.Origin.the-variants.{Start, From}
+use Rattle.search.proofs.Writing.{run-in, run-spelled}
 
 -- no slot that has a run is cut short
 
@@ -80,7 +80,7 @@ pub record Reaches (ws : List ℕ) (ns : List Noted) (last k at : ℕ) (ks : Lis
 abbrev pub Tracing : List ℕ → ℕ → ℕ → ℕ → List ℕ → Type 0
 Tracing ws last k at ks = (ns : List Noted) → Slots ws ns → last < length ns → Reaches ws ns last k at ks
 
-pub tracing-starts : (ws : List ℕ) (last count : ℕ) (path : List ℕ) → count ≡ distance-of ws last → Tracing ws last last count (slice count count path)
+pub tracing-starts : (ws : List ℕ) (last count : ℕ) (path : List ℕ) → count ≡ value-of ws last → Tracing ws last last count (slice count count path)
 tracing-starts ws last count path e ns S h =
     record {
       within = h;
@@ -90,7 +90,7 @@ tracing-starts ws last count path e ns S h =
       traced = rw (slice-empty count path) none;
     }
 
-pub path-too-long : (ws : List ℕ) (last count : ℕ) (path : List ℕ) → count ≡ distance-of ws last → length path < count → Traces ws last path 0
+pub path-too-long : (ws : List ℕ) (last count : ℕ) (path : List ℕ) → count ≡ value-of ws last → length path < count → Traces ws last path 0
 path-too-long ws last count path e h =
     record { within = omega arith; exact = λ ns S q p. absurd (omega (arith, e, S .slot last q .distance)) }
 
@@ -127,7 +127,7 @@ module _ (ws : List ℕ) (last k at : ℕ) (o : Origin) (O : Originates ws k o) 
         traced = rw (slice-put path (at - 1) count k (omega arith) j, m) (more (linked S k (t .within) s f) (t .traced));
       }
 
-pub tracing-ends : (ws : List ℕ) (last k at count : ℕ) (path : List ℕ) → count ≡ distance-of ws last → count ≤ length path → at ≤ 0
+pub tracing-ends : (ws : List ℕ) (last k at count : ℕ) (path : List ℕ) → count ≡ value-of ws last → count ≤ length path → at ≤ 0
     → Tracing ws last k at (slice at count path) → Traces ws last path count
 tracing-ends ws last k at count path e h z T =
     record { within = h; exact = λ ns S q p. (e ∙ S .slot last q .distance, ends ns S q (T ns S q)) }

@@ -15,9 +15,9 @@ use Rattle.search.specs.Place.{place-at}
 use Rattle.search.specs.Origins.{origin-at}
 use Rattle.search.specs.Index.{slots-of, hash, bucket, head-of, next-of, hash-of, Newest}
 pub use Rattle.search.specs.Index.{SLOT}
-use Rattle.search.specs.declared.bounded_search.Step.{Step}
-use Rattle.search.specs.declared.bounded_search.Origin.{Origin}
-use Rattle.search.specs.declared.bounded_search.Origin.the-variants.{Start, From}
+use Rattle.search.specs.declared.slots.Step.{Step}
+use Rattle.search.specs.declared.slots.Origin.{Origin}
+use Rattle.search.specs.declared.slots.Origin.the-variants.{Start, From}
 
 -- slot k has the run of t
 pub record Spells (ws : List ℕ) (k : ℕ) (t : Term) : Type 0 where
@@ -28,8 +28,8 @@ pub record Spells (ws : List ℕ) (k : ℕ) (t : Term) : Type 0 where
 abbrev pub origin-of : List ℕ → ℕ → Origin
 origin-of ws k = origin-at ws (SLOT * k + 1)
 
-abbrev pub distance-of : List ℕ → ℕ → ℕ
-distance-of ws k = getD ws (SLOT * k + 39) 0
+abbrev pub value-of : List ℕ → ℕ → ℕ
+value-of ws k = getD ws (SLOT * k + 39) 0
 
 -- the step stands for the line x on the term t
 pub record Marks (s : Step) (t : Term) (x : Line) : Type 0 where
@@ -58,7 +58,7 @@ Comes (From s) ns k n = Leads s ns k n
 pub record Slot (ws : List ℕ) (ns : List Noted) (k : ℕ) (n : Noted) : Type 0 where
   pub run : Spells ws k (n .term)
   pub origin : Comes (origin-of ws k) ns k n
-  pub distance : distance-of ws k ≡ length (n .trail)
+  pub distance : value-of ws k ≡ length (n .trail)
 
 -- the bucket of the term noted in slot k
 abbrev pub home : List ℕ → List Noted → ℕ → ℕ
@@ -97,7 +97,7 @@ pub record Writes (before after : List ℕ) (k : ℕ) (xs : List ℕ) (o : Origi
   pub index : (j i : ℕ) → 6 ≤ i → i ≤ 7 → getD after (SLOT * j + i) 0 ≡ getD before (SLOT * j + i) 0
   pub run : (t : Term) → IsRun xs t → Spells after k t
   pub origin : origin-of after k ≡ o
-  pub distance : distance-of after k ≡ d
+  pub value : value-of after k ≡ d
 
 -- of `note_slot`: slot k is written, with the hash of its run, leads to the newest older one in its bucket, and is the head now
 pub record Enters (before after : List ℕ) (k : ℕ) (xs : List ℕ) (o : Origin) (d : ℕ) : Type 0 where

@@ -10,7 +10,7 @@ use Rattle.search.specs.Search.{Noted, entry}
 use Rattle.search.specs.Place.{place-at}
 use Rattle.search.specs.Slots.{Spells, origin-of, noted-at, Slots}
 use Rattle.search.specs.Ordered.{Result}
-use Rattle.search.specs.declared.bounded_search.Origin.{Origin}
+use Rattle.search.specs.declared.slots.Origin.{Origin}
 use Rattle.search.specs.declared.path.Turn.{Turn}
 use Rattle.search.specs.declared.path.Turn.the-variants.{Here, Left, Right}
 

@@ -18,9 +18,9 @@ use Rattle.search.specs.Place.{place-at}
 use Rattle.search.specs.Coded.{name-of, direction-of}
 use Rattle.search.specs.Slots.{Spells, noted-at, Slots}
 use Rattle.search.specs.Traced.{Linked, Traced, none, more, Originates, Shows}
-use Rattle.search.specs.declared.bounded_search.Step.{Step}
-use Rattle.search.specs.declared.bounded_search.Origin.{Origin}
-use Rattle.search.specs.declared.bounded_search.Origin.the-variants.{From}
+use Rattle.search.specs.declared.slots.Step.{Step}
+use Rattle.search.specs.declared.slots.Origin.{Origin}
+use Rattle.search.specs.declared.slots.Origin.the-variants.{From}
 use Rattle.search.proofs.Sorting.{line-at}
 use Rattle.search.proofs.Traced.{traced-at}
 use Rattle.text.specs.Bytes.{ascii}

@@ -19,9 +19,9 @@ use Rattle.search.specs.Coded.{name-of, law-number, numbered-law, law-at}
 use Rattle.search.specs.Slots.{Marks, noted-at, Slots}
 use Rattle.search.specs.Traced.{Linked, Traced, none, more, Originates, Shows}
 use Rattle.search.specs.declared.search.Law.{Law}
-use Rattle.search.specs.declared.bounded_search.Step.{Step}
-use Rattle.search.specs.declared.bounded_search.Origin.{Origin}
-use Rattle.search.specs.declared.bounded_search.Origin.the-variants.{Start, From}
+use Rattle.search.specs.declared.slots.Step.{Step}
+use Rattle.search.specs.declared.slots.Origin.{Origin}
+use Rattle.search.specs.declared.slots.Origin.the-variants.{Start, From}
 use Rattle.search.proofs.Coded.{law-ranked, law-named, law-numbered}
 use Rattle.search.proofs.Sorting.{line-at}
 use Rattle.search.proofs.Traced.{traced-at}

@@ -20,10 +20,11 @@ use crate::answer::outcome;
 use search::bounded_search;
 use search::bounded_search::Limits;
 use search::bounded_search::Outcome;
-use search::bounded_search::Step;
 use search::path::path_of;
 use search::search::Direction;
 use search::search::Law;
+use search::slots;
+use search::slots::Step;
 use terms::term;
 use terms::term::Listed;
 use words::normal_form::front;
@@ -107,14 +108,14 @@ fn answer_direct(left: &[u32], right: &[u32], law: Law, out: &mut [u8]) -> usize
         return 3;
     }
     let mut ws = [0u32; 80];
-    bounded_search::note_start(&mut ws, left);
+    slots::note_start(&mut ws, left);
     let step = Step {
         law,
         direction: Direction::Forward,
         place: 0,
         parent: 0,
     };
-    bounded_search::note(&mut ws, 1, right, step, 1);
+    slots::note(&mut ws, 1, right, step, 1);
     answer_path(left, right, 0, 1, &ws, out)
 }
 

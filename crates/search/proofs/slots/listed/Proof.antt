@@ -3,8 +3,8 @@ use Prim.Native.Nat.{_≤_}
 use native.Mathlib.Omega.{arith}
 use Rattle.search.proofs.Noting.{Going, Leading, Tells, going-starts, leading-starts, leading-next, none-noted, tells, found-nowhere}
 use borrow.Author.Needs.{needs}
-use Rattle.search.proofs.bounded_search.listed.Statement.{statement}
-use Rattle.search.proofs.bounded_search.listed.Tie as tie
+use Rattle.search.proofs.slots.listed.Statement.{statement}
+use Rattle.search.proofs.slots.listed.Tie as tie
 
 abbrev Inv-loop : tie.InvT-loop
 Inv-loop ws count s buckets end₀ h k₀ end k = (end ≤ count) × Going ws count s end × Leading ws count s end k

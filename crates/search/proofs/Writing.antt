@@ -16,9 +16,9 @@ use Rattle.terms.proofs.Held.{held-part, holds-part, front-holds}
 use Rattle.words.proofs.Stores.{take-stored}
 use Rattle.search.specs.Search.{Noted}
 use Rattle.search.specs.Origins.{numbers}
-use Rattle.search.specs.Slots.{SLOT, Spells, origin-of, distance-of, noted-at, Comes, Slot, Writes}
-use Rattle.search.specs.declared.bounded_search.Origin.{Origin}
-use Rattle.search.specs.declared.bounded_search.Origin.the-variants.{Start, From}
+use Rattle.search.specs.Slots.{SLOT, Spells, origin-of, value-of, noted-at, Comes, Slot, Writes}
+use Rattle.search.specs.declared.slots.Origin.{Origin}
+use Rattle.search.specs.declared.slots.Origin.the-variants.{Start, From}
 use Rattle.search.proofs.Front.{front-part}
 use Rattle.search.proofs.Origins.{four, getD-sets, getD-sets-other, take-sets, origin-back, origin-front}
 
@@ -102,8 +102,8 @@ module _ (ws ws₂ ws′ : List ℕ) (k : ℕ) (xs : List ℕ) (o : Origin) (d :
       origin-back ws′ (a + 1) o
       (λ i h. let e : a + 1 + i ≡ a + suc i = omega arith in rw e (number (suc i) (omega arith)))
 
-  new-distance : distance-of ws′ k ≡ d
-  new-distance =
+  new-value : value-of ws′ k ≡ d
+  new-value =
       rw stored
       (getD-sets-other written (a + 8) xs (a + 39) (λ h. omega arith)
       ∙ getD-set-same headed (a + 39) d 0 (omega (arith, length-sets ws a (header (length xs) o))))
@@ -124,7 +124,7 @@ module _ (ws ws₂ ws′ : List ℕ) (k : ℕ) (xs : List ℕ) (o : Origin) (d :
         index = apart;
         run = new-run;
         origin = new-origin;
-        distance = new-distance;
+        value = new-value;
       }
 
 -- the slots before a new one keep what they have
