@@ -16,8 +16,9 @@ pub mod Firsts
 pub mod Directing
 pub mod Origins
 pub mod Writing
-pub mod Indexing
+pub mod Looking
 pub mod Hashing
+pub mod Indexing
 pub mod Noting
 pub mod Rising
 pub mod Unknown

@@ -10,9 +10,9 @@ use Rattle.terms.specs.Promises.{Equals}
 use Rattle.terms.specs.Theory.Held.{size-of}
 use Rattle.search.specs.Line.{Line}
 use Rattle.search.specs.Search.{Noted, entry}
+use Rattle.search.specs.Runs.{Originates, Shows}
 use Rattle.search.specs.Slots.{Marks, noted-at, Slots, Notes}
 use Rattle.search.specs.Ordered.{Result}
-use Rattle.search.specs.Traced.{Originates, Shows}
 use Rattle.search.specs.Resulted.{Resulted}
 use Rattle.search.specs.Searched.{limits-of, Opens, Takes}
 use Rattle.search.specs.declared.slots.Step.{Step}

@@ -1,7 +1,7 @@
 // The bounded search, with the noted terms in slots.
 ghost use Prim.Native.Nat.{_+_, _*_, _≤_, _<_};
 ghost use lib.ListN.{length};
-ghost use Rattle.search.specs.Slots.{SLOT};
+ghost use Rattle.search.specs.Index.{SLOT};
 ghost use Rattle.search.specs.Resulted.{most-nodes};
 ghost use Rattle.search.specs.Searched.{Opens, Takes, Explores, Searches};
 use crate::index;

@@ -5,7 +5,7 @@ ghost use lib.ListN.{length};
 ghost use Rattle.search.specs.Law.{semiring};
 ghost use Rattle.search.specs.Place.{lines-at};
 ghost use Rattle.search.specs.Bound.{BindsLaw};
-ghost use Rattle.search.specs.Slots.{SLOT};
+ghost use Rattle.search.specs.Index.{SLOT};
 ghost use Rattle.search.specs.Ordered.{Spotted, Keeps};
 ghost use Rattle.search.specs.Resulted.{tried-by, TooDeep, Adds, Resulted};
 ghost use Rattle.search.specs.declared.search.Binding.the-variants.{Bound};

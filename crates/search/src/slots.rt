@@ -8,10 +8,10 @@ ghost use mathlib.Core.Path.{_≡_};
 ghost use Prim.Native.Nat.{_+_, _*_, _≤_, _<_};
 ghost use lib.ListN.{length};
 ghost use lib.Seq.{sets};
-ghost use Rattle.search.specs.Index.{slots-of};
+ghost use Rattle.search.specs.Index.{SLOT, slots-of};
 ghost use Rattle.search.specs.Origins.{numbers, origin-at};
-ghost use Rattle.search.specs.Slots.{SLOT, value-of, Heads, Compares, Finds, Writes, Enters, Starts, Notes};
-ghost use Rattle.search.specs.Traced.{Originates, Shows};
+ghost use Rattle.search.specs.Runs.{value-of, Originates, Shows, Heads, Compares, Seeks, Finds, Writes, Enters};
+ghost use Rattle.search.specs.Slots.{Starts, Notes};
 use crate::index;
 use crate::search;
 use crate::search::Direction;
@@ -59,7 +59,7 @@ fn write_origin(ws: &mut [u32], at: usize, o: Origin)
 }
 
 // The origin that four numbers from `at` on stand for.
-pub fn read_origin(ws: &[u32], at: usize) -> Origin
+fn read_origin(ws: &[u32], at: usize) -> Origin
     requires { ⌜ at + 4 ≤ length (now ws) ⌝ }
     ensures { λ r. ⌜ r ≡ origin-at (now (ws .entry)) at ⌝ }
 {
@@ -142,26 +142,43 @@ fn has_run(ws: &[u32], k: u32, s: &[u32], h: u32) -> bool
     false
 }
 
-// Whether a run is among the first `count` noted ones: of those in its bucket, the newest first.
-pub fn listed(ws: &[u32], count: usize, s: &[u32]) -> bool
+// What a look-up answers: the slot, or that there is none.
+pub enum Found {
+    At(u32),
+    Nothing,
+}
+
+// The slot that has a run among the first `count`: of those in its bucket, the newest first.
+pub fn slot_of(ws: &[u32], count: usize, s: &[u32]) -> Found
     requires { ⌜ (SLOT * count ≤ length (now ws)) × (count ≤ 65535) ⌝ }
-    ensures { λ r. ⌜ Finds (now (ws .entry)) count (now (s .entry)) r ⌝ }
+    ensures { λ r. ⌜ Seeks (now (ws .entry)) count (now (s .entry)) r ⌝ }
 {
     let buckets = index::slots_of(ws.len());
     if buckets == 0 {
-        return false;
+        return Found::Nothing;
     }
     let mut end = count as u32;
     let h = index::hash(s);
     let mut k = newest(ws, end, index::bucket_at(h, buckets));
     while k < end {
         if has_run(ws, k, s, h) {
-            return true;
+            return Found::At(k);
         }
         end = k;
         k = ws[SLOT * (k as usize) + 7];
     }
-    false
+    Found::Nothing
+}
+
+// Whether a run is among the first `count`.
+pub fn listed(ws: &[u32], count: usize, s: &[u32]) -> bool
+    requires { ⌜ (SLOT * count ≤ length (now ws)) × (count ≤ 65535) ⌝ }
+    ensures { λ r. ⌜ Finds (now (ws .entry)) count (now (s .entry)) r ⌝ }
+{
+    match slot_of(ws, count, s) {
+        Found::At(_) => true,
+        Found::Nothing => false,
+    }
 }
 
 // Writes a slot, up to the end of its run.
@@ -177,7 +194,7 @@ pub fn write_slot(ws: &mut [u32], k: usize, s: &[u32], o: Origin, value: u32)
 }
 
 // Notes a run in slot `k`: the slot leads to the newest older one in its bucket, and is the head of the bucket from now on.
-fn note_slot(ws: &mut [u32], k: usize, s: &[u32], o: Origin, value: u32)
+pub fn note_slot(ws: &mut [u32], k: usize, s: &[u32], o: Origin, value: u32)
     requires { ⌜ (SLOT * k + SLOT ≤ length (now ws)) × (length (now s) ≤ 31) × (k < 65535) ⌝ }
     ensures { λ _. ⌜ Enters (now (ws .entry)) (now (ws .exit)) k (now (s .entry)) o value ⌝ }
 {

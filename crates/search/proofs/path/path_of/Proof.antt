@@ -3,7 +3,7 @@ use Prim.Native.Nat.{_≤_}
 use mathlib.Core.Path.{_≡_}
 use lib.ListN.{length}
 use lib.Seq.{slice}
-use Rattle.search.specs.Slots.{value-of}
+use Rattle.search.specs.Runs.{value-of}
 use Rattle.search.proofs.Tracing.{Tracing, tracing-starts, path-too-long, tracing-stuck, tracing-back, tracing-ends}
 use borrow.Author.Needs.{needs}
 use Rattle.search.proofs.path.path_of.Statement.{statement}

@@ -1,5 +1,5 @@
 -- `note` meets its contract: a slot written and linked is one more noted term.
-use Rattle.search.proofs.Indexing.{notes}
+use Rattle.search.proofs.Noting.{notes}
 use borrow.Author.Needs.{needs}
 use Rattle.search.proofs.slots.note.Statement.{statement}
 use Rattle.search.proofs.slots.note.Tie as tie

@@ -1,5 +1,5 @@
 -- `note_start` meets its contract: a slot written and linked is the first noted term.
-use Rattle.search.proofs.Indexing.{starts}
+use Rattle.search.proofs.Noting.{starts}
 use borrow.Author.Needs.{needs}
 use Rattle.search.proofs.slots.note_start.Statement.{statement}
 use Rattle.search.proofs.slots.note_start.Tie as tie
