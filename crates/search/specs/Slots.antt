@@ -1,4 +1,4 @@
--- The noted terms of a search with their paths, in the slots of a workspace: the value of a slot is the distance of its term.
+-- FIND's noted terms, with their origins and distances, in the slots of a workspace.
 use Prim.Native.Nat.{ℕ, _+_, _<_}
 use mathlib.Core.Path.{_≡_}
 use mathlib.Core.List.{List, [], _∷_, _++_}

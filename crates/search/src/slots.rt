@@ -1,6 +1,6 @@
 // The slots of a workspace, 40 numbers to each, and all that reads and writes them.
 // Of a slot, number 0 is the length of a run, 1 to 4 are its origin, 5 to 7 are of the index, the run stands from number 8 on, and 39
-// is a value to which the search gives a meaning: a distance. So what a look-up reads stands together.
+// is a value to which the search gives a meaning; FIND's is a distance. So what a look-up reads stands together.
 // By the index a run is looked for among those of one bucket only: number 6 of slot b is the head of bucket b, the newest slot whose run
 // is in it, number 7 of a slot leads to the next older one in its bucket, or to the slot itself, and number 5 is the hash of its run.
 // Nothing is cleared beforehand: a head counts only if it leads to a noted slot of its bucket.

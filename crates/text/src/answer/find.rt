@@ -1,5 +1,5 @@
 // FIND's answer to an accepted job: refusals 7 and 8, or the outcome's text, which is measured first and then written where it fits.
-// Tests that no accepted job meets (lengths above 31, letters past six, steps above 16, no noted term) stand in place of requirements.
+// Tests that no accepted job meets (lengths above 31, letters past six, no noted term) stand in place of requirements.
 ghost use mathlib.Core.Path.{_≡_};
 ghost use mathlib.Core.List.{List, [], _∷_, _++_};
 ghost use Prim.Native.Nat.{ℕ, _≤_};

@@ -1,6 +1,6 @@
 -- `explore` meets its contract. The outer loop's invariant: the search goes on from the `i`-th of `noted` terms. The inner loop's: of the
 -- term that is open, the first `j` results are taken.
-use Prim.Native.Nat.{_≤_, _<_, _+_, _-_, _*_, _/_}
+use Prim.Native.Nat.{_≤_, _<_, _-_, _/_}
 use native.Mathlib.Omega.{arith}
 use mathlib.Core.Path.{_≡_, refl, sym, ap, _∙_}
 use lib.ListN.{length}
