@@ -43,7 +43,7 @@
  *                A memory checker (valgrind, MemorySanitizer) reports reads of a workspace that was
  *                never written. They are harmless: FIND reads the heads of its index before it has
  *                written them, and a head counts only if it leads below the number of noted terms to
- *                one of its own bucket (crates/search/src/index.rt), so no answer depends on what was
+ *                one of its own bucket (crates/search/src/slots.rt), so no answer depends on what was
  *                there. A workspace that is cleared once keeps the checker quiet.
  *
  * Stack: at most 120,000 bytes for puvainy_find, 100,000 for puvainy_words and 190,000 for
