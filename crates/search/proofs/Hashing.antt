@@ -10,9 +10,9 @@ use Rattle.terms.specs.Term.{Term}
 use Rattle.terms.specs.Run.{run}
 use Rattle.terms.specs.Promises.{Equals}
 use Rattle.terms.proofs.Positions.{drop-one}
+use Rattle.terms.specs.Theory.TermOrder.{told-apart}
 use Rattle.search.specs.Index.{slots-of, mix, hash, bucket-at, head-of, hash-of}
 use Rattle.search.specs.Runs.{term-at, home, Runs, Shows, Heads, Compares}
-use Rattle.search.proofs.Looking.{told-apart}
 
 module _ (xs : List ℕ) (i h : ℕ) where
   pub hash-next : i < length xs → hash (drop i xs) h ≡ hash (drop (i + 1) xs) (mix h (getD xs i 0))

@@ -231,3 +231,11 @@ module _ {ws ws′ : List ℕ} (ts : List Term) (t : Term) {xs : List ℕ} {o : 
 
   pub entered : Runs ws′ more
   entered = record { spelled = spells; index = record { head = heads; next = nexts; hashed = hashes } }
+
+-- no slot
+pub no-runs : (ws : List ℕ) → Runs ws []
+no-runs ws =
+    record {
+      spelled = λ k q. absurd (omega arith);
+      index = record { head = λ k q. absurd (omega arith); next = λ k q. absurd (omega arith); hashed = λ k q. absurd (omega arith) };
+    }

@@ -3,21 +3,24 @@ use Prim.Native.Nat.{ℕ, _+_, _<_, _≤_}
 use native.Mathlib.Omega.{arith}
 use native.Mathlib.Nat.{eq-or-lt-of-le, le-of-suc-le-suc}
 use mathlib.Core.Path.{_≡_, refl, sym, ap, subst, _∙_}
-use mathlib.Core.Logic.{_⊎_, inl, inr}
+use mathlib.Core.Logic.{_⊎_, _↔_, inl, inr}
 use mathlib.Core.Bool.{Bool, true, false}
 use mathlib.Core.List.{List, [], _∷_, _++_, map-append}
 use lib.ListN.{length, length-append, length-map, List·getD-append, List·getD-map}
 use lib.Seq.{getD-at}
-use Rattle.terms.specs.Term.{Term, zero, same}
+use Rattle.terms.specs.Lists.{_∈_, in-map, of-map}
+use Rattle.terms.specs.Term.{Term, zero}
 use Rattle.terms.specs.Held.{IsRun}
+use Rattle.terms.specs.Theory.Reflects.{Reflects}
 use Rattle.search.specs.Line.{Line}
 use Rattle.search.specs.Search.{Noted, terms, is-noted, entry}
-use Rattle.search.specs.Runs.{Spells, origin-of, value-of, term-at, Runs, is-in, Finds, Enters}
+use Rattle.search.specs.Runs.{Spells, origin-of, value-of, term-at, Runs, Finds, Enters}
+use Rattle.search.specs.Theory.Grows.{Knows, is-noted-reflects}
 use Rattle.search.specs.Slots.{Marks, noted-at, Comes, Slots, Starts, Notes}
 use Rattle.search.specs.declared.slots.Step.{Step}
 use Rattle.search.specs.declared.slots.Origin.{Origin}
 use Rattle.search.specs.declared.slots.Origin.the-variants.{Start, From}
-use Rattle.search.proofs.Indexing.{origin-new, value-new, origin-still, value-still, entered}
+use Rattle.search.proofs.Indexing.{origin-new, value-new, origin-still, value-still, entered, no-runs}
 
 pub counted : (ns : List Noted) → length (terms ns) ≡ length ns
 counted ns = length-map ns (λ n. n .term)
@@ -28,15 +31,15 @@ noted-term ns k = List·getD-map (λ n. n .term) ns k (record { term = zero; tra
 pub noted-run : {ws : List ℕ} {ns : List Noted} → Slots ws ns → (k : ℕ) → k < length ns → Spells ws k (noted-at ns k .term)
 noted-run {ws} {ns} S k h = subst (Spells ws k) (noted-term ns k) (S .runs .spelled k (omega (arith, counted ns)))
 
--- the test over the terms is that over the noted terms
-pub noted-in : (t : Term) (ns : List Noted) → is-in t (terms ns) ≡ is-noted t ns
-unfolding is-in is-noted
-noted-in t [] = refl
-noted-in t (x ∷ ns) = ap (λ b. elim (same t (x .term)) [ true ↦ true | false ↦ b ]) (noted-in t ns)
-
+-- a test of the terms is one of the noted terms
 pub looked-up : {ws : List ℕ} {count : ℕ} {xs : List ℕ} {b : Bool} → Finds ws count xs b → {ns : List Noted} {t : Term} → Slots ws ns → length ns ≡ count → IsRun xs t
     → is-noted t ns ≡ b
-looked-up F {ns} {t} S c h = sym (F .exact (terms ns) t (S .runs) (counted ns ∙ c) h ∙ noted-in t ns)
+looked-up {b = b} F {ns} {t} S c h = go (is-noted t ns) (is-noted-reflects t ns) b (F .exact (terms ns) t (S .runs) (counted ns ∙ c) h)
+  where
+    go : (a : Bool) → Reflects (Knows ns t) a → (b : Bool) → (b ≡ true) ↔ (t ∈ terms ns) → a ≡ b
+    go true (z, m, e) b (f, g) = sym (g (rw (← e) (in-map (λ n. n .term) m)))
+    go false k true (f, g) = absurd (k (of-map (λ n. n .term) ns (f refl)))
+    go false k false e = refl
 
 module _ (ns : List Noted) (n : Noted) where
   pub noted-before : (k : ℕ) → k < length ns → noted-at (ns ++ (n ∷ [])) k ≡ noted-at ns k
@@ -89,15 +92,7 @@ pub starts : {ws ws′ xs : List ℕ} → Enters ws ws′ 0 xs Start 0 → Start
 starts {ws} E = record { slots = λ t h. noted [] (record { term = t; trail = [] }) E none h (refl, refl) refl }
   where
     none : Slots ws []
-    none =
-        record {
-          runs = record {
-            spelled = λ k q. absurd (omega arith);
-            index = record { head = λ k q. absurd (omega arith); next = λ k q. absurd (omega arith); hashed = λ k q. absurd (omega arith) };
-          };
-          origin = λ k q. absurd (omega arith);
-          distance = λ k q. absurd (omega arith);
-        }
+    none = record { runs = no-runs ws; origin = λ k q. absurd (omega arith); distance = λ k q. absurd (omega arith) }
 
 pub notes : {ws ws′ : List ℕ} {count : ℕ} {xs : List ℕ} {s : Step} {d : ℕ} → Enters ws ws′ count xs (From s) d → Notes ws ws′ count xs s d
 notes {ws} {ws′} {count} {xs} {s} {d} E = record { slots = slots }

@@ -12,7 +12,7 @@ use Rattle.terms.specs.Promises.{Ends}
 use Rattle.terms.proofs.Held.{holds-add, holds-mul}
 use Rattle.search.specs.Line.{l, r}
 use Rattle.search.specs.Place.{place-at}
-use Rattle.search.specs.Traced.{Enters, Turns}
+use Rattle.search.specs.Traced.{OnSide, Turns}
 use Rattle.search.specs.declared.path.Turn.the-variants.{Here, Left, Right}
 
 -- the parts of a term that starts at position i, and its places below the root
@@ -55,13 +55,13 @@ module _ (xs : List ℕ) (from at : ℕ) where
       below : place-at t (at - from) ≡ cond (ltb (at - (from + 1)) (size (p .left))) (l ∷ place-at (p .left) (at - (from + 1))) (r ∷ place-at (p .right) (at - (from + 1) - size (p .left)))
       below = let i : at - from ≡ suc (at - (from + 1)) = omega arith in ap (place-at t) i ∙ p .places (at - (from + 1))
 
-      enters-left : at < e → Enters xs t (at - from) l (from + 1) at
-      enters-left q =
+      on-left : at < e → OnSide xs t (at - from) l (from + 1) at
+      on-left q =
           let i : at - (from + 1) < size (p .left) = omega (arith, middle) in
           record { part = p .left; held = p .held-left; inside = i; place = below ∙ rw (lt-ltb (at - (from + 1)) (size (p .left)) i) }
 
-      enters-right : e ≤ at → at - from < size t → Enters xs t (at - from) r e at
-      enters-right q k =
+      on-right : e ≤ at → at - from < size t → OnSide xs t (at - from) r e at
+      on-right q k =
           let i : size (p .left) ≤ at - (from + 1) = omega (arith, middle) in
           let j : at - (from + 1) - size (p .left) ≡ at - e = omega (arith, middle) in
           record {
@@ -72,7 +72,7 @@ module _ (xs : List ℕ) (from at : ℕ) where
           }
 
     pub turn-left : at < e → Turns xs from at (Left (from + 1))
-    turn-left q = record { nears = (omega arith, omega arith); exact = λ t p k. enters-left (parts t p (omega arith)) q }
+    turn-left q = record { nears = (omega arith, omega arith); exact = λ t p k. on-left (parts t p (omega arith)) q }
 
     pub turn-right : e ≤ at → Turns xs from at (Right e)
-    turn-right q = record { nears = (omega (arith, E .forward), q); exact = λ t p k. enters-right (parts t p (omega arith)) q k }
+    turn-right q = record { nears = (omega (arith, E .forward), q); exact = λ t p k. on-right (parts t p (omega arith)) q k }

@@ -13,11 +13,10 @@ use Rattle.terms.specs.Sort.{lost, insert, insert-all, repeat, before, Below}
 use Rattle.terms.specs.Theory.Order.{irreflexive, cases}
 use Rattle.terms.specs.Theory.Insert.{insert-lt, insert-eq, insert-gt}
 use Rattle.terms.specs.Theory.Sorted.{insert-below}
-use Rattle.terms.specs.Theory.TermOrder.{term-order}
+use Rattle.terms.specs.Theory.TermOrder.{term-order, told-apart}
 use Rattle.search.specs.Line.{Line, by-result}
 use Rattle.search.specs.Search.{Noted, is-noted, entry, Turn, ended, note}
 use Rattle.search.specs.Ordered.{inserted, unknown, joined}
-use Rattle.search.proofs.Looking.{told-apart}
 use Rattle.search.proofs.Rising.{line-at, Rising, below, rising-at, rising-inserted}
 use Rattle.search.proofs.Running.{note-known}
 
@@ -32,10 +31,10 @@ module _ (t : Term) (n : Noted) where
       go true h = refl
       go false h = h
 
-  noted-before : (ns : List Noted) → same t (n .term) ≡ false → is-noted t (ns ++ (n ∷ [])) ≡ is-noted t ns
+  noted-without : (ns : List Noted) → same t (n .term) ≡ false → is-noted t (ns ++ (n ∷ [])) ≡ is-noted t ns
   unfolding is-noted
-  noted-before [] e = rw (e, is-noted)
-  noted-before (x ∷ ns) e = ap (λ b. elim (same t (x .term)) [ true ↦ true | false ↦ b ]) (noted-before ns e)
+  noted-without [] e = rw (e, is-noted)
+  noted-without (x ∷ ns) e = ap (λ b. elim (same t (x .term)) [ true ↦ true | false ↦ b ]) (noted-without ns e)
 
 -- by what a test gives
 pub told : {P : Type 0} (b : Bool) → (b ≡ true → P) → (b ≡ false → P) → P
@@ -156,12 +155,12 @@ fresh-unknown ns (x ∷ xs) =
 -- none of the rest is the j-th, which is noted now
 pub fresh-rest : (ns : List Noted) (trail : List Line) (xs : List Line) (j : ℕ) → Rising xs → Fresh ns xs j → Fresh (ns ++ (entry trail (line-at xs j) ∷ [])) xs (j + 1)
 fresh-rest ns trail xs j s f p h k =
-    noted-before (line-at xs p .result) (entry trail (line-at xs j)) ns
+    noted-without (line-at xs p .result) (entry trail (line-at xs j)) ns
     (told-apart (line-at xs p .result) (line-at xs j .result) (λ e. irreflexive term-order (rising-at xs s j p (omega arith) k) (sym e)))
     ∙ f p (omega arith) k
 
 still-noted : (t : Term) (n : Noted) (ns : List Noted) → is-noted t ns ≡ true → is-noted t (ns ++ (n ∷ [])) ≡ true
-still-noted t n ns e = told (same t (n .term)) (λ q. last-noted t n ns q) (λ q. noted-before t n ns q ∙ e)
+still-noted t n ns e = told (same t (n .term)) (λ q. last-noted t n ns q) (λ q. noted-without t n ns q ∙ e)
 
 module _ (right : Term) (trail : List Line) (ns : List Noted) where
   -- a result that is noted before any is taken is passed over in its turn

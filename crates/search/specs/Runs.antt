@@ -2,8 +2,9 @@
 -- run, 1 to 4 are the term's origin, 5 to 7 are of the index, the run stands from 8 on, and 39 is a value to which the search gives a meaning.
 use Prim.Native.Nat.{ℕ, _+_, _*_, _≤_, _<_}
 use mathlib.Core.Path.{_≡_}
-use mathlib.Core.Bool.{Bool, true, false}
-use mathlib.Core.List.{List, [], _∷_}
+use mathlib.Core.Bool.{Bool, true}
+use mathlib.Core.Logic.{_↔_}
+use mathlib.Core.List.{List}
 use lib.ListN.{length, take, getD, set}
 use Rattle.terms.specs.Lists.{_∈_}
 use Rattle.terms.specs.Term.{Term, zero, size, same}
@@ -47,11 +48,6 @@ pub record Runs (ws : List ℕ) (ts : List Term) : Type 0 where
   pub spelled : (k : ℕ) → k < length ts → Spells ws k (term-at ts k)
   pub index : Indexed ws ts
 
-unfoldable pub is-in : Term → List Term → Bool
-unfolding same
-is-in t [] = false
-is-in t (x ∷ xs) = elim (same t x) [ true ↦ true | false ↦ is-in t xs ]
-
 -- what the functions promise
 
 -- of `origin_of`
@@ -85,9 +81,9 @@ pub record Seeks (ws : List ℕ) (count : ℕ) (xs : List ℕ) (r : Found) : Typ
   pub within : FoundWithin count r
   pub exact : (ts : List Term) (t : Term) → Runs ws ts → length ts ≡ count → IsRun xs t → FoundIn ts t r
 
--- of `listed`
+-- of `listed`: whether a slot is found
 pub record Finds (ws : List ℕ) (count : ℕ) (xs : List ℕ) (r : Bool) : Type 0 where
-  pub exact : (ts : List Term) (t : Term) → Runs ws ts → length ts ≡ count → IsRun xs t → r ≡ is-in t ts
+  pub exact : (ts : List Term) (t : Term) → Runs ws ts → length ts ≡ count → IsRun xs t → (r ≡ true) ↔ (t ∈ ts)
 
 -- of `write_slot`: slot k is written, those before it stay, and so do numbers 6 and 7 of all
 pub record Writes (before after : List ℕ) (k : ℕ) (xs : List ℕ) (o : Origin) (v : ℕ) : Type 0 where

@@ -34,7 +34,7 @@ pub record Traces (ws : List ℕ) (last : ℕ) (path : List ℕ) (n : ℕ) : Typ
       → (n ≡ length (noted-at ns last .trail)) × Traced ws ns 0 (take n path) (noted-at ns last .trail)
 
 -- the place i of the term t is on side d, in the part that starts at position n
-pub record Enters (xs : List ℕ) (t : Term) (i : ℕ) (d : Side) (n at : ℕ) : Type 0 where
+pub record OnSide (xs : List ℕ) (t : Term) (i : ℕ) (d : Side) (n at : ℕ) : Type 0 where
   pub part : Term
   pub held : Holds xs n part
   pub inside : at - n < size part
@@ -42,8 +42,8 @@ pub record Enters (xs : List ℕ) (t : Term) (i : ℕ) (d : Side) (n at : ℕ) :
 
 abbrev pub Turned : List ℕ → ℕ → ℕ → Term → Turn → Type 0
 Turned xs from at t Here = place-at t (at - from) ≡ []
-Turned xs from at t (Left n) = Enters xs t (at - from) l n at
-Turned xs from at t (Right n) = Enters xs t (at - from) r n at
+Turned xs from at t (Left n) = OnSide xs t (at - from) l n at
+Turned xs from at t (Right n) = OnSide xs t (at - from) r n at
 
 -- a part starts after the term, and not after the place
 abbrev pub Nears : ℕ → ℕ → Turn → Type 0
