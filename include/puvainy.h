@@ -40,8 +40,8 @@
  *     workspace  1 to 6 leave it untouched. After any other return its contents are free, and no
  *                later answer depends on them: it need not be cleared.
  *
- *                A memory checker (valgrind, MemorySanitizer) reports reads of a workspace that was
- *                never written. They are harmless: FIND reads the heads of its index before it has
+ *                A memory checker such as valgrind reports reads of a workspace that was never
+ *                written. They are harmless: FIND reads the heads of its index before it has
  *                written them, and a head counts only if it leads below the number of noted terms to
  *                one of its own bucket (crates/search/src/slots.rt), so no answer depends on what was
  *                there. A workspace that is cleared once keeps the checker quiet.

@@ -3,6 +3,8 @@
 
 use std::ffi::{CString, c_char, c_int, c_void};
 use std::hint::black_box;
+use std::os::unix::ffi::OsStrExt;
+use std::path::Path;
 use std::process::exit;
 
 use oracle::{Entry, PROGRAM_ROOM};
@@ -28,9 +30,9 @@ struct Earlier {
 }
 
 impl Earlier {
-    fn load(file: &str) -> Option<Earlier> {
+    fn load(file: &Path) -> Option<Earlier> {
         const NOW: c_int = 2;
-        let name = CString::new(file).ok()?;
+        let name = CString::new(file.as_os_str().as_bytes()).ok()?;
         let library = unsafe { dlopen(name.as_ptr(), NOW) };
         if library.is_null() {
             return None;
@@ -75,7 +77,11 @@ pub fn rows(library: Option<&str>, workspace: &mut Workspace) {
         eprintln!("bench: beside which library? cargo run --release -- beside LIBRARY");
         exit(2);
     };
-    let Some(earlier) = Earlier::load(file) else {
+    let path = std::fs::canonicalize(file).unwrap_or_else(|error| {
+        eprintln!("bench: {file}: {error}");
+        exit(2);
+    });
+    let Some(earlier) = Earlier::load(&path) else {
         eprintln!("bench: {file} is no shared library with the three entries");
         exit(2);
     };

@@ -25,6 +25,11 @@ fn main() {
         Some("noted") => noted::rows(&mut workspace),
         Some("ours") => find::ours_alone(&mut workspace),
         Some("beside") => beside::rows(words.next().as_deref(), &mut workspace),
-        Some(other) => panic!("no part is called {other}"),
+        Some(other) => {
+            eprintln!(
+                "bench: no part is called {other}: find, lists, noted, ours or beside LIBRARY"
+            );
+            std::process::exit(2);
+        }
     }
 }

@@ -71,7 +71,7 @@ fn read(sources: &Path, name: &str) -> Result<String, String> {
     println!("cargo::rerun-if-changed={}", file.display());
     fs::read_to_string(&file).map_err(|error| {
         format!(
-            "cannot read {} ({error}): {VARIABLE} names another folder",
+            "cannot read {} ({error}): set {VARIABLE} to the folder that holds theorem-finder/src",
             file.display()
         )
     })

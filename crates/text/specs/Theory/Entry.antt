@@ -29,7 +29,7 @@ use Rattle.text.specs.Claims.{job-numbers, list-numbers, find-numbers, C
 use Rattle.text.specs.Theory.Answers as answers
 
 -- what finds a number in a list
-ruleset among = (here, there)
+pub ruleset among = (here, there)
 
 -- a refusal has one of these numbers
 abbrev pub Numbered : {A : Type 0} → List ℕ → Answer A → Type 0
