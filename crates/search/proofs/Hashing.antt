@@ -1,4 +1,4 @@
--- The hash of a run, a number at a time, what the head of a bucket says, and what a comparison with a noted run says.
+-- The hash of a run, a number at a time, what the head of a bucket says, and what a comparison with the run in a slot says.
 use Prim.Native.Nat.{ℕ, _+_, _*_, _≤_, _<_}
 use native.Mathlib.Omega.{arith}
 use native.Mathlib.Nat.{mod-lt, mul-lt-mul-of-pos-right}
@@ -6,14 +6,13 @@ use mathlib.Core.Path.{_≡_, sym, ap, _∙_}
 use mathlib.Core.Bool.{Bool, false}
 use mathlib.Core.List.{List, [], _∷_}
 use lib.ListN.{length, drop, getD, drop-of-length-le}
+use Rattle.terms.specs.Term.{Term}
 use Rattle.terms.specs.Run.{run}
 use Rattle.terms.specs.Promises.{Equals}
 use Rattle.terms.proofs.Positions.{drop-one}
-use Rattle.search.specs.Search.{Noted}
 use Rattle.search.specs.Index.{slots-of, mix, hash, bucket-at, head-of, hash-of}
-use Rattle.search.specs.Slots.{noted-at, home, Slots, Heads, Compares}
-use Rattle.search.specs.Traced.{Shows}
-use Rattle.search.proofs.Noting.{told-apart}
+use Rattle.search.specs.Runs.{term-at, home, Runs, Shows, Heads, Compares}
+use Rattle.search.proofs.Looking.{told-apart}
 
 module _ (xs : List ℕ) (i h : ℕ) where
   pub hash-next : i < length xs → hash (drop i xs) h ≡ hash (drop (i + 1) xs) (mix h (getD xs i 0))
@@ -39,49 +38,49 @@ bucket-small {n} {h} p q =
 
 -- what the head of bucket b says
 module _ (ws : List ℕ) (count b : ℕ) where
-  -- no noted term is in the bucket
-  heads-none : ((ns : List Noted) (k : ℕ) → Slots ws ns → length ns ≡ count → k < count → home ws ns k ≡ b → ⊥) → Heads ws count b count
-  heads-none h = record { exact = λ ns S c. record { within = omega arith; own = λ p. absurd (omega arith); last = λ k p e. absurd (h ns k S c p e) } }
+  -- no term is in the bucket
+  heads-none : ((ts : List Term) (k : ℕ) → Runs ws ts → length ts ≡ count → k < count → home ws ts k ≡ b → ⊥) → Heads ws count b count
+  heads-none h = record { exact = λ ts R c. record { within = omega arith; own = λ p. absurd (omega arith); last = λ k p e. absurd (h ts k R c p e) } }
 
-  -- the head leads to no noted slot
+  -- the head leads to no slot of a term
   pub heads-past : count ≤ head-of ws b → Heads ws count b count
   heads-past h =
-      heads-none (λ ns k S c p e.
-      let q : k < length ns = omega arith in
-      let l = (rw e at (S .index .head k q)) .last k q e .1 in
+      heads-none (λ ts k R c p e.
+      let q : k < length ts = omega arith in
+      let l = (rw e at (R .index .head k q)) .last k q e .1 in
       omega arith)
 
   module _ (h : head-of ws b < count) where
-    -- the hash in the slot is that of the noted term
-    home-hashed : (ns : List Noted) → Slots ws ns → length ns ≡ count → home ws ns (head-of ws b) ≡ bucket-at (slots-of (length ws)) (hash-of ws (head-of ws b))
-    home-hashed ns S c = ap (bucket-at (slots-of (length ws))) (sym (S .index .hashed (head-of ws b) (omega arith)))
+    -- the hash in the slot is that of its term
+    home-hashed : (ts : List Term) → Runs ws ts → length ts ≡ count → home ws ts (head-of ws b) ≡ bucket-at (slots-of (length ws)) (hash-of ws (head-of ws b))
+    home-hashed ts R c = ap (bucket-at (slots-of (length ws))) (sym (R .index .hashed (head-of ws b) (omega arith)))
 
     pub heads-foreign : (bucket-at (slots-of (length ws)) (hash-of ws (head-of ws b)) ≡ b → ⊥) → Heads ws count b count
     heads-foreign f =
-        heads-none (λ ns k S c p e.
-        let q : k < length ns = omega arith in
-        let N = rw e at (S .index .head k q) in
-        f (sym (home-hashed ns S c) ∙ N .own (omega arith)))
+        heads-none (λ ts k R c p e.
+        let q : k < length ts = omega arith in
+        let N = rw e at (R .index .head k q) in
+        f (sym (home-hashed ts R c) ∙ N .own (omega arith)))
 
     pub heads-here : bucket-at (slots-of (length ws)) (hash-of ws (head-of ws b)) ≡ b → Heads ws count b (head-of ws b)
     heads-here f =
         record {
-          exact = λ ns S c.
+          exact = λ ts R c.
               record {
                 within = omega arith;
-                own = λ p. home-hashed ns S c ∙ f;
-                last = λ k p e. let q : k < length ns = omega arith in rw c at ((rw e at (S .index .head k q)) .last k q e);
+                own = λ p. home-hashed ts R c ∙ f;
+                last = λ k p e. let q : k < length ts = omega arith in rw c at ((rw e at (R .index .head k q)) .last k q e);
               };
         }
 
 -- a run with hash h against that in slot k
 module _ {ws : List ℕ} {k : ℕ} {xs : List ℕ} {h : ℕ} where
   pub compared : {ys : List ℕ} {b : Bool} → Shows ws k ys → Equals xs ys b → Compares ws k xs h b
-  compared Sh e = record { exact = λ ns t S p r q. e .terms t (noted-at ns k .term) r (Sh .exact (noted-at ns k .term) (S .slot k p .run)) }
+  compared Sh e = record { exact = λ ts t R p r q. e .terms t (term-at ts k) r (Sh .exact (term-at ts k) (R .spelled k p)) }
 
   pub hash-differs : (hash-of ws k ≡ h → ⊥) → Compares ws k xs h false
   hash-differs f =
       record {
-        exact = λ ns t S p r q.
-            sym (told-apart t (noted-at ns k .term) (λ e. f (S .index .hashed k p ∙ rw (← e, ← (r .whole)) (sym q))));
+        exact = λ ts t R p r q.
+            sym (told-apart t (term-at ts k) (λ e. f (R .index .hashed k p ∙ rw (← e, ← (r .whole)) (sym q))));
       }

@@ -24,7 +24,7 @@ use Rattle.search.specs.declared.search.Direction.{Direction}
 use Rattle.search.specs.declared.search.Direction.the-variants.{Back}
 use Rattle.search.specs.declared.search.Binding.{Binding}
 use Rattle.search.specs.declared.search.Binding.the-variants.{Unbound}
-use Rattle.search.specs.declared.bounded_search.Step.{Step}
+use Rattle.search.specs.declared.slots.Step.{Step}
 use Rattle.search.specs.declared.line.Filled.the-variants.{Nothing}
 use Rattle.search.proofs.Unknown.{unknown-joined}
 use Rattle.search.proofs.Trying.{tries-nothing}

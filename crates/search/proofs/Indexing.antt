@@ -5,23 +5,19 @@ use native.Mathlib.Nat.{add-zero, eq-or-lt-of-le, le-of-suc-le-suc}
 use mathlib.Core.Path.{_≡_, refl, sym, ap, _∙_}
 use mathlib.Core.Logic.{_⊎_, inl, inr}
 use mathlib.Core.List.{List, [], _∷_, _++_}
-use lib.ListN.{length, getD, set, length-set, length-append}
-use lib.Seq.{getD-set-same, getD-set-other, take-set-le, drop-set-lt}
-use Rattle.terms.specs.Term.{Term}
+use lib.ListN.{length, getD, set, length-set, length-append, List·getD-append}
+use lib.Seq.{getD-at, getD-set-same, getD-set-other, take-set-le, drop-set-lt}
+use Rattle.terms.specs.Term.{Term, zero}
 use Rattle.terms.specs.Run.{run}
 use Rattle.terms.specs.Held.{IsRun, Holds}
 use Rattle.terms.specs.Theory.Order.{below?}
 use Rattle.terms.proofs.Positions.{front-getD}
 use Rattle.terms.proofs.Held.{front-holds}
-use Rattle.search.specs.Line.{Line}
-use Rattle.search.specs.Search.{Noted, entry}
 use Rattle.search.specs.Index.{SLOT, slots-of, hash, bucket, head-of, next-of, hash-of, Newest}
-use Rattle.search.specs.Slots.{Spells, origin-of, Marks, noted-at, Comes, Slot, home, Slots, Enters, Starts, Notes}
-use Rattle.search.specs.declared.bounded_search.Step.{Step}
-use Rattle.search.specs.declared.bounded_search.Origin.{Origin}
-use Rattle.search.specs.declared.bounded_search.Origin.the-variants.{Start, From}
+use Rattle.search.specs.Runs.{Spells, origin-of, value-of, term-at, home, Runs, Enters}
+use Rattle.search.specs.declared.slots.Origin.{Origin}
 use Rattle.search.proofs.Hashing.{hash-small, bucket-small}
-use Rattle.search.proofs.Slots.{noted-before, noted-last, slot-more}
+use Rattle.search.proofs.Writing.{run-kept, origin-kept, value-kept}
 
 equal? : (a b : ℕ) → (a ≡ b) ⊎ (a ≡ b → ⊥)
 equal? a b = go (below? a b) (below? b a)
@@ -53,13 +49,8 @@ module _ (ws : List ℕ) (j i v : ℕ) (low : 5 ≤ i) (high : i < 8) where
       λ p h. getD-set-other ws (SLOT * j + i) (SLOT * k + 1 + p) v 0 (λ e. omega arith) in
       rw (rw add-zero at (n 0 (omega arith)), n 1 (omega arith), n 2 (omega arith), n 3 (omega arith))
 
-  slot-stored : {ns : List Noted} {k : ℕ} {n : Noted} → Slot ws ns k n → Slot (set ws (SLOT * j + i) v) ns k n
-  slot-stored {ns} {k} {n} s =
-      record {
-        run = run-stored k (n .term) (s .run);
-        origin = rw (origin-stored k) (s .origin);
-        distance = getD-set-other ws (SLOT * j + i) (SLOT * k + 39) v 0 (λ e. omega arith) ∙ s .distance;
-      }
+  value-stored : (k : ℕ) → value-of (set ws (SLOT * j + i) v) k ≡ value-of ws k
+  value-stored k = getD-set-other ws (SLOT * j + i) (SLOT * k + 39) v 0 (λ e. omega arith)
 
 newest-still : {f g : ℕ → ℕ} {b n k : ℕ} → ((j : ℕ) → j < n → f j ≡ g j) → Newest f b n k → Newest g b n k
 newest-still {k = k} e N = record { within = N .within; own = λ h. sym (e k h) ∙ N .own h; last = λ j h q. N .last j h (e j h ∙ q) }
@@ -73,14 +64,15 @@ newest-more {f} {b} {n} {k} N h e =
     go j g (inl q) = absurd (e (sym (ap f q) ∙ g))
     go j g (inr q) = (N .last j q g .0, omega arith)
 
--- one more noted term
-module _ {ws ws′ : List ℕ} (ns : List Noted) (n : Noted) {xs : List ℕ} {o : Origin} {d : ℕ} (E : Enters ws ws′ (length ns) xs o d) (S : Slots ws ns) (r : IsRun xs (n .term)) where
-  abbrev more : List Noted
-  more = ns ++ (n ∷ [])
+module _ (ts : List Term) (t : Term) where
+  term-before : (k : ℕ) → k < length ts → term-at (ts ++ (t ∷ [])) k ≡ term-at ts k
+  term-before k h = List·getD-append ts (t ∷ []) zero k h
 
-  abbrev count : ℕ
-  count = length ns
+  term-last : term-at (ts ++ (t ∷ [])) (length ts) ≡ t
+  term-last = getD-at ts t [] zero (length ts) refl
 
+-- a slot is noted
+module _ {ws ws′ : List ℕ} {count : ℕ} {xs : List ℕ} {o : Origin} {v : ℕ} (E : Enters ws ws′ count xs o v) where
   abbrev b : ℕ
   b = bucket (slots-of (length ws)) xs
 
@@ -89,6 +81,41 @@ module _ {ws ws′ : List ℕ} (ns : List Noted) (n : Noted) {xs : List ℕ} {o 
 
   abbrev linked : List ℕ
   linked = set hashed (SLOT * count + 7) (E .older)
+
+  -- the links leave runs, origins and values as they are written
+
+  run-linked : (k : ℕ) (t : Term) → Spells (E .written) k t → Spells ws′ k t
+  run-linked k t s =
+      rw (E .links)
+      (run-stored linked b 6 count (omega arith) (omega arith) k t
+      (run-stored hashed count 7 (E .older) (omega arith) (omega arith) k t
+      (run-stored (E .written) count 5 (hash xs 0) (omega arith) (omega arith) k t s)))
+
+  origin-linked : (k : ℕ) → origin-of ws′ k ≡ origin-of (E .written) k
+  origin-linked k =
+      rw (E .links)
+      (origin-stored linked b 6 count (omega arith) (omega arith) k
+      ∙ origin-stored hashed count 7 (E .older) (omega arith) (omega arith) k
+      ∙ origin-stored (E .written) count 5 (hash xs 0) (omega arith) (omega arith) k)
+
+  value-linked : (k : ℕ) → value-of ws′ k ≡ value-of (E .written) k
+  value-linked k =
+      rw (E .links)
+      (value-stored linked b 6 count (omega arith) (omega arith) k
+      ∙ value-stored hashed count 7 (E .older) (omega arith) (omega arith) k
+      ∙ value-stored (E .written) count 5 (hash xs 0) (omega arith) (omega arith) k)
+
+  pub origin-new : origin-of ws′ count ≡ o
+  origin-new = origin-linked count ∙ E .writes .origin
+
+  pub value-new : value-of ws′ count ≡ v
+  value-new = value-linked count ∙ E .writes .value
+
+  pub origin-still : (k : ℕ) → k < count → origin-of ws′ k ≡ origin-of ws k
+  origin-still k h = origin-linked k ∙ origin-kept ws (E .written) count (E .writes .kept) k h
+
+  pub value-still : (k : ℕ) → k < count → value-of ws′ k ≡ value-of ws k
+  value-still k h = value-linked k ∙ value-kept ws (E .written) count (E .writes .kept) k h
 
   hashed-long : length hashed ≡ length ws
   hashed-long = length-set (E .written) (SLOT * count + 5) (hash xs 0) ∙ E .writes .size
@@ -103,12 +130,6 @@ module _ {ws ws′ : List ℕ} (ns : List Noted) (n : Noted) {xs : List ℕ} {o 
   inside =
       let h : 0 < slots-of (length ws) = omega (arith, E .room) in
       omega (arith, bucket-small h (hash-small xs 0 (omega arith)))
-
-  home-still : (j : ℕ) → j < count → home ws ns j ≡ home ws′ more j
-  home-still j h = rw (long, noted-before ns n j h)
-
-  home-new : home ws′ more count ≡ b
-  home-new = rw (long, noted-last ns n, ← (r .whole))
 
   head-new : head-of ws′ b ≡ count
   head-new = rw (E .links) (getD-set-same linked (SLOT * b + 6) count 0 (omega (arith, linked-long, inside)))
@@ -150,76 +171,63 @@ module _ {ws ws′ : List ℕ} (ns : List Noted) (n : Noted) {xs : List ℕ} {o 
       hash-stored k ∙ getD-set-other (E .written) (SLOT * count + 5) (SLOT * k + 5) (hash xs 0) 0 (λ e. omega arith)
       ∙ front-getD ws (E .written) (SLOT * count) (SLOT * k + 5) (E .writes .kept) (omega arith)
 
+-- one more term in the slots
+module _ {ws ws′ : List ℕ} (ts : List Term) (t : Term) {xs : List ℕ} {o : Origin} {v : ℕ} (E : Enters ws ws′ (length ts) xs o v) (R : Runs ws ts) (r : IsRun xs t) where
+  abbrev more : List Term
+  more = ts ++ (t ∷ [])
+
+  abbrev count : ℕ
+  count = length ts
+
+  abbrev own : ℕ
+  own = bucket (slots-of (length ws)) xs
+
+  home-still : (j : ℕ) → j < count → home ws ts j ≡ home ws′ more j
+  home-still j h = rw (long E, term-before ts t j h)
+
+  home-new : home ws′ more count ≡ own
+  home-new = rw (long E, term-last ts t, ← (r .whole))
+
   -- a slot is one of the old ones, or the new one
   old-or-new : (k : ℕ) → k < length more → (k ≡ count) ⊎ (k < count)
-  old-or-new k h = eq-or-lt-of-le (le-of-suc-le-suc (omega (arith, h, length-append ns (n ∷ []))))
+  old-or-new k h = eq-or-lt-of-le (le-of-suc-le-suc (omega (arith, h, length-append ts (t ∷ []))))
 
   counted : length more ≡ count + 1
-  counted = length-append ns (n ∷ [])
+  counted = length-append ts (t ∷ [])
 
   heads : (k : ℕ) → k < length more → Newest (home ws′ more) (home ws′ more k) (length more) (head-of ws′ (home ws′ more k))
-  heads k h = go (equal? (home ws′ more k) b) (old-or-new k h)
+  heads k h = go (equal? (home ws′ more k) own) (old-or-new k h)
     where
-      go : (home ws′ more k ≡ b) ⊎ (home ws′ more k ≡ b → ⊥) → (k ≡ count) ⊎ (k < count)
+      go : (home ws′ more k ≡ own) ⊎ (home ws′ more k ≡ own → ⊥) → (k ≡ count) ⊎ (k < count)
           → Newest (home ws′ more) (home ws′ more k) (length more) (head-of ws′ (home ws′ more k))
-      go (inl e) p = rw (e, head-new, counted) (record { within = omega arith; own = λ q. home-new; last = λ j q f. (omega arith, omega arith) })
+      go (inl e) p = rw (e, head-new E, counted) (record { within = omega arith; own = λ q. home-new; last = λ j q f. (omega arith, omega arith) })
       go (inr e) (inl p) = absurd (e (ap (home ws′ more) p ∙ home-new))
       go (inr e) (inr p) =
-          let N = S .index .head k p in
-          rw (head-still (home ws′ more k) e, counted, ← (home-still k p))
+          let N = R .index .head k p in
+          rw (head-still E (home ws′ more k) e, counted, ← (home-still k p))
           (newest-more (newest-still home-still N) (N .last k p refl .1) (λ f. e (sym (home-still k p) ∙ sym f ∙ home-new)))
 
   nexts : (k : ℕ) → k < length more → Newest (home ws′ more) (home ws′ more k) k (next-of ws′ k)
   nexts k h = go (old-or-new k h)
     where
       go : (k ≡ count) ⊎ (k < count) → Newest (home ws′ more) (home ws′ more k) k (next-of ws′ k)
-      go (inl e) = rw (e, next-new, home-new) (newest-still home-still (E .newest .exact ns S refl))
+      go (inl e) = rw (e, next-new E, home-new) (newest-still home-still (E .newest .exact ts R refl))
       go (inr e) =
-          rw (next-still k e, ← (home-still k e)) (newest-still (λ j p. home-still j (omega arith)) (S .index .next k e))
+          rw (next-still E k e, ← (home-still k e)) (newest-still (λ j p. home-still j (omega arith)) (R .index .next k e))
 
-  hashes : (k : ℕ) → k < length more → hash-of ws′ k ≡ hash (run (noted-at more k .term)) 0
+  hashes : (k : ℕ) → k < length more → hash-of ws′ k ≡ hash (run (term-at more k)) 0
   hashes k h = go (old-or-new k h)
     where
-      go : (k ≡ count) ⊎ (k < count) → hash-of ws′ k ≡ hash (run (noted-at more k .term)) 0
-      go (inl e) = rw (e, hash-new, noted-last ns n, ← (r .whole))
-      go (inr e) = rw (hash-still k e, noted-before ns n k e) (S .index .hashed k e)
+      go : (k ≡ count) ⊎ (k < count) → hash-of ws′ k ≡ hash (run (term-at more k)) 0
+      go (inl e) = rw (e, hash-new E, term-last ts t, ← (r .whole))
+      go (inr e) = rw (hash-still E k e, term-before ts t k e) (R .index .hashed k e)
 
-  pub entered : Comes o more count n → d ≡ length (n .trail) → Slots ws′ more
-  entered c e =
-      record {
-        slot = λ k h.
-            rw (E .links)
-            (slot-stored linked b 6 count (omega arith) (omega arith)
-            (slot-stored hashed count 7 (E .older) (omega arith) (omega arith)
-            (slot-stored (E .written) count 5 (hash xs 0) (omega arith) (omega arith) (slots k h))));
-        index = record { head = heads; next = nexts; hashed = hashes };
-      }
+  spells : (k : ℕ) → k < length more → Spells ws′ k (term-at more k)
+  spells k h = run-linked E k (term-at more k) (go (old-or-new k h))
     where
-      slots : (k : ℕ) → k < length more → Slot (E .written) more k (noted-at more k)
-      slots =
-          slot-more ns n ws (E .written) (E .writes .kept) (S .slot)
-          (record { run = E .writes .run (n .term) r; origin = rw (E .writes .origin) c; distance = E .writes .distance ∙ e })
+      go : (k ≡ count) ⊎ (k < count) → Spells (E .written) k (term-at more k)
+      go (inl e) = rw (e, term-last ts t) (E .writes .run t r)
+      go (inr e) = rw (term-before ts t k e) (run-kept ws (E .written) count (E .writes .kept) k (term-at ts k) e (R .spelled k e))
 
-pub starts : {ws ws′ xs : List ℕ} → Enters ws ws′ 0 xs Start 0 → Starts ws′ xs
-starts {ws} E = record { slots = λ t h. entered [] (record { term = t; trail = [] }) E none h (refl, refl) refl }
-  where
-    none : Slots ws []
-    none =
-        record {
-          slot = λ k q. absurd (omega arith);
-          index = record { head = λ k q. absurd (omega arith); next = λ k q. absurd (omega arith); hashed = λ k q. absurd (omega arith) };
-        }
-
-pub notes : {ws ws′ : List ℕ} {count : ℕ} {xs : List ℕ} {s : Step} {d : ℕ} → Enters ws ws′ count xs (From s) d → Notes ws ws′ count xs s d
-notes {ws} {ws′} {count} {xs} {s} {d} E = record { slots = slots }
-  where
-    slots : (ns : List Noted) (x : Line) → Slots ws ns → length ns ≡ count → s .parent < count
-        → Marks s (noted-at ns (s .parent) .term) x → IsRun xs (x .result) → d ≡ length (noted-at ns (s .parent) .trail) + 1
-        → Slots ws′ (ns ++ (entry (noted-at ns (s .parent) .trail) x ∷ []))
-    slots ns x S c p m h e =
-        let n : Noted = entry (noted-at ns (s .parent) .trail) x in
-        let q : s .parent < length ns = omega arith in
-        let E′ : Enters ws ws′ (length ns) xs (From s) d = rw c E in
-        entered ns n E′ S h
-        (record { before = q; line = x; marks = rw (noted-before ns n (s .parent) q) m; is = rw (noted-before ns n (s .parent) q) })
-        (e ∙ sym (length-append (noted-at ns (s .parent) .trail) (x ∷ [])))
+  pub entered : Runs ws′ more
+  entered = record { spelled = spells; index = record { head = heads; next = nexts; hashed = hashes } }

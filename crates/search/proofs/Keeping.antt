@@ -2,7 +2,7 @@
 use Prim.Native.Nat.{ℕ, suc, _+_, _*_, _≤_, _<_}
 use native.Mathlib.Omega.{arith}
 use native.Mathlib.Numerals.{add-one}
-use mathlib.Core.Path.{_≡_, refl, sym, ap, _∙_}
+use mathlib.Core.Path.{_≡_, refl, ap, _∙_}
 use mathlib.Core.Bool.{Bool, true, false}
 use mathlib.Core.List.{List, [], _∷_, _++_}
 use lib.ListN.{length, take, drop, getD}
@@ -13,14 +13,17 @@ use Rattle.terms.specs.Sort.{lost, insert-all}
 use Rattle.terms.specs.Numbers.{put-in}
 use Rattle.terms.proofs.Inserted.{put-in-room}
 use Rattle.search.specs.Line.{Line, by-result}
-use Rattle.search.specs.Search.{Noted, is-noted}
-use Rattle.search.specs.Slots.{SLOT, Slots, Finds, Writes}
+use Rattle.search.specs.Search.{Noted}
+use Rattle.search.specs.Index.{SLOT}
+use Rattle.search.specs.Runs.{Finds, Writes}
+use Rattle.search.specs.Slots.{Slots}
 use Rattle.search.specs.Ordered.{Result, Named, none, more, inserted, unknown, joined, Spotted, Keeps}
-use Rattle.search.specs.declared.bounded_search.Step.{Step}
-use Rattle.search.specs.declared.bounded_search.Origin.the-variants.{From}
+use Rattle.search.specs.declared.slots.Step.{Step}
+use Rattle.search.specs.declared.slots.Origin.the-variants.{From}
 use Rattle.search.specs.declared.results.Spot.{Spot}
 use Rattle.search.specs.declared.results.Spot.the-variants.{At, Already}
-use Rattle.search.proofs.Slots.{run-kept, origin-kept}
+use Rattle.search.proofs.Writing.{run-kept, origin-kept}
+use Rattle.search.proofs.Noting.{looked-up}
 use Rattle.search.proofs.Rising.{rising-inserted}
 use Rattle.search.proofs.Unknown.{unknown-in, unknown-out}
 
@@ -47,18 +50,15 @@ module _ {t : Term} {from : ℕ} {res : List ℕ} {n : ℕ} (res′ : List ℕ) 
   named-kept (more {k} {x = x} b s N) = more {k = k} (omega arith) (result-kept k x b s) (named-kept N)
 
 module _ (ws : List ℕ) (noted : ℕ) (xs : List ℕ) (s : Step) (res order : List ℕ) (count : ℕ) (b : Bool) (F : Finds ws noted xs b) where
-  looked-up : (ns : List Noted) (x : Line) → Slots ws ns → length ns ≡ noted → IsRun xs (x .result) → is-noted (x .result) ns ≡ b
-  looked-up ns x W c h = sym (F .exact ns (x .result) W c h)
-
   pub keeps-known : b ≡ true → Keeps ws noted xs s res order res order count count
   unfolding unknown
   keeps-known e =
-      record { low = omega arith; high = omega arith; sorts = λ ns t ys x W c h m O. rw (unknown-out ns x [] (looked-up ns x W c h ∙ e)) O }
+      record { low = omega arith; high = omega arith; sorts = λ ns t ys x W c h m O. rw (unknown-out ns x [] (looked-up F W c h ∙ e)) O }
 
   module _ (new : b ≡ false) (r : Spot) (S : Spotted res (take count order) xs r) where
     one-more : (ns : List Noted) (ys : List Line) (x : Line) → Slots ws ns → length ns ≡ noted → IsRun xs (x .result) → joined ns ys (x ∷ []) ≡ inserted x ys
     unfolding unknown
-    one-more ns ys x W c h = ap (insert-all lost by-result ys) (unknown-in ns x [] (looked-up ns x W c h ∙ new))
+    one-more ns ys x W c h = ap (insert-all lost by-result ys) (unknown-in ns x [] (looked-up F W c h ∙ new))
 
     pub keeps-already : r ≡ Already → Keeps ws noted xs s res order res order count count
     keeps-already e =

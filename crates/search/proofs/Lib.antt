@@ -15,9 +15,10 @@ pub mod Trying
 pub mod Firsts
 pub mod Directing
 pub mod Origins
-pub mod Slots
-pub mod Indexing
+pub mod Writing
+pub mod Looking
 pub mod Hashing
+pub mod Indexing
 pub mod Noting
 pub mod Rising
 pub mod Unknown

@@ -1,106 +1,114 @@
--- Looking for a term among the noted ones, from the head of its bucket on.
-use Prim.Native.Nat.{ℕ, suc, _+_, _-_, _≤_, _<_}
+-- The noted terms in the slots: what is said of the terms is said of them, and a slot noted is one more of them.
+use Prim.Native.Nat.{ℕ, _+_, _<_, _≤_}
 use native.Mathlib.Omega.{arith}
-use native.Mathlib.Nat.{add-zero, zero-add, add-suc}
-use mathlib.Core.Path.{_≡_, refl, sym, ap, _∙_}
+use native.Mathlib.Nat.{eq-or-lt-of-le, le-of-suc-le-suc}
+use mathlib.Core.Path.{_≡_, refl, sym, ap, subst, _∙_}
+use mathlib.Core.Logic.{_⊎_, inl, inr}
 use mathlib.Core.Bool.{Bool, true, false}
-use mathlib.Core.List.{List, [], _∷_, _++_}
-use lib.ListN.{length, take}
-use lib.Seq.{take-suc, take-all}
+use mathlib.Core.List.{List, [], _∷_, _++_, map-append}
+use lib.ListN.{length, length-append, length-map, List·getD-append, List·getD-map}
+use lib.Seq.{getD-at}
 use Rattle.terms.specs.Term.{Term, zero, same}
 use Rattle.terms.specs.Held.{IsRun}
-use Rattle.terms.specs.Theory.Reflects.{Reflects}
-use Rattle.terms.specs.Theory.TermOrder.{same-reflects}
-use Rattle.search.specs.Search.{Noted, is-noted}
-use Rattle.search.specs.Index.{slots-of, hash, bucket, next-of, Newest}
-use Rattle.search.specs.Slots.{noted-at, home, Slots, Heads, Compares, Finds}
+use Rattle.search.specs.Line.{Line}
+use Rattle.search.specs.Search.{Noted, terms, is-noted, entry}
+use Rattle.search.specs.Runs.{Spells, origin-of, value-of, term-at, Runs, is-in, Finds, Enters}
+use Rattle.search.specs.Slots.{Marks, noted-at, Comes, Slots, Starts, Notes}
+use Rattle.search.specs.declared.slots.Step.{Step}
+use Rattle.search.specs.declared.slots.Origin.{Origin}
+use Rattle.search.specs.declared.slots.Origin.the-variants.{Start, From}
+use Rattle.search.proofs.Indexing.{origin-new, value-new, origin-still, value-still, entered}
 
--- a term noted before, or else as the last one
+pub counted : (ns : List Noted) → length (terms ns) ≡ length ns
+counted ns = length-map ns (λ n. n .term)
 
-module _ (t : Term) (n : Noted) where
-  pub last-noted : (ns : List Noted) → same t (n .term) ≡ true → is-noted t (ns ++ (n ∷ [])) ≡ true
-  unfolding is-noted
-  last-noted [] e = rw (e, is-noted)
-  last-noted (x ∷ ns) e = go (same t (x .term)) (last-noted ns e)
-    where
-      go : (b : Bool) → is-noted t (ns ++ (n ∷ [])) ≡ true → elim b [ true ↦ true | false ↦ is-noted t (ns ++ (n ∷ [])) ] ≡ true
-      go true h = refl
-      go false h = h
+pub noted-term : (ns : List Noted) (k : ℕ) → term-at (terms ns) k ≡ noted-at ns k .term
+noted-term ns k = List·getD-map (λ n. n .term) ns k (record { term = zero; trail = [] })
 
-  pub noted-before : (ns : List Noted) → same t (n .term) ≡ false → is-noted t (ns ++ (n ∷ [])) ≡ is-noted t ns
-  unfolding is-noted
-  noted-before [] e = rw (e, is-noted)
-  noted-before (x ∷ ns) e = ap (λ b. elim (same t (x .term)) [ true ↦ true | false ↦ b ]) (noted-before ns e)
+pub noted-run : {ws : List ℕ} {ns : List Noted} → Slots ws ns → (k : ℕ) → k < length ns → Spells ws k (noted-at ns k .term)
+noted-run {ws} {ns} S k h = subst (Spells ws k) (noted-term ns k) (S .runs .spelled k (omega (arith, counted ns)))
 
-pub told-apart : (s t : Term) → (s ≡ t → ⊥) → same s t ≡ false
-told-apart s t h = go (same s t) (same-reflects s t)
-  where
-    go : (b : Bool) → Reflects (s ≡ t) b → b ≡ false
-    go true e = absurd (h e)
-    go false e = refl
+-- the test over the terms is that over the noted terms
+pub noted-in : (t : Term) (ns : List Noted) → is-in t (terms ns) ≡ is-noted t ns
+unfolding is-in is-noted
+noted-in t [] = refl
+noted-in t (x ∷ ns) = ap (λ b. elim (same t (x .term)) [ true ↦ true | false ↦ b ]) (noted-in t ns)
 
--- d slots from slot m on that have other terms are passed over
-passed : (t : Term) (ns : List Noted) (m d : ℕ) → m + d ≤ length ns → ((j : ℕ) → m ≤ j → j < m + d → t ≡ noted-at ns j .term → ⊥)
-    → is-noted t (take (m + d) ns) ≡ is-noted t (take m ns)
-passed t ns m ℕ.zero h f = rw add-zero
-passed t ns m (suc d) h f =
-    rw (add-suc m d, take-suc ns (m + d) (record { term = zero; trail = [] }) (omega arith))
-    (noted-before t (noted-at ns (m + d)) (take (m + d) ns) (told-apart t (noted-at ns (m + d) .term) (f (m + d) (omega arith) (omega arith)))
-    ∙ passed t ns m d (omega arith) (λ j p q. f j p (omega arith)))
+pub looked-up : {ws : List ℕ} {count : ℕ} {xs : List ℕ} {b : Bool} → Finds ws count xs b → {ns : List Noted} {t : Term} → Slots ws ns → length ns ≡ count → IsRun xs t
+    → is-noted t ns ≡ b
+looked-up F {ns} {t} S c h = sym (F .exact (terms ns) t (S .runs) (counted ns ∙ c) h ∙ noted-in t ns)
 
--- the first `end` slots decide
-abbrev pub Going : List ℕ → ℕ → List ℕ → ℕ → Type 0
-Going ws count xs end = (ns : List Noted) (t : Term) → Slots ws ns → length ns ≡ count → IsRun xs t → is-noted t (take end ns) ≡ is-noted t ns
+module _ (ns : List Noted) (n : Noted) where
+  pub noted-before : (k : ℕ) → k < length ns → noted-at (ns ++ (n ∷ [])) k ≡ noted-at ns k
+  noted-before k h = List·getD-append ns (n ∷ []) (record { term = zero; trail = [] }) k h
 
--- of these, slot k is the newest in the bucket of the run
-abbrev pub Leading : List ℕ → ℕ → List ℕ → ℕ → ℕ → Type 0
-Leading ws count xs end k = (ns : List Noted) → Slots ws ns → length ns ≡ count → Newest (home ws ns) (bucket (slots-of (length ws)) xs) end k
+  pub noted-last : noted-at (ns ++ (n ∷ [])) (length ns) ≡ n
+  noted-last = getD-at ns n [] (record { term = zero; trail = [] }) (length ns) refl
 
--- what a comparison with slot k says
-abbrev pub Tells : List ℕ → ℕ → List ℕ → ℕ → Bool → Type 0
-Tells ws count xs k true = Finds ws count xs true
-Tells ws count xs k false = Going ws count xs k
-
-pub going-starts : (ws : List ℕ) (count : ℕ) (xs : List ℕ) → Going ws count xs count
-going-starts ws count xs ns t S c h = ap (is-noted t) (take-all count ns (omega arith))
-
-pub leading-starts : {ws : List ℕ} {count : ℕ} (xs : List ℕ) {b k : ℕ} → b ≡ bucket (slots-of (length ws)) xs → Heads ws count b k → Leading ws count xs count k
-leading-starts xs e H ns S c = rw e at (H .exact ns S c)
-
--- no term is noted where there is no slot
-pub none-noted : (ws : List ℕ) (count : ℕ) (xs : List ℕ) → count ≡ 0 → Finds ws count xs false
-unfolding is-noted
-none-noted ws count xs e = record { exact = λ ns t S c h. ap (is-noted t) (take-all 0 ns (omega arith)) }
-
-module _ {ws : List ℕ} {count : ℕ} {xs : List ℕ} {end k : ℕ} (G : Going ws count xs end) (L : Leading ws count xs end k) (g : end ≤ count) where
-  -- the slots of other buckets have other terms
-  other : (ns : List Noted) (t : Term) → Slots ws ns → length ns ≡ count → IsRun xs t → (j : ℕ) → j < end → (j ≤ k → k < end → ⊥) → t ≡ noted-at ns j .term → ⊥
-  other ns t S c h j p q e = let (u, v) = L ns S c .last j p (rw (← e, ← (h .whole))) in q u v
-
-  pub found-nowhere : end ≤ k → Finds ws count xs false
-  unfolding is-noted
-  found-nowhere h =
+  comes-still : (o : Origin) (k : ℕ) (x : Noted) → k ≤ length ns → Comes o ns k x → Comes o (ns ++ (n ∷ [])) k x
+  comes-still Start k x h c = c
+  comes-still (From s) k x h c =
+      let p : s .parent < length ns = omega (arith, c .before) in
       record {
-        exact = λ ns t S c r.
-            sym (passed t ns 0 end (omega arith) (λ j p q. other ns t S c r j (omega arith) (λ u v. omega arith)))
-            ∙ ap (λ i. is-noted t (take i ns)) (zero-add end) ∙ G ns t S c r;
+        before = c .before;
+        line = c .line;
+        marks = rw (noted-before (s .parent) p) (c .marks);
+        is = rw (noted-before (s .parent) p) (c .is);
       }
 
-  module _ (h : k < end) where
-    up-to : (ns : List Noted) (t : Term) → Slots ws ns → length ns ≡ count → IsRun xs t → is-noted t (take k ns ++ (noted-at ns k ∷ [])) ≡ is-noted t ns
-    up-to ns t S c r =
-        let e : suc k + (end - suc k) ≡ end = omega arith in
-        ap (is-noted t) (sym (take-suc ns k (record { term = zero; trail = [] }) (omega arith)))
-        ∙ sym (passed t ns (suc k) (end - suc k) (omega arith) (λ j p q. other ns t S c r j (omega arith) (λ u v. omega arith)))
-        ∙ ap (λ i. is-noted t (take i ns)) e ∙ G ns t S c r
+-- one more noted term
+module _ {ws ws′ : List ℕ} (ns : List Noted) (n : Noted) {xs : List ℕ} {o : Origin} {d : ℕ} (E : Enters ws ws′ (length ns) xs o d) (S : Slots ws ns) (r : IsRun xs (n .term)) where
+  abbrev more : List Noted
+  more = ns ++ (n ∷ [])
 
-    module _ {x : ℕ} (e : x ≡ hash xs 0) where
-      same-is : {b : Bool} → Compares ws k xs x b → (ns : List Noted) (t : Term) → Slots ws ns → length ns ≡ count → IsRun xs t → same t (noted-at ns k .term) ≡ b
-      same-is C ns t S c r = sym (C .exact ns t S (omega arith) r e)
+  runs : Runs ws′ (terms more)
+  runs =
+      subst (Runs ws′) (sym (map-append (λ x. x .term) ns (n ∷ [])))
+      (entered (terms ns) (n .term) (subst (λ k. Enters ws ws′ k xs o d) (sym (counted ns)) E) (S .runs) r)
 
-      pub tells : (b : Bool) → Compares ws k xs x b → Tells ws count xs k b
-      tells true C = record { exact = λ ns t S c r. sym (last-noted t (noted-at ns k) (take k ns) (same-is C ns t S c r)) ∙ up-to ns t S c r }
-      tells false C = λ ns t S c r. sym (noted-before t (noted-at ns k) (take k ns) (same-is C ns t S c r)) ∙ up-to ns t S c r
+  -- what holds of the old ones and of the new one
+  each : (P : ℕ → Noted → Type 0) → ((k : ℕ) → k < length ns → P k (noted-at ns k)) → P (length ns) n → (k : ℕ) → k < length more → P k (noted-at more k)
+  each P old new k h = go (eq-or-lt-of-le (le-of-suc-le-suc (omega (arith, h, length-append ns (n ∷ [])))))
+    where
+      go : (k ≡ length ns) ⊎ (k < length ns) → P k (noted-at more k)
+      go (inl e) = rw (e, noted-last ns n) new
+      go (inr e) = rw (noted-before ns n k e) (old k e)
 
-    pub leading-next : Leading ws count xs k (next-of ws k)
-    leading-next ns S c = rw (L ns S c .own h) at (S .index .next k (omega arith))
+  noted : Comes o more (length ns) n → d ≡ length (n .trail) → Slots ws′ more
+  noted c e =
+      record {
+        runs = runs;
+        origin =
+            each (λ k x. Comes (origin-of ws′ k) more k x)
+            (λ k h. rw (origin-still E k h) (comes-still ns n (origin-of ws k) k (noted-at ns k) (omega arith) (S .origin k h)))
+            (rw (origin-new E) c);
+        distance = each (λ k x. value-of ws′ k ≡ length (x .trail)) (λ k h. value-still E k h ∙ S .distance k h) (value-new E ∙ e);
+      }
+
+pub starts : {ws ws′ xs : List ℕ} → Enters ws ws′ 0 xs Start 0 → Starts ws′ xs
+starts {ws} E = record { slots = λ t h. noted [] (record { term = t; trail = [] }) E none h (refl, refl) refl }
+  where
+    none : Slots ws []
+    none =
+        record {
+          runs = record {
+            spelled = λ k q. absurd (omega arith);
+            index = record { head = λ k q. absurd (omega arith); next = λ k q. absurd (omega arith); hashed = λ k q. absurd (omega arith) };
+          };
+          origin = λ k q. absurd (omega arith);
+          distance = λ k q. absurd (omega arith);
+        }
+
+pub notes : {ws ws′ : List ℕ} {count : ℕ} {xs : List ℕ} {s : Step} {d : ℕ} → Enters ws ws′ count xs (From s) d → Notes ws ws′ count xs s d
+notes {ws} {ws′} {count} {xs} {s} {d} E = record { slots = slots }
+  where
+    slots : (ns : List Noted) (x : Line) → Slots ws ns → length ns ≡ count → s .parent < count
+        → Marks s (noted-at ns (s .parent) .term) x → IsRun xs (x .result) → d ≡ length (noted-at ns (s .parent) .trail) + 1
+        → Slots ws′ (ns ++ (entry (noted-at ns (s .parent) .trail) x ∷ []))
+    slots ns x S c p m h e =
+        let n : Noted = entry (noted-at ns (s .parent) .trail) x in
+        let q : s .parent < length ns = omega arith in
+        let E′ : Enters ws ws′ (length ns) xs (From s) d = rw c E in
+        noted ns n E′ S h
+        (record { before = q; line = x; marks = rw (noted-before ns n (s .parent) q) m; is = rw (noted-before ns n (s .parent) q) })
+        (e ∙ sym (length-append (noted-at ns (s .parent) .trail) (x ∷ [])))

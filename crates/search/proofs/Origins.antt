@@ -10,8 +10,8 @@ use lib.Seq.{sets, sets-eq, length-take-le, take-set-le, getD-set-other, getD-ap
 use Rattle.terms.proofs.Positions.{front-getD}
 use Rattle.search.specs.Coded.{law-number}
 use Rattle.search.specs.Origins.{numbers, origin-at}
-use Rattle.search.specs.declared.bounded_search.Origin.{Origin}
-use Rattle.search.specs.declared.bounded_search.Origin.the-variants.{Start, From}
+use Rattle.search.specs.declared.slots.Origin.{Origin}
+use Rattle.search.specs.declared.slots.Origin.the-variants.{Start, From}
 use Rattle.search.proofs.Coded.{law-read-back, direction-read-back}
 
 -- the numbers of an origin, wherever they stand

@@ -28,7 +28,7 @@ use Rattle.search.specs.Ordered.{Ordered, unknown, joined, Keeps}
 use Rattle.search.specs.Resulted.{tried-by, TooDeep, Adds}
 use Rattle.search.specs.declared.search.Law.{Law}
 use Rattle.search.specs.declared.search.Direction.{Direction}
-use Rattle.search.specs.declared.bounded_search.Step.{Step}
+use Rattle.search.specs.declared.slots.Step.{Step}
 use Rattle.search.specs.declared.line.Filled.{Filled}
 use Rattle.search.specs.declared.line.Filled.the-variants.{To, Nothing}
 use Rattle.search.proofs.Coded.{law-named}

@@ -17,7 +17,8 @@ use Rattle.search.specs.Law.{semiring}
 use Rattle.search.specs.Line.{Line, results}
 use Rattle.search.specs.Search as search
 use Rattle.search.specs.Search.{Noted, is-noted, entry, note, unproved, run, begun}
-use Rattle.search.specs.Slots.{distance-of, noted-at, Slots}
+use Rattle.search.specs.Runs.{value-of}
+use Rattle.search.specs.Slots.{noted-at, Slots}
 use Rattle.search.specs.Ordered.{Ordered, unknown}
 use Rattle.search.specs.Resulted.{most-nodes}
 use Rattle.search.specs.Searched.{limits-of, Opens, Became, Takes, Arrives, Explores}
@@ -26,7 +27,7 @@ use Rattle.search.specs.declared.bounded_search.Limits.{Limits}
 use Rattle.search.specs.declared.bounded_search.Taken.{Taken}
 use Rattle.search.specs.declared.bounded_search.Taken.the-variants as taken
 use Rattle.search.specs.declared.bounded_search.Outcome.the-variants.{Proved, Unproved, Full}
-use Rattle.search.proofs.Slots.{noted-before, noted-last}
+use Rattle.search.proofs.Noting.{noted-run, noted-before, noted-last}
 use Rattle.search.proofs.Sorting.{line-at, ordered-length, ordered-at}
 use Rattle.search.proofs.Unknown.{unknown-member, Fresh, fresh-unknown, fresh-rest, note-unknown}
 use Rattle.search.proofs.Running.{note-right, note-new, note-new-grows, after, after-grows, run-limit, run-end, run-far, run-opens}
@@ -106,15 +107,16 @@ module _ {right : List ℕ} {m : Limits} {slots most : ℕ} {ws₀ ws : List ℕ
   pub ends-limit : m .nodes ≤ i → Explores right m slots most ws₀ ws (Unproved i)
   ends-limit h = stops (λ t ns S c. run-limit next (m .steps) t i ns (m .nodes - i) (omega arith))
 
-  module _ (h : i < count) where
-    distance-here : (ns : List Noted) → Slots ws ns → length ns ≡ count → distance-of ws i ≡ length (noted-at ns i .trail)
-    distance-here ns S c = S .slot i (omega arith) .distance
+  -- the term in slot i is at distance d
+  module _ (h : i < count) {d : ℕ} (is : d ≡ value-of ws i) where
+    distance-here : (ns : List Noted) → Slots ws ns → length ns ≡ count → d ≡ length (noted-at ns i .trail)
+    distance-here ns S c = is ∙ S .distance i (omega arith)
 
-    pub ends-far : m .steps ≤ distance-of ws i → Explores right m slots most ws₀ ws (Unproved i)
+    pub ends-far : m .steps ≤ d → Explores right m slots most ws₀ ws (Unproved i)
     ends-far far = stops (λ t ns S c. run-far next (m .steps) t i ns (omega arith) (m .nodes - i) (omega (arith, distance-here ns S c)))
 
-    pub opened : i < m .nodes → distance-of ws i < m .steps → most ≤ 31 → {res order : List ℕ} {n : ℕ} → most ≡ most-nodes order → Opens ws count i m res order n
-        → Opened right m most ws₀ ws count i (distance-of ws i) res order n
+    pub opened : i < m .nodes → d < m .steps → most ≤ 31 → {res order : List ℕ} {n : ℕ} → most ≡ most-nodes order → Opens ws count i m res order n
+        → Opened right m most ws₀ ws count i d res order n
     opened q near low fits O s t S ht p k =
         let g = St s t S ht p k in
         let x = noted-at (g .ns) i in
@@ -129,7 +131,7 @@ module _ {right : List ℕ} {m : Limits} {slots most : ℕ} {ws₀ ws : List ℕ
           small = g .small;
           distance = e;
           lines = unknown (g .ns) (next (x .term));
-          ordered = O .exact (g .ns) (x .term) (g .slots) c (g .slots .slot i (omega arith) .run) (omega (arith, fit)) (omega arith);
+          ordered = O .exact (g .ns) (x .term) (g .slots) c (noted-run (g .slots) i (omega arith)) (omega (arith, fit)) (omega arith);
           fresh = fresh-unknown (g .ns) (next (x .term));
           kept = λ y n. omega (arith, results-sound semiring (limits-of m) (x .term) y (unknown-member (g .ns) (next (x .term)) n) .0 .size);
           is = g .is

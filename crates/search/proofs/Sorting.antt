@@ -18,7 +18,7 @@ use Rattle.terms.specs.declared.term.Comparison.{Comparison}
 use Rattle.terms.specs.declared.term.Comparison.the-variants.{Less, Equal, Greater}
 use Rattle.search.specs.Line.{Line, by-result}
 use Rattle.search.specs.Ordered.{Result, Named, Ordered, none, more, inserted, Goes, Spotted}
-use Rattle.search.specs.Traced.{Shows}
+use Rattle.search.specs.Runs.{Shows}
 use Rattle.search.specs.declared.results.Spot.the-variants.{At, Already}
 use Rattle.search.proofs.Rising.{goes-past}
 pub use Rattle.search.proofs.Rising.{line-at}

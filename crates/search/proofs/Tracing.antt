@@ -8,12 +8,15 @@ use lib.Seq.{slice, slice-empty, slice-cons, append-snoc, getD-set-same, drop-se
 use Rattle.terms.proofs.Held.{holds-within}
 use Rattle.search.specs.Line.{Line}
 use Rattle.search.specs.Search.{Noted}
-use Rattle.search.specs.Slots.{SLOT, Spells, origin-of, distance-of, noted-at, Leads, Slots}
-use Rattle.search.specs.Traced.{Linked, Traced, none, more, Originates, Shows, Traces}
-use Rattle.search.specs.declared.bounded_search.Step.{Step}
-use Rattle.search.specs.declared.bounded_search.Origin.{Origin}
-use Rattle.search.specs.declared.bounded_search.Origin.the-variants.{Start, From}
-use Rattle.search.proofs.Slots.{run-in, run-spelled}
+use Rattle.search.specs.Index.{SLOT}
+use Rattle.search.specs.Runs.{Spells, origin-of, value-of, Originates, Shows}
+use Rattle.search.specs.Slots.{noted-at, Leads, Slots}
+use Rattle.search.specs.Traced.{Linked, Traced, none, more, Traces}
+use Rattle.search.specs.declared.slots.Step.{Step}
+use Rattle.search.specs.declared.slots.Origin.{Origin}
+use Rattle.search.specs.declared.slots.Origin.the-variants.{Start, From}
+use Rattle.search.proofs.Writing.{run-in, run-spelled}
+use Rattle.search.proofs.Noting.{noted-run}
 
 -- no slot that has a run is cut short
 
@@ -34,11 +37,11 @@ origin-missed ws k o h = record { exact = λ t s. absurd (omega (arith, holds-wi
 
 module _ {ws : List ℕ} {ns : List Noted} (S : Slots ws ns) (k : ℕ) (h : k < length ns) where
   from-start : Start ≡ origin-of ws k → (k ≡ 0) × (noted-at ns k .trail ≡ [])
-  from-start e = rw (sym e) at (S .slot k h .origin)
+  from-start e = rw (sym e) at (S .origin k h)
 
   module _ (s : Step) (e : From s ≡ origin-of ws k) where
     leads : Leads s ns k (noted-at ns k)
-    leads = rw (sym e) at (S .slot k h .origin)
+    leads = rw (sym e) at (S .origin k h)
 
     linked : Linked ws ns (s .parent) k (leads .line)
     linked =
@@ -46,7 +49,7 @@ module _ {ws : List ℕ} {ns : List Noted} (S : Slots ws ns) (k : ℕ) (h : k < 
           within = h;
           before = leads .before;
           line = record {
-            run = subst (λ n. Spells ws k (n .term)) (leads .is) (S .slot k h .run);
+            run = subst (λ n. Spells ws k (n .term)) (leads .is) (noted-run S k h);
             step = s;
             origin = sym e;
             parent = refl;
@@ -80,19 +83,19 @@ pub record Reaches (ws : List ℕ) (ns : List Noted) (last k at : ℕ) (ks : Lis
 abbrev pub Tracing : List ℕ → ℕ → ℕ → ℕ → List ℕ → Type 0
 Tracing ws last k at ks = (ns : List Noted) → Slots ws ns → last < length ns → Reaches ws ns last k at ks
 
-pub tracing-starts : (ws : List ℕ) (last count : ℕ) (path : List ℕ) → count ≡ distance-of ws last → Tracing ws last last count (slice count count path)
+pub tracing-starts : (ws : List ℕ) (last count : ℕ) (path : List ℕ) → count ≡ value-of ws last → Tracing ws last last count (slice count count path)
 tracing-starts ws last count path e ns S h =
     record {
       within = h;
-      far = sym (e ∙ S .slot last h .distance);
+      far = sym (e ∙ S .distance last h);
       lines = [];
       whole = sym (append-nil (noted-at ns last .trail));
       traced = rw (slice-empty count path) none;
     }
 
-pub path-too-long : (ws : List ℕ) (last count : ℕ) (path : List ℕ) → count ≡ distance-of ws last → length path < count → Traces ws last path 0
+pub path-too-long : (ws : List ℕ) (last count : ℕ) (path : List ℕ) → count ≡ value-of ws last → length path < count → Traces ws last path 0
 path-too-long ws last count path e h =
-    record { within = omega arith; exact = λ ns S q p. absurd (omega (arith, e, S .slot last q .distance)) }
+    record { within = omega arith; exact = λ ns S q p. absurd (omega (arith, e, S .distance last q)) }
 
 -- a number put before the part from position m + 1 on
 slice-put : (path : List ℕ) (m count x : ℕ) → m < count → count ≤ length path → slice m count (set path m x) ≡ x ∷ slice (suc m) count path
@@ -109,14 +112,14 @@ module _ (ws : List ℕ) (last k at : ℕ) (o : Origin) (O : Originates ws k o) 
         within = omega arith;
         exact = λ ns S q p.
             let t = T ns S q in
-            absurd (omega (arith, t .far, ap length (from-start S k (t .within) (sym e ∙ O .exact (noted-at ns k .term) (S .slot k (t .within) .run)) .1)));
+            absurd (omega (arith, t .far, ap length (from-start S k (t .within) (sym e ∙ O .exact (noted-at ns k .term) (noted-run S k (t .within))) .1)));
       }
 
   pub tracing-back : (count : ℕ) (path : List ℕ) (s : Step) → Tracing ws last k at (slice at count path) → o ≡ From s → at ≤ count → count ≤ length path
       → Tracing ws last (s .parent) (at - 1) (slice (at - 1) count (set path (at - 1) k))
   tracing-back count path s T e i j ns S q =
       let t = T ns S q in
-      let f : From s ≡ origin-of ws k = sym e ∙ O .exact (noted-at ns k .term) (S .slot k (t .within) .run) in
+      let f : From s ≡ origin-of ws k = sym e ∙ O .exact (noted-at ns k .term) (noted-run S k (t .within)) in
       let x = leads S k (t .within) s f .line in
       let m : suc (at - 1) ≡ at = omega arith in
       record {
@@ -127,10 +130,10 @@ module _ (ws : List ℕ) (last k at : ℕ) (o : Origin) (O : Originates ws k o) 
         traced = rw (slice-put path (at - 1) count k (omega arith) j, m) (more (linked S k (t .within) s f) (t .traced));
       }
 
-pub tracing-ends : (ws : List ℕ) (last k at count : ℕ) (path : List ℕ) → count ≡ distance-of ws last → count ≤ length path → at ≤ 0
+pub tracing-ends : (ws : List ℕ) (last k at count : ℕ) (path : List ℕ) → count ≡ value-of ws last → count ≤ length path → at ≤ 0
     → Tracing ws last k at (slice at count path) → Traces ws last path count
 tracing-ends ws last k at count path e h z T =
-    record { within = h; exact = λ ns S q p. (e ∙ S .slot last q .distance, ends ns S q (T ns S q)) }
+    record { within = h; exact = λ ns S q p. (e ∙ S .distance last q, ends ns S q (T ns S q)) }
   where
     ends : (ns : List Noted) → Slots ws ns → last < length ns → Reaches ws ns last k at (slice at count path) → Traced ws ns 0 (take count path) (noted-at ns last .trail)
     ends ns S q t =

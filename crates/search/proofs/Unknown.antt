@@ -17,9 +17,25 @@ use Rattle.terms.specs.Theory.TermOrder.{term-order}
 use Rattle.search.specs.Line.{Line, by-result}
 use Rattle.search.specs.Search.{Noted, is-noted, entry, Turn, ended, note}
 use Rattle.search.specs.Ordered.{inserted, unknown, joined}
-use Rattle.search.proofs.Noting.{last-noted, noted-before, told-apart}
+use Rattle.search.proofs.Looking.{told-apart}
 use Rattle.search.proofs.Rising.{line-at, Rising, below, rising-at, rising-inserted}
 use Rattle.search.proofs.Running.{note-known}
+
+-- a term noted before, or else as the last one
+module _ (t : Term) (n : Noted) where
+  last-noted : (ns : List Noted) → same t (n .term) ≡ true → is-noted t (ns ++ (n ∷ [])) ≡ true
+  unfolding is-noted
+  last-noted [] e = rw (e, is-noted)
+  last-noted (x ∷ ns) e = go (same t (x .term)) (last-noted ns e)
+    where
+      go : (b : Bool) → is-noted t (ns ++ (n ∷ [])) ≡ true → elim b [ true ↦ true | false ↦ is-noted t (ns ++ (n ∷ [])) ] ≡ true
+      go true h = refl
+      go false h = h
+
+  noted-before : (ns : List Noted) → same t (n .term) ≡ false → is-noted t (ns ++ (n ∷ [])) ≡ is-noted t ns
+  unfolding is-noted
+  noted-before [] e = rw (e, is-noted)
+  noted-before (x ∷ ns) e = ap (λ b. elim (same t (x .term)) [ true ↦ true | false ↦ b ]) (noted-before ns e)
 
 -- by what a test gives
 pub told : {P : Type 0} (b : Bool) → (b ≡ true → P) → (b ≡ false → P) → P

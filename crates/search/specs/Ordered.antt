@@ -9,9 +9,10 @@ use Rattle.terms.specs.Held.{IsRun}
 use Rattle.terms.specs.Sort.{lost, insert, insert-all, Sorted}
 use Rattle.search.specs.Line.{Line, by-result}
 use Rattle.search.specs.Search.{Noted, is-noted}
-use Rattle.search.specs.Slots.{Spells, origin-of, Marks, Slots}
-use Rattle.search.specs.declared.bounded_search.Step.{Step}
-use Rattle.search.specs.declared.bounded_search.Origin.the-variants.{From}
+use Rattle.search.specs.Runs.{Spells, origin-of}
+use Rattle.search.specs.Slots.{Marks, Slots}
+use Rattle.search.specs.declared.slots.Step.{Step}
+use Rattle.search.specs.declared.slots.Origin.the-variants.{From}
 use Rattle.search.specs.declared.results.Spot.{Spot}
 use Rattle.search.specs.declared.results.Spot.the-variants.{At, Already}
 

@@ -15,7 +15,7 @@ use Rattle.search.specs.Coded.{law-of, direction-of}
 use Rattle.search.specs.Search.{Noted}
 use Rattle.search.specs.Slots.{Slots}
 use Rattle.search.specs.Ordered.{Ordered, unknown, joined}
-use Rattle.search.specs.declared.bounded_search.Step.{Step}
+use Rattle.search.specs.declared.slots.Step.{Step}
 
 -- the line of a step on t: one or none
 abbrev pub tried-by : Step → Term → List Line

@@ -12,7 +12,8 @@ use Rattle.search.specs.Line.{Line, results}
 use Rattle.search.specs.Search as search
 use Rattle.search.specs.Search.{Noted, entry, proved, unproved, whole-line, begun}
 use Rattle.search.specs.Coded.{name-of}
-use Rattle.search.specs.Slots.{Spells, noted-at, Slots}
+use Rattle.search.specs.Runs.{Spells}
+use Rattle.search.specs.Slots.{noted-at, Slots}
 pub use Rattle.search.specs.Index.{slots-of}
 use Rattle.search.specs.Ordered.{Result, Ordered, unknown}
 use Rattle.search.specs.Resulted.{most-nodes}

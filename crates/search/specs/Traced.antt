@@ -4,13 +4,12 @@ use mathlib.Core.Path.{_≡_}
 use mathlib.Core.List.{List, [], _∷_}
 use lib.ListN.{length, take}
 use Rattle.terms.specs.Term.{Term, size}
-use Rattle.terms.specs.Held.{IsRun, Holds}
+use Rattle.terms.specs.Held.{Holds}
 use Rattle.search.specs.Line.{Line, Side, l, r}
 use Rattle.search.specs.Search.{Noted, entry}
 use Rattle.search.specs.Place.{place-at}
-use Rattle.search.specs.Slots.{Spells, origin-of, noted-at, Slots}
+use Rattle.search.specs.Slots.{noted-at, Slots}
 use Rattle.search.specs.Ordered.{Result}
-use Rattle.search.specs.declared.bounded_search.Origin.{Origin}
 use Rattle.search.specs.declared.path.Turn.{Turn}
 use Rattle.search.specs.declared.path.Turn.the-variants.{Here, Left, Right}
 
@@ -27,14 +26,6 @@ pub data Traced (ws : List ℕ) (ns : List Noted) : ℕ → List ℕ → List Li
   more : {j k : ℕ} {ks : List ℕ} {x : Line} {xs : List Line} → Linked ws ns j k x → Traced ws ns k ks xs → Traced ws ns j (k ∷ ks) (x ∷ xs)
 
 -- what the functions promise
-
--- of `origin_of`
-pub record Originates (ws : List ℕ) (k : ℕ) (o : Origin) : Type 0 where
-  pub exact : (t : Term) → Spells ws k t → o ≡ origin-of ws k
-
--- of `run_of`
-pub record Shows (ws : List ℕ) (k : ℕ) (xs : List ℕ) : Type 0 where
-  pub exact : (t : Term) → Spells ws k t → IsRun xs t
 
 -- of `path_of`
 pub record Traces (ws : List ℕ) (last : ℕ) (path : List ℕ) (n : ℕ) : Type 0 where

@@ -1,153 +1,24 @@
-// The bounded search, with the noted terms in slots of 40 numbers.
-// Of a slot, number 0 is the length of a run, 1 to 4 are its origin, 5 to 7 are of the index, the run stands from number 8 on, and 39
-// is its distance. So what a look-up reads stands together.
-ghost use mathlib.Core.Path.{_≡_};
+// The bounded search, with the noted terms in slots.
 ghost use Prim.Native.Nat.{_+_, _*_, _≤_, _<_};
 ghost use lib.ListN.{length};
-ghost use lib.Seq.{sets};
-ghost use Rattle.search.specs.Origins.{numbers, origin-at};
-ghost use Rattle.search.specs.Slots.{SLOT, Finds, Writes, Enters, Starts, Notes};
+ghost use Rattle.search.specs.Index.{SLOT};
 ghost use Rattle.search.specs.Resulted.{most-nodes};
 ghost use Rattle.search.specs.Searched.{Opens, Takes, Explores, Searches};
 use crate::index;
-use crate::path;
 use crate::results;
 use crate::search;
 use crate::search::Direct;
-use crate::search::Direction;
 use crate::search::Law;
+use crate::slots;
+use crate::slots::Origin;
 use terms::term;
-use words::normal_form;
-
-pub const SLOT: usize = 40;
-
-// A line: the place is the position in the run where the replaced subterm starts, the parent the slot of the term that is opened.
-pub struct Step {
-    pub law: Law,
-    pub direction: Direction,
-    pub place: u32,
-    pub parent: u32,
-}
-
-// What a noted term comes from.
-pub enum Origin {
-    Start,
-    From(Step),
-}
-
-// Stores an origin in four numbers from `at` on.
-fn write_origin(ws: &mut [u32], at: usize, o: Origin)
-    requires { ⌜ at + 4 ≤ length (now ws) ⌝ }
-    ensures { λ _. ⌜ now (ws .exit) ≡ sets (now (ws .entry)) at (numbers o) ⌝ }
-{
-    match o {
-        Origin::Start => {
-            ws[at] = 0;
-            ws[at + 1] = 0;
-            ws[at + 2] = 0;
-            ws[at + 3] = 0;
-        }
-        Origin::From(s) => {
-            let law = s.law;
-            let direction = s.direction;
-            ws[at] = search::law_number(law) + 1;
-            ws[at + 1] = search::direction_number(direction);
-            ws[at + 2] = s.place;
-            ws[at + 3] = s.parent;
-        }
-    }
-}
-
-// The origin that four numbers from `at` on stand for.
-pub fn read_origin(ws: &[u32], at: usize) -> Origin
-    requires { ⌜ at + 4 ≤ length (now ws) ⌝ }
-    ensures { λ r. ⌜ r ≡ origin-at (now (ws .entry)) at ⌝ }
-{
-    let tag = ws[at];
-    if tag == 0 {
-        return Origin::Start;
-    }
-    let law = search::law_of(tag - 1);
-    let direction = search::direction_of(ws[at + 1]);
-    Origin::From(Step {
-        law,
-        direction,
-        place: ws[at + 2],
-        parent: ws[at + 3],
-    })
-}
-
-// Whether a run is among the first `count` noted ones: of those in its bucket, the newest first.
-pub fn listed(ws: &[u32], count: usize, s: &[u32]) -> bool
-    requires { ⌜ (SLOT * count ≤ length (now ws)) × (count ≤ 65535) ⌝ }
-    ensures { λ r. ⌜ Finds (now (ws .entry)) count (now (s .entry)) r ⌝ }
-{
-    let buckets = index::slots_of(ws.len());
-    if buckets == 0 {
-        return false;
-    }
-    let mut end = count as u32;
-    let h = index::hash(s);
-    let mut k = index::newest(ws, end, index::bucket_at(h, buckets));
-    while k < end {
-        if index::has_run(ws, k, s, h) {
-            return true;
-        }
-        end = k;
-        k = ws[SLOT * (k as usize) + 7];
-    }
-    false
-}
-
-// Writes a slot, up to the end of its run.
-pub fn write_slot(ws: &mut [u32], k: usize, s: &[u32], o: Origin, distance: u32)
-    requires { ⌜ (SLOT * k + SLOT ≤ length (now ws)) × (length (now s) ≤ 31) ⌝ }
-    ensures { λ _. ⌜ Writes (now (ws .entry)) (now (ws .exit)) k (now (s .entry)) o distance ⌝ }
-{
-    let a = SLOT * k;
-    ws[a] = s.len() as u32;
-    write_origin(ws, a + 1, o);
-    ws[a + 39] = distance;
-    normal_form::copy(ws, a + 8, s);
-}
-
-// Notes a run in slot `k`: the slot leads to the newest older one in its bucket, and is the head of the bucket from now on.
-fn note_slot(ws: &mut [u32], k: usize, s: &[u32], o: Origin, distance: u32)
-    requires { ⌜ (SLOT * k + SLOT ≤ length (now ws)) × (length (now s) ≤ 31) × (k < 65535) ⌝ }
-    ensures { λ _. ⌜ Enters (now (ws .entry)) (now (ws .exit)) k (now (s .entry)) o distance ⌝ }
-{
-    let h = index::hash(s);
-    let b = index::bucket_at(h, index::slots_of(ws.len()));
-    let new = k as u32;
-    let older = index::newest(ws, new, b);
-    write_slot(ws, k, s, o, distance);
-    ws[SLOT * k + 5] = h;
-    ws[SLOT * k + 7] = older;
-    ws[SLOT * b + 6] = new;
-}
-
-// Notes the term that the search starts with.
-pub fn note_start(ws: &mut [u32], s: &[u32])
-    requires { ⌜ (SLOT ≤ length (now ws)) × (length (now s) ≤ 31) ⌝ }
-    ensures { λ _. ⌜ Starts (now (ws .exit)) (now (s .entry)) ⌝ }
-{
-    note_slot(ws, 0, s, Origin::Start, 0);
-}
-
-// Notes the result of a step in the slot with number `count`.
-pub fn note(ws: &mut [u32], count: usize, s: &[u32], step: Step, distance: u32)
-    requires { ⌜ (SLOT * count + SLOT ≤ length (now ws)) × (length (now s) ≤ 31) × (count < 65535) ⌝ }
-    ensures { λ _. ⌜ Notes (now (ws .entry)) (now (ws .exit)) count (now (s .entry)) step distance ⌝ }
-{
-    note_slot(ws, count, s, Origin::From(step), distance);
-}
 
 // How far a search goes: lines in a path, size and depth of a result, terms that are opened.
 pub struct Limits {
-    pub steps: usize,
-    pub size: usize,
-    pub depth: usize,
-    pub nodes: usize,
+    pub steps: u32,
+    pub size: u32,
+    pub depth: u32,
+    pub nodes: u32,
 }
 
 // The results of the term noted in slot `i` that are not among the first `noted`.
@@ -163,8 +34,10 @@ fn open_slot(
     ensures { λ r. ⌜ Opens (now (ws .entry)) noted i limits (now (res .exit)) (now (order .exit)) r ⌝ }
 {
     let k = i as u32;
-    let s = path::run_of(ws, k);
-    results::results_of(ws, noted, s, k, limits.size, limits.depth, res, order)
+    let s = slots::run_of(ws, k);
+    let size = limits.size as usize;
+    let depth = limits.depth as usize;
+    results::results_of(ws, noted, s, k, size, depth, res, order)
 }
 
 // What became of a result: it is noted now and may be right, or no slot is left for it.
@@ -191,14 +64,14 @@ fn take_result(
     if slots <= noted {
         return Taken::Full;
     }
-    let s = path::run_of(res, k);
+    let s = slots::run_of(res, k);
     if 31 < s.len() {
         return Taken::Full;
     }
-    let Origin::From(step) = path::origin_of(res, k) else {
+    let Origin::From(step) = slots::origin_of(res, k) else {
         return Taken::Full;
     };
-    note(ws, noted, s, step, distance + 1);
+    slots::note(ws, noted, s, step, distance + 1);
     if term::equal(s, right) {
         return Taken::Right;
     }
@@ -224,18 +97,18 @@ fn explore(
     res: &mut [u32],
     order: &mut [u32],
 ) -> Outcome
-    requires { ⌜ (0 < slots) × (slots ≤ 65535) × (SLOT * slots ≤ length (now ws)) × (SLOT * length (now order) ≤ length (now res)) × (length (now order) ≤ 620) × (limits .steps ≤ 4294967295) ⌝ }
+    requires { ⌜ (0 < slots) × (slots ≤ 65535) × (SLOT * slots ≤ length (now ws)) × (SLOT * length (now order) ≤ length (now res)) × (length (now order) ≤ 620) ⌝ }
     ensures { λ r. ⌜ Explores (now (right .entry)) limits slots (most-nodes (now (order .entry))) (now (ws .entry)) (now (ws .exit)) r ⌝ }
 {
     let mut outcome = Outcome::Unproved(0);
     let mut noted = 1;
     let mut i = 0;
     'outer: while i < noted {
-        if limits.nodes <= i {
+        if limits.nodes as usize <= i {
             break;
         }
-        let distance = ws[SLOT * i + 39];
-        if limits.steps <= distance as usize {
+        let distance = slots::value_of(ws, i as u32);
+        if limits.steps <= distance {
             break;
         }
         let count = open_slot(ws, noted, i, limits, res, order);
@@ -264,7 +137,7 @@ fn explore(
 // Explores among terms of at most 7 nodes. Each has at most 140 results, of 40 numbers: one for each place, each law and each direction.
 // The buffers are filled with zeros first, and to fill larger ones takes as long as a short search.
 fn explore_small(right: &[u32], limits: Limits, ws: &mut [u32], slots: usize) -> Outcome
-    requires { ⌜ (0 < slots) × (slots ≤ 65535) × (SLOT * slots ≤ length (now ws)) × (limits .steps ≤ 4294967295) ⌝ }
+    requires { ⌜ (0 < slots) × (slots ≤ 65535) × (SLOT * slots ≤ length (now ws)) ⌝ }
     ensures { λ r. ⌜ Explores (now (right .entry)) limits slots 7 (now (ws .entry)) (now (ws .exit)) r ⌝ }
 {
     let mut res = [0u32; 5600];
@@ -274,7 +147,7 @@ fn explore_small(right: &[u32], limits: Limits, ws: &mut [u32], slots: usize) ->
 
 // Explores among terms of at most 31 nodes. Each has at most 620 results.
 fn explore_large(right: &[u32], limits: Limits, ws: &mut [u32], slots: usize) -> Outcome
-    requires { ⌜ (0 < slots) × (slots ≤ 65535) × (SLOT * slots ≤ length (now ws)) × (limits .steps ≤ 4294967295) ⌝ }
+    requires { ⌜ (0 < slots) × (slots ≤ 65535) × (SLOT * slots ≤ length (now ws)) ⌝ }
     ensures { λ r. ⌜ Explores (now (right .entry)) limits slots 31 (now (ws .entry)) (now (ws .exit)) r ⌝ }
 {
     let mut res = [0u32; 24800];
@@ -290,7 +163,6 @@ pub fn search_bounded_rewrite(
     limits: Limits,
     ws: &mut [u32],
 ) -> Outcome
-    requires { ⌜ limits .steps ≤ 4294967295 ⌝ }
     ensures { λ r. ⌜ Searches (now (left .entry)) (now (right .entry)) limits (now (ws .entry)) (now (ws .exit)) r ⌝ }
 {
     let direct = search::search_direct_axiom(left, right);
@@ -304,7 +176,7 @@ pub fn search_bounded_rewrite(
     if 31 < left.len() {
         return Outcome::Full;
     }
-    note_start(ws, left);
+    slots::note_start(ws, left);
     if left.len() <= 7 {
         if limits.size <= 7 {
             return explore_small(right, limits, ws, slots);

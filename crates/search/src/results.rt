@@ -5,20 +5,18 @@ ghost use lib.ListN.{length};
 ghost use Rattle.search.specs.Law.{semiring};
 ghost use Rattle.search.specs.Place.{lines-at};
 ghost use Rattle.search.specs.Bound.{BindsLaw};
-ghost use Rattle.search.specs.Slots.{SLOT};
+ghost use Rattle.search.specs.Index.{SLOT};
 ghost use Rattle.search.specs.Ordered.{Spotted, Keeps};
 ghost use Rattle.search.specs.Resulted.{tried-by, TooDeep, Adds, Resulted};
 ghost use Rattle.search.specs.declared.search.Binding.the-variants.{Bound};
-use crate::bounded_search;
-use crate::bounded_search::Origin;
-use crate::bounded_search::SLOT;
-use crate::bounded_search::Step;
 use crate::line;
 use crate::line::Filled;
-use crate::path;
 use crate::search;
 use crate::search::Binding;
 use crate::search::Spans;
+use crate::slots;
+use crate::slots::Origin;
+use crate::slots::Step;
 use terms::term;
 use terms::term::Comparison;
 
@@ -36,7 +34,7 @@ fn spot_of(res: &[u32], order: &[u32], s: &[u32]) -> Spot
     let mut high = order.len();
     while low < high {
         let p = low + (high - low) / 2;
-        let run = path::run_of(res, order[p]);
+        let run = slots::run_of(res, order[p]);
         match term::compare(s, run) {
             Comparison::Less => high = p,
             Comparison::Equal => return Spot::Already,
@@ -59,13 +57,13 @@ fn keep(
     requires { ⌜ (SLOT * noted ≤ length (now ws)) × (noted ≤ 65535) × (length (now s) ≤ 31) × (SLOT * count + SLOT ≤ length (now res)) × (count < length (now order)) × (count < 620) ⌝ }
     ensures { λ r. ⌜ Keeps (now (ws .entry)) noted (now (s .entry)) step (now (res .entry)) (now (order .entry)) (now (res .exit)) (now (order .exit)) count r ⌝ }
 {
-    if bounded_search::listed(ws, noted, s) {
+    if slots::listed(ws, noted, s) {
         return count;
     }
     let Spot::At(p) = spot_of(&res[..], &order[..count], s) else {
         return count;
     };
-    bounded_search::write_slot(res, count, s, Origin::From(step), 0);
+    slots::write_slot(res, count, s, Origin::From(step), 0);
     let end = count + 1;
     term::shift(&mut order[..end], p, count as u32);
     end

@@ -16,11 +16,13 @@ use Rattle.search.specs.Line.{Line}
 use Rattle.search.specs.Search.{Noted}
 use Rattle.search.specs.Place.{place-at}
 use Rattle.search.specs.Coded.{name-of, direction-of}
-use Rattle.search.specs.Slots.{Spells, noted-at, Slots}
-use Rattle.search.specs.Traced.{Linked, Traced, none, more, Originates, Shows}
-use Rattle.search.specs.declared.bounded_search.Step.{Step}
-use Rattle.search.specs.declared.bounded_search.Origin.{Origin}
-use Rattle.search.specs.declared.bounded_search.Origin.the-variants.{From}
+use Rattle.search.specs.Runs.{Spells, Originates, Shows}
+use Rattle.search.specs.Slots.{noted-at, Slots}
+use Rattle.search.specs.Traced.{Linked, Traced, none, more}
+use Rattle.search.specs.declared.slots.Step.{Step}
+use Rattle.search.specs.declared.slots.Origin.{Origin}
+use Rattle.search.specs.declared.slots.Origin.the-variants.{From}
+use Rattle.search.proofs.Noting.{noted-run}
 use Rattle.search.proofs.Sorting.{line-at}
 use Rattle.search.proofs.Traced.{traced-at}
 use Rattle.text.specs.Bytes.{ascii}
@@ -42,7 +44,7 @@ line-text names x u = one-line names semiring (x .place) (x .direction) (x .law)
 
 module _ {ws : List ℕ} {ns : List Noted} {j k : ℕ} {x : Line} (S : Slots ws ns) (L : Linked ws ns j k x) where
   spells-source : Spells ws j (noted-at ns j .term)
-  spells-source = S .slot j (omega (arith, L .within, L .before)) .run
+  spells-source = noted-run S j (omega (arith, L .within, L .before))
 
   module _ (names : List ℕ) {o o′ : List ℕ} {a b : ℕ} where
     -- the line that slot k has
@@ -121,7 +123,7 @@ module _ {ws path : List ℕ} {s : Term} {xs : List Line} (W : Walk ws path s xs
     from = traced-term (W .lines) b (omega arith) ∙ ap (λ u. source u xs b) (W .start)
 
     spells-start : Spells ws 0 s
-    spells-start = rw (W .start) at (W .slots .slot 0 (omega (arith, link .within)) .run)
+    spells-start = rw (W .start) at (noted-run (W .slots) 0 (omega (arith, link .within)))
 
   pub lines-none : (n : ℕ) {o : List ℕ} {a : ℕ} → n ≡ 0 → length o < top → a ≤ top → Put (chain names semiring s (take n xs)) o a a o
   unfolding chain

@@ -18,7 +18,7 @@ use Rattle.search.specs.Slots.{Marks}
 use Rattle.search.specs.Traced.{Turned, Nears, Turns}
 use Rattle.search.specs.declared.search.Law.{Law}
 use Rattle.search.specs.declared.search.Direction.{Direction}
-use Rattle.search.specs.declared.bounded_search.Step.{Step}
+use Rattle.search.specs.declared.slots.Step.{Step}
 use Rattle.search.specs.declared.path.Turn.{Turn}
 use Rattle.search.specs.declared.path.Turn.the-variants.{Here, Left, Right}
 use Rattle.text.specs.Bytes.{ascii, parted}

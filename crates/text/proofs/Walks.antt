@@ -16,13 +16,15 @@ use Rattle.search.specs.Law.{Name, rank, semiring}
 use Rattle.search.specs.Line.{Line}
 use Rattle.search.specs.Search.{Noted}
 use Rattle.search.specs.Coded.{name-of, law-number, numbered-law, law-at}
+use Rattle.search.specs.Runs.{Originates, Shows}
 use Rattle.search.specs.Slots.{Marks, noted-at, Slots}
-use Rattle.search.specs.Traced.{Linked, Traced, none, more, Originates, Shows}
+use Rattle.search.specs.Traced.{Linked, Traced, none, more}
 use Rattle.search.specs.declared.search.Law.{Law}
-use Rattle.search.specs.declared.bounded_search.Step.{Step}
-use Rattle.search.specs.declared.bounded_search.Origin.{Origin}
-use Rattle.search.specs.declared.bounded_search.Origin.the-variants.{Start, From}
+use Rattle.search.specs.declared.slots.Step.{Step}
+use Rattle.search.specs.declared.slots.Origin.{Origin}
+use Rattle.search.specs.declared.slots.Origin.the-variants.{Start, From}
 use Rattle.search.proofs.Coded.{law-ranked, law-named, law-numbered}
+use Rattle.search.proofs.Noting.{noted-run}
 use Rattle.search.proofs.Sorting.{line-at}
 use Rattle.search.proofs.Traced.{traced-at}
 use Rattle.text.specs.Answer.{field}
@@ -74,7 +76,7 @@ pub one-step : {ws : List ℕ} {k : ℕ} {f : Origin} {ys zs o o₁ o₂ o₃ : 
 unfolding step field ascii
 one-step {ws} {k} s O e Y Z p P q ns j x S L =
     let h : s .parent < length ns = omega (arith, L .before, L .within, parent-read O L s e) in
-    let y = Y .exact (noted-at ns (s .parent) .term) (S .slot (s .parent) h .run) in
+    let y = Y .exact (noted-at ns (s .parent) .term) (noted-run S (s .parent) h) in
     let m = subst (λ i. Marks s (noted-at ns i .term) x) (sym (parent-read O L s e)) (marks-read O L s e) in
     then p (then (P (noted-at ns (s .parent) .term) x y m (Z .exact (x .result) (L .line .run))) q)
 

@@ -22,14 +22,15 @@ ghost use Rattle.text.specs.Put.{Put};
 use crate::put;
 use crate::writer::write_byte;
 use crate::writer::write_bytes;
-use search::bounded_search::Origin;
-use search::bounded_search::Step;
 use search::path;
 use search::path::Turn;
 use search::search::Direction;
 use search::search::Law;
 use search::search::law_number;
 use search::search::law_of;
+use search::slots;
+use search::slots::Origin;
+use search::slots::Step;
 
 // A law's name.
 pub fn put_law(out: &mut [u8], at: usize, law: Law) -> usize
@@ -105,7 +106,7 @@ fn put_line(out: &mut [u8], at: usize, step: Step, source: &[u32], result: &[u32
 fn put_step(out: &mut [u8], at: usize, ws: &[u32], k: u32) -> usize
     ensures { λ r. ⌜ ((ns : List Noted) (j : ℕ) (x : Line) → Slots (now (ws .entry)) ns → Linked (now (ws .entry)) ns j k x → Put (find.step x) (now (out .entry)) at r (now (out .exit))) ⌝ }
 {
-    let Origin::From(step) = path::origin_of(ws, k) else {
+    let Origin::From(step) = slots::origin_of(ws, k) else {
         return at;
     };
     let p = write_bytes(out, at, b"step=");
@@ -113,8 +114,8 @@ fn put_step(out: &mut [u8], at: usize, ws: &[u32], k: u32) -> usize
         out,
         p,
         step,
-        path::run_of(ws, step.parent),
-        path::run_of(ws, k),
+        slots::run_of(ws, step.parent),
+        slots::run_of(ws, k),
     );
     write_byte(out, q, b'\n')
 }
@@ -136,7 +137,7 @@ pub fn put_steps(out: &mut [u8], at: usize, ws: &[u32], path: &[u32]) -> usize
 fn leads_to(ws: &[u32], k: u32, law: Law) -> bool
     ensures { λ r. ⌜ ((ns : List Noted) (j : ℕ) (x : Line) → Slots (now (ws .entry)) ns → Linked (now (ws .entry)) ns j k x → r ≡ eqb (rank (name-of law)) (rank (x .law))) ⌝ }
 {
-    let Origin::From(step) = path::origin_of(ws, k) else {
+    let Origin::From(step) = slots::origin_of(ws, k) else {
         return false;
     };
     let by = step.law;

@@ -1,5 +1,5 @@
 // FIND's answer to an accepted job: refusals 7 and 8, or the outcome's text, which is measured first and then written where it fits.
-// Tests that no accepted job meets (lengths above 31, letters past six, steps above 16, no noted term) stand in place of requirements.
+// Tests that no accepted job meets (lengths above 31, letters past six, no noted term) stand in place of requirements.
 ghost use mathlib.Core.Path.{_≡_};
 ghost use mathlib.Core.List.{List, [], _∷_, _++_};
 ghost use Prim.Native.Nat.{ℕ, _≤_};
@@ -20,10 +20,11 @@ use crate::answer::outcome;
 use search::bounded_search;
 use search::bounded_search::Limits;
 use search::bounded_search::Outcome;
-use search::bounded_search::Step;
 use search::path::path_of;
 use search::search::Direction;
 use search::search::Law;
+use search::slots;
+use search::slots::Step;
 use terms::term;
 use terms::term::Listed;
 use words::normal_form::front;
@@ -107,14 +108,14 @@ fn answer_direct(left: &[u32], right: &[u32], law: Law, out: &mut [u8]) -> usize
         return 3;
     }
     let mut ws = [0u32; 80];
-    bounded_search::note_start(&mut ws, left);
+    slots::note_start(&mut ws, left);
     let step = Step {
         law,
         direction: Direction::Forward,
         place: 0,
         parent: 0,
     };
-    bounded_search::note(&mut ws, 1, right, step, 1);
+    slots::note(&mut ws, 1, right, step, 1);
     answer_path(left, right, 0, 1, &ws, out)
 }
 
@@ -149,10 +150,7 @@ pub fn answer_find(
 ) -> usize
     ensures { λ r. ⌜ ((bs : List ℕ) (j : Job) → read-job bs ≡ accepted j → IsRun (now (left .entry)) (j .left) → IsRun (now (right .entry)) (j .right) → limits-of limits ≡ j .limits → Call (find bs (slots-of (length (now (ws .entry)))) (length (now (out .entry)))) (now (out .entry)) r (now (out .exit))) ⌝ }
 {
-    let nodes = limits.nodes;
-    if 16 < limits.steps {
-        return 5;
-    }
+    let nodes = limits.nodes as usize;
     let outcome = bounded_search::search_bounded_rewrite(left, right, limits, ws);
     match outcome {
         Outcome::Direct(law) => answer_direct(left, right, law, out),

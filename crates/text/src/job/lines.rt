@@ -12,11 +12,11 @@ use search::bounded_search::Limits;
 const LARGEST: u32 = 4096;
 
 // What every larger number is taken for: it is out of each limit's range, too.
-const OVER: usize = 4097;
+const OVER: u32 = 4097;
 
 // The number of a limit, and where the next line starts.
 enum Limit {
-    Is(usize, usize),
+    Is(u32, usize),
     Malformed,
 }
 
@@ -55,7 +55,7 @@ fn limit_line(s: &[u8], from: usize, key: &[u8]) -> Limit
     };
     let next = end + 1;
     match number_in(s, start, end, LARGEST) {
-        Number::Is(n) => Limit::Is(n as usize, next),
+        Number::Is(n) => Limit::Is(n, next),
         Number::TooLarge => Limit::Is(OVER, next),
         Number::Malformed => Limit::Malformed,
     }

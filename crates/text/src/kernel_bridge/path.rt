@@ -9,7 +9,8 @@ ghost use Rattle.search.specs.Line.{Line, back};
 ghost use Rattle.search.specs.Search.{Noted};
 ghost use Rattle.search.specs.Place.{place-at};
 ghost use Rattle.search.specs.Coded.{name-of, direction-of};
-ghost use Rattle.search.specs.Slots.{Spells, noted-at, Slots};
+ghost use Rattle.search.specs.Runs.{Spells};
+ghost use Rattle.search.specs.Slots.{noted-at, Slots};
 ghost use Rattle.search.specs.Traced.{Linked};
 ghost use Rattle.text.specs.Proof.{part, context, at-place, one-line, chain};
 ghost use Rattle.text.specs.Put.{Put};
@@ -17,10 +18,10 @@ ghost use Rattle.text.specs.Walk.{Walk};
 ghost use Rattle.text.specs.Framed.{side-of, frame, ends, Encloses};
 use crate::kernel_bridge;
 use crate::put;
-use search::bounded_search::Origin;
-use search::path;
 use search::search::Direction;
 use search::search::Law;
+use search::slots;
+use search::slots::Origin;
 use terms::term;
 use terms::term::ADD;
 
@@ -203,13 +204,13 @@ fn render_step(
 fn render_slot(out: &mut [u8], at: usize, ws: &[u32], k: u32, names: &[u32]) -> usize
     ensures { λ r. ⌜ ((ns : List Noted) (j : ℕ) (x : Line) → Slots (now (ws .entry)) ns → Linked (now (ws .entry)) ns j k x → Put (one-line (now (names .entry)) semiring (x .place) (x .direction) (x .law) (noted-at ns j .term) (x .result)) (now (out .entry)) at r (now (out .exit))) ⌝ }
 {
-    let Origin::From(step) = path::origin_of(ws, k) else {
+    let Origin::From(step) = slots::origin_of(ws, k) else {
         return at;
     };
     let law = step.law;
     let direction = step.direction;
-    let s = path::run_of(ws, step.parent);
-    let t = path::run_of(ws, k);
+    let s = slots::run_of(ws, step.parent);
+    let t = slots::run_of(ws, k);
     render_step(
         out,
         at,
@@ -236,11 +237,11 @@ fn render_transitivity(
     ensures { λ r. ⌜ ((s u v : Term) → Spells (now (ws .entry)) 0 s → Spells (now (ws .entry)) m u → Spells (now (ws .entry)) k v → Put (ends (now (names .entry)) s u v) (now (out .entry)) at r (now (out .exit))) ⌝ }
 {
     let a = put::put_bytes(out, at, b"(app (app (app (app (app (ref eq_trans) ");
-    let b = kernel_bridge::render_term(out, a, path::run_of(ws, 0), 0, names);
+    let b = kernel_bridge::render_term(out, a, slots::run_of(ws, 0), 0, names);
     let c = put::put_bytes(out, b, b") ");
-    let d = kernel_bridge::render_term(out, c, path::run_of(ws, m), 0, names);
+    let d = kernel_bridge::render_term(out, c, slots::run_of(ws, m), 0, names);
     let e = put::put_bytes(out, d, b") ");
-    let f = kernel_bridge::render_term(out, e, path::run_of(ws, k), 0, names);
+    let f = kernel_bridge::render_term(out, e, slots::run_of(ws, k), 0, names);
     put::put_bytes(out, f, b") ")
 }
 

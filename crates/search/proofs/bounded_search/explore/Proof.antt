@@ -1,10 +1,9 @@
 -- `explore` meets its contract. The outer loop's invariant: the search goes on from the `i`-th of `noted` terms. The inner loop's: of the
 -- term that is open, the first `j` results are taken.
-use Prim.Native.Nat.{_≤_, _<_, _+_, _-_, _*_, _/_}
+use Prim.Native.Nat.{_≤_, _<_, _-_, _/_}
 use native.Mathlib.Omega.{arith}
 use mathlib.Core.Path.{_≡_, refl, sym, ap, _∙_}
 use lib.ListN.{length}
-use Rattle.search.specs.Slots.{distance-of}
 use Rattle.search.specs.Resulted.{most-nodes}
 use Rattle.search.specs.declared.bounded_search.Outcome.the-variants.{Unproved}
 use Rattle.search.proofs.Searching.{Standing, Opened, Progress, starts, ends, ends-limit, ends-far, opened, progress-noted, ends-proved, ends-full, all-taken}
@@ -32,20 +31,22 @@ abbrev μ-outer : tie.MeasureT-outer
 module _ (c : tie.At-loop Inv-loop μ-loop Inv-outer μ-outer) where
   opened-here :
       let s = c .before .before .before .before .before in
-      let b = s .before .before .before .before .before .before .before .before .before .before in
+      let v = s .before .before .before .before .before .before in
+      let b = v .before .before .before .before .before in
       let a = b .before .before .before .before .before .args in
       let e = s .open-slot in
       let o = b .outer in
-      Opened (a .right .now) (a .limits) (most-nodes (a .order .now)) (a .ws .now) (o .ws) (o .noted) (o .i) (distance-of (o .ws) (o .i)) (e .last .1 .1 .1 .1 .0) (e .last .1 .1 .1 .1 .1 .0) (e .result)
+      Opened (a .right .now) (a .limits) (most-nodes (a .order .now)) (a .ws .now) (o .ws) (o .noted) (o .i) (v .value-of .result) (e .last .1 .1 .1 .1 .0) (e .last .1 .1 .1 .1 .1 .0) (e .result)
   opened-here =
       let s = c .before .before .before .before .before in
       let far = s .before .before .before .before in
-      let limit = far .before .before .before in
+      let v = far .before .before in
+      let limit = v .before .before in
       let b = limit .before .before in
       let o = b .before .outer in
       let e = s .open-slot in
       let p = b .before .before .before .before .before .before .pre in
-      opened (o .inv .6) (o .inv .1) (b .outer-test .taken) (omega (arith, limit .if1 .left)) (omega (arith, far .if2 .left))
+      opened (o .inv .6) (o .inv .1) (b .outer-test .taken) (v .value-of .ensures) (omega (arith, limit .if1 .left)) (omega (arith, far .if2 .left))
       (omega (arith, p .4))
       (ap (λ n. n / 20) (sym (e .kept .1 .1 .1 .1 .1 .0 ∙ o .inv .4)))
       (e .ensures)
@@ -56,20 +57,14 @@ module _ (c : tie.At-loop Inv-loop μ-loop Inv-outer μ-outer) where
 outer-holds : tie.Need-outer-holds Inv-loop μ-loop Inv-outer μ-outer
 outer-holds c = search (starts, needs)
 
-mul-distance : tie.Need-mul-distance Inv-loop μ-loop Inv-outer μ-outer
-mul-distance c = search needs
+cast-if1 : tie.Need-cast-if1 Inv-loop μ-loop Inv-outer μ-outer
+cast-if1 c = search needs
 
-add-distance : tie.Need-add-distance Inv-loop μ-loop Inv-outer μ-outer
-add-distance c = search needs
+cast-value-of : tie.Need-cast-value-of Inv-loop μ-loop Inv-outer μ-outer
+cast-value-of c = search needs
 
-mul-distance-2 : tie.Need-mul-distance-2 Inv-loop μ-loop Inv-outer μ-outer
-mul-distance-2 c = search needs
-
-slice-read-distance : tie.Need-slice-read-distance Inv-loop μ-loop Inv-outer μ-outer
-slice-read-distance c = search needs
-
-cast-if2 : tie.Need-cast-if2 Inv-loop μ-loop Inv-outer μ-outer
-cast-if2 c = omega (arith, c .slice-known4 .given (40 * c .before .before .before .before .outer .i + 39))
+value-of-requires : tie.Need-value-of-requires Inv-loop μ-loop Inv-outer μ-outer
+value-of-requires c κs = search needs
 
 open-slot-requires : tie.Need-open-slot-requires Inv-loop μ-loop Inv-outer μ-outer
 open-slot-requires c κs = search needs
@@ -114,11 +109,11 @@ loop-again c =
 enum-told-2 : tie.Need-enum-told-2 Inv-loop μ-loop Inv-outer μ-outer
 enum-told-2 c = search needs
 
+add-t34 : tie.Need-add-t34 Inv-loop μ-loop Inv-outer μ-outer
+add-t34 c = search needs
+
 add-t35 : tie.Need-add-t35 Inv-loop μ-loop Inv-outer μ-outer
 add-t35 c = search needs
-
-add-t36 : tie.Need-add-t36 Inv-loop μ-loop Inv-outer μ-outer
-add-t36 c = search needs
 
 enum-told-3 : tie.Need-enum-told-3 Inv-loop μ-loop Inv-outer μ-outer
 enum-told-3 c = search needs
@@ -135,7 +130,7 @@ outer-again c =
     let v = l .loop in
     let s = l .before .before .before .before .before in
     let e = s .open-slot in
-    let o = s .before .before .before .before .before .before .before .before .before .before .outer in (
+    let o = s .before .before .before .before .before .before .before .before .before .before .before .outer in (
       omega (arith, v .inv .1),
       v .inv .2,
       v .inv .3 ∙ o .inv .2,
@@ -179,7 +174,10 @@ same-length-9 : tie.Need-same-length-9 Inv-loop μ-loop Inv-outer μ-outer
 same-length-9 c = search needs
 
 returns-3 : tie.Need-returns-3 Inv-loop μ-loop Inv-outer μ-outer
-returns-3 c = let o = c .before .before .before .before .before .before .outer in rw (o .inv .5) (ends-far (o .inv .6) (o .inv .1) (omega arith) (omega arith))
+returns-3 c =
+    let v = c .before .before in
+    let o = v .before .before .before .before .before .outer in
+    rw (o .inv .5) (ends-far (o .inv .6) (o .inv .1) (omega arith) (v .value-of .ensures) (omega arith))
 
 same-length-10 : tie.Need-same-length-10 Inv-loop μ-loop Inv-outer μ-outer
 same-length-10 c = search needs
@@ -224,11 +222,9 @@ explore-spec =
     Inv-outer
     μ-outer
     outer-holds
-    mul-distance
-    add-distance
-    mul-distance-2
-    slice-read-distance
-    cast-if2
+    cast-if1
+    cast-value-of
+    value-of-requires
     open-slot-requires
     loop-holds
     mul-k
@@ -240,8 +236,8 @@ explore-spec =
     loop-less
     loop-again
     enum-told-2
+    add-t34
     add-t35
-    add-t36
     enum-told-3
     add-i
     outer-less

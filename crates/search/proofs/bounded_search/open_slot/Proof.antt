@@ -10,6 +10,12 @@ cast-k c = search needs
 run-of-requires : tie.Need-run-of-requires
 run-of-requires c κs = search needs
 
+cast-size : tie.Need-cast-size
+cast-size c = search needs
+
+cast-depth : tie.Need-cast-depth
+cast-depth c = search needs
+
 results-of-requires : tie.Need-results-of-requires
 results-of-requires c κs = search needs
 
@@ -25,4 +31,4 @@ returns c = search (opens, needs)
 pub open-slot-spec : {M : Type 1} → statement M
 open-slot-spec =
     tie.close
-    (tie.spec cast-k run-of-requires results-of-requires same-length same-length-2 returns)
+    (tie.spec cast-k run-of-requires cast-size cast-depth results-of-requires same-length same-length-2 returns)

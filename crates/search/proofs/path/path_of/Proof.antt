@@ -3,20 +3,23 @@ use Prim.Native.Nat.{_≤_}
 use mathlib.Core.Path.{_≡_}
 use lib.ListN.{length}
 use lib.Seq.{slice}
-use Rattle.search.specs.Slots.{distance-of}
+use Rattle.search.specs.Runs.{value-of}
 use Rattle.search.proofs.Tracing.{Tracing, tracing-starts, path-too-long, tracing-stuck, tracing-back, tracing-ends}
 use borrow.Author.Needs.{needs}
 use Rattle.search.proofs.path.path_of.Statement.{statement}
 use Rattle.search.proofs.path.path_of.Tie as tie
 
 abbrev Inv-loop : tie.InvT-loop
-Inv-loop ws last path₀ count k₀ at₀ path k at = (at ≤ count) × (count ≤ length path) × (length path ≡ length path₀) × (count ≡ distance-of ws last) × Tracing ws last k at (slice at count path)
+Inv-loop ws last path₀ count k₀ at₀ path k at = (at ≤ count) × (count ≤ length path) × (length path ≡ length path₀) × (count ≡ value-of ws last) × Tracing ws last k at (slice at count path)
 
 abbrev μ-loop : tie.MeasureT-loop
 μ-loop ws last path₀ count k₀ at₀ path k at = at
 
-distance-of-requires : tie.Need-distance-of-requires Inv-loop μ-loop
-distance-of-requires c κs = search needs
+value-of-requires : tie.Need-value-of-requires Inv-loop μ-loop
+value-of-requires c κs = search needs
+
+cast-count : tie.Need-cast-count Inv-loop μ-loop
+cast-count c = search needs
 
 returns : tie.Need-returns Inv-loop μ-loop
 returns c = search (path-too-long, needs)
@@ -66,7 +69,8 @@ path-of-spec =
     (tie.spec
     Inv-loop
     μ-loop
-    distance-of-requires
+    value-of-requires
+    cast-count
     returns
     loop-holds
     origin-of-requires

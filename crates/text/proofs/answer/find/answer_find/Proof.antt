@@ -6,11 +6,8 @@ use borrow.Author.Needs.{needs}
 use Rattle.text.proofs.answer.find.answer_find.Statement.{statement}
 use Rattle.text.proofs.answer.find.answer_find.Tie as tie
 
-returns : tie.Need-returns
-returns c =
-    λ bs j read left right limits.
-    let S = sides bs read left right in
-    absurd (omega (arith, c .if1 .taken, ap (λ m. m .steps) limits, S .known .limits .steps))
+cast-nodes : tie.Need-cast-nodes
+cast-nodes c = search needs
 
 search-bounded-rewrite-requires : tie.Need-search-bounded-rewrite-requires
 search-bounded-rewrite-requires c κs = search needs
@@ -42,8 +39,8 @@ same-length c = search needs
 same-length-2 : tie.Need-same-length-2
 same-length-2 c = search needs
 
-returns-2 : tie.Need-returns-2
-returns-2 c =
+returns : tie.Need-returns
+returns c =
     let d = c .before .before in
     let o = d .before .before .before in
     let f = o .before .before .before .before in
@@ -57,8 +54,8 @@ same-length-3 c = search needs
 same-length-4 : tie.Need-same-length-4
 same-length-4 c = search needs
 
-returns-3 : tie.Need-returns-3
-returns-3 c =
+returns-2 : tie.Need-returns-2
+returns-2 c =
     let d = c .before .before in
     let o = d .before .before .before .before in
     let f = o .before .before .before .before in
@@ -73,8 +70,8 @@ same-length-5 c = search needs
 same-length-6 : tie.Need-same-length-6
 same-length-6 c = search needs
 
-returns-4 : tie.Need-returns-4
-returns-4 c =
+returns-3 : tie.Need-returns-3
+returns-3 c =
     let d = c .before .before in
     let o = d .before .before .before in
     let f = o .before .before .before .before in
@@ -86,10 +83,10 @@ returns-4 c =
 same-length-7 : tie.Need-same-length-7
 same-length-7 c = search needs
 
-returns-5 : tie.Need-returns-5
-returns-5 c =
+returns-4 : tie.Need-returns-4
+returns-4 c =
     let f = c .before .before .before .before in
-    let a = f .before .before .before .before .before .before .before .before in
+    let a = f .before .before .before .before .before .before .before in
     λ bs j read left right limits.
     by-full bs read (sides bs read left right) limits (f .search-bounded-rewrite .ensures) (a .args .out .now) (c .enum-told .given .1)
 
@@ -97,7 +94,7 @@ pub answer-find-spec : {M : Type 1} → statement M
 answer-find-spec =
     tie.close
     (tie.spec
-    returns
+    cast-nodes
     search-bounded-rewrite-requires
     enum-known-outcome
     answer-direct-requires
@@ -108,12 +105,12 @@ answer-find-spec =
     enum-told
     same-length
     same-length-2
-    returns-2
+    returns
     same-length-3
     same-length-4
-    returns-3
+    returns-2
     same-length-5
     same-length-6
-    returns-4
+    returns-3
     same-length-7
-    returns-5)
+    returns-4)

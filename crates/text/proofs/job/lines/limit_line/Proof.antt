@@ -41,9 +41,6 @@ number-in-requires c κs = let v = value c in (v .starts, omega (arith, v .ends)
 enum-known-n : tie.Need-enum-known-n
 enum-known-n c = search needs
 
-cast-t11 : tie.Need-cast-t11
-cast-t11 c = search needs
-
 enum-told-2 : tie.Need-enum-told-2
 enum-told-2 c = search needs
 
@@ -82,7 +79,6 @@ limit-line-spec =
     add-next
     number-in-requires
     enum-known-n
-    cast-t11
     enum-told-2
     enum-told-3
     returns-2

@@ -1,8 +1,8 @@
 -- `note_start` meets its contract: a slot written and linked is the first noted term.
-use Rattle.search.proofs.Indexing.{starts}
+use Rattle.search.proofs.Noting.{starts}
 use borrow.Author.Needs.{needs}
-use Rattle.search.proofs.bounded_search.note_start.Statement.{statement}
-use Rattle.search.proofs.bounded_search.note_start.Tie as tie
+use Rattle.search.proofs.slots.note_start.Statement.{statement}
+use Rattle.search.proofs.slots.note_start.Tie as tie
 
 note-slot-requires : tie.Need-note-slot-requires
 note-slot-requires c κs = search needs

@@ -2,10 +2,10 @@
 use native.Mathlib.Omega.{arith}
 use mathlib.Core.Path.{_∙_}
 use lib.ListN.{length-set}
-use Rattle.search.proofs.Slots.{writes}
+use Rattle.search.proofs.Writing.{writes}
 use borrow.Author.Needs.{needs}
-use Rattle.search.proofs.bounded_search.write_slot.Statement.{statement}
-use Rattle.search.proofs.bounded_search.write_slot.Tie as tie
+use Rattle.search.proofs.slots.write_slot.Statement.{statement}
+use Rattle.search.proofs.slots.write_slot.Tie as tie
 
 mul-a : tie.Need-mul-a
 mul-a c = search needs
@@ -48,7 +48,7 @@ returns c =
     let p = c .before .before in
     let q = p .before .before .before .before in
     let b = q .before .before .before .before in
-    writes (b .args .ws .now) (q .write-origin .last .0) (p .copy .last .0) (b .args .k) (b .args .s .now) (b .args .o) (b .args .distance)
+    writes (b .args .ws .now) (q .write-origin .last .0) (p .copy .last .0) (b .args .k) (b .args .s .now) (b .args .o) (b .args .value)
     (b .pre .0) (b .pre .1) (q .write-origin .ensures) (p .copy .ensures)
 
 pub write-slot-spec : {M : Type 1} → statement M

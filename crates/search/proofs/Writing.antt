@@ -1,24 +1,22 @@
 -- The run in a slot, a slot written, and the slots before it.
 use Prim.Native.Nat.{ℕ, suc, _+_, _-_, _*_, _≤_, _<_}
 use native.Mathlib.Omega.{arith}
-use native.Mathlib.Nat.{add-zero, eq-or-lt-of-le, le-of-suc-le-suc}
+use native.Mathlib.Nat.{add-zero}
 use native.Mathlib.Numerals.{towards-suc}
-use mathlib.Core.Path.{_≡_, refl, sym, ap, _∙_}
-use mathlib.Core.Logic.{_⊎_, inl, inr}
-use mathlib.Core.List.{List, [], _∷_, _++_}
-use lib.ListN.{length, take, drop, getD, set, length-set, length-append, List·getD-append}
-use lib.Seq.{sets, length-sets, take-take, take-at, take-set-le, getD-at, getD-set-same, getD-set-other, length-take-le}
-use Rattle.terms.specs.Term.{Term, zero, size}
+use mathlib.Core.Path.{_≡_, sym, ap, _∙_}
+use mathlib.Core.List.{List, _∷_, _++_}
+use lib.ListN.{length, take, drop, getD, set, length-set}
+use lib.Seq.{sets, length-sets, take-take, take-at, take-set-le, getD-set-same, getD-set-other, length-take-le}
+use Rattle.terms.specs.Term.{Term, size}
 use Rattle.terms.specs.Held.{IsRun}
 use Rattle.terms.specs.Theory.Held.{size-of}
 use Rattle.terms.proofs.Positions.{front-getD}
 use Rattle.terms.proofs.Held.{held-part, holds-part, front-holds}
 use Rattle.words.proofs.Stores.{take-stored}
-use Rattle.search.specs.Search.{Noted}
 use Rattle.search.specs.Origins.{numbers}
-use Rattle.search.specs.Slots.{SLOT, Spells, origin-of, distance-of, noted-at, Comes, Slot, Writes}
-use Rattle.search.specs.declared.bounded_search.Origin.{Origin}
-use Rattle.search.specs.declared.bounded_search.Origin.the-variants.{Start, From}
+use Rattle.search.specs.Index.{SLOT}
+use Rattle.search.specs.Runs.{Spells, origin-of, value-of, Writes}
+use Rattle.search.specs.declared.slots.Origin.{Origin}
 use Rattle.search.proofs.Front.{front-part}
 use Rattle.search.proofs.Origins.{four, getD-sets, getD-sets-other, take-sets, origin-back, origin-front}
 
@@ -102,8 +100,8 @@ module _ (ws ws₂ ws′ : List ℕ) (k : ℕ) (xs : List ℕ) (o : Origin) (d :
       origin-back ws′ (a + 1) o
       (λ i h. let e : a + 1 + i ≡ a + suc i = omega arith in rw e (number (suc i) (omega arith)))
 
-  new-distance : distance-of ws′ k ≡ d
-  new-distance =
+  new-value : value-of ws′ k ≡ d
+  new-value =
       rw stored
       (getD-sets-other written (a + 8) xs (a + 39) (λ h. omega arith)
       ∙ getD-set-same headed (a + 39) d 0 (omega (arith, length-sets ws a (header (length xs) o))))
@@ -124,7 +122,7 @@ module _ (ws ws₂ ws′ : List ℕ) (k : ℕ) (xs : List ℕ) (o : Origin) (d :
         index = apart;
         run = new-run;
         origin = new-origin;
-        distance = new-distance;
+        value = new-value;
       }
 
 -- the slots before a new one keep what they have
@@ -141,37 +139,5 @@ module _ (ws ws′ : List ℕ) (count : ℕ) (e : take (SLOT * count) ws′ ≡ 
   pub origin-kept : (k : ℕ) → k < count → origin-of ws′ k ≡ origin-of ws k
   origin-kept k h = origin-front ws ws′ (SLOT * count) (SLOT * k + 1) e (omega arith)
 
-module _ (ns : List Noted) (n : Noted) where
-  pub noted-before : (k : ℕ) → k < length ns → noted-at (ns ++ (n ∷ [])) k ≡ noted-at ns k
-  noted-before k h = List·getD-append ns (n ∷ []) (record { term = zero; trail = [] }) k h
-
-  pub noted-last : noted-at (ns ++ (n ∷ [])) (length ns) ≡ n
-  noted-last = getD-at ns n [] (record { term = zero; trail = [] }) (length ns) refl
-
-  comes-still : (o : Origin) (k : ℕ) (x : Noted) → k ≤ length ns → Comes o ns k x → Comes o (ns ++ (n ∷ [])) k x
-  comes-still Start k x h c = c
-  comes-still (From s) k x h c =
-      let p : s .parent < length ns = omega (arith, c .before) in
-      record {
-        before = c .before;
-        line = c .line;
-        marks = rw (noted-before (s .parent) p) (c .marks);
-        is = rw (noted-before (s .parent) p) (c .is);
-      }
-
-  slot-still : (ws ws′ : List ℕ) (k : ℕ) → take (SLOT * length ns) ws′ ≡ take (SLOT * length ns) ws → k < length ns → Slot ws ns k (noted-at ns k) → Slot ws′ (ns ++ (n ∷ [])) k (noted-at ns k)
-  slot-still ws ws′ k e h s =
-      record {
-        run = run-kept ws ws′ (length ns) e k (noted-at ns k .term) h (s .run);
-        origin = rw (origin-kept ws ws′ (length ns) e k h) (comes-still (origin-of ws k) k (noted-at ns k) (omega arith) (s .origin));
-        distance = front-getD ws ws′ (SLOT * length ns) (SLOT * k + 39) e (omega arith) ∙ s .distance;
-      }
-
-  -- the slots and one more
-  pub slot-more : (ws ws′ : List ℕ) → take (SLOT * length ns) ws′ ≡ take (SLOT * length ns) ws → ((k : ℕ) → k < length ns → Slot ws ns k (noted-at ns k))
-      → Slot ws′ (ns ++ (n ∷ [])) (length ns) n → (k : ℕ) → k < length (ns ++ (n ∷ [])) → Slot ws′ (ns ++ (n ∷ [])) k (noted-at (ns ++ (n ∷ [])) k)
-  slot-more ws ws′ e S new k h = go (eq-or-lt-of-le (le-of-suc-le-suc (omega (arith, h, length-append ns (n ∷ [])))))
-    where
-      go : (k ≡ length ns) ⊎ (k < length ns) → Slot ws′ (ns ++ (n ∷ [])) k (noted-at (ns ++ (n ∷ [])) k)
-      go (inl q) = rw (q, noted-last) new
-      go (inr q) = rw (noted-before k q) (slot-still ws ws′ k e q (S k q))
+  pub value-kept : (k : ℕ) → k < count → value-of ws′ k ≡ value-of ws k
+  value-kept k h = front-getD ws ws′ (SLOT * count) (SLOT * k + 39) e (omega arith)

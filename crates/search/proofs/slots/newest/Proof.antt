@@ -5,8 +5,8 @@ use lib.ListN.{length}
 use Rattle.search.specs.Index.{slots-of, bucket-at, head-of, hash-of}
 use Rattle.search.proofs.Hashing.{heads-past, heads-foreign, heads-here}
 use borrow.Author.Needs.{needs}
-use Rattle.search.proofs.index.newest.Statement.{statement}
-use Rattle.search.proofs.index.newest.Tie as tie
+use Rattle.search.proofs.slots.newest.Statement.{statement}
+use Rattle.search.proofs.slots.newest.Tie as tie
 
 mul-k : tie.Need-mul-k
 mul-k c = search needs

@@ -1,8 +1,8 @@
 -- `has_run` meets its contract.
 use Rattle.search.proofs.Hashing.{compared, hash-differs}
 use borrow.Author.Needs.{needs}
-use Rattle.search.proofs.index.has_run.Statement.{statement}
-use Rattle.search.proofs.index.has_run.Tie as tie
+use Rattle.search.proofs.slots.has_run.Statement.{statement}
+use Rattle.search.proofs.slots.has_run.Tie as tie
 
 mul-if1 : tie.Need-mul-if1
 mul-if1 c = search needs

@@ -2,8 +2,8 @@
 use native.Mathlib.Omega.{arith}
 use lib.ListN.{length-set}
 use borrow.Author.Needs.{needs}
-use Rattle.search.proofs.bounded_search.note_slot.Statement.{statement}
-use Rattle.search.proofs.bounded_search.note_slot.Tie as tie
+use Rattle.search.proofs.slots.note_slot.Statement.{statement}
+use Rattle.search.proofs.slots.note_slot.Tie as tie
 
 hash-requires : tie.Need-hash-requires
 hash-requires c κs = search needs

@@ -1,8 +1,8 @@
 -- `read_origin` meets its contract.
 use borrow.Author.Tests.{ne-eqb}
 use borrow.Author.Needs.{needs}
-use Rattle.search.proofs.bounded_search.read_origin.Statement.{statement}
-use Rattle.search.proofs.bounded_search.read_origin.Tie as tie
+use Rattle.search.proofs.slots.read_origin.Statement.{statement}
+use Rattle.search.proofs.slots.read_origin.Tie as tie
 
 mul-tag : tie.Need-mul-tag
 mul-tag c = search needs

@@ -1,8 +1,8 @@
 -- `note` meets its contract: a slot written and linked is one more noted term.
-use Rattle.search.proofs.Indexing.{notes}
+use Rattle.search.proofs.Noting.{notes}
 use borrow.Author.Needs.{needs}
-use Rattle.search.proofs.bounded_search.note.Statement.{statement}
-use Rattle.search.proofs.bounded_search.note.Tie as tie
+use Rattle.search.proofs.slots.note.Statement.{statement}
+use Rattle.search.proofs.slots.note.Tie as tie
 
 note-slot-requires : tie.Need-note-slot-requires
 note-slot-requires c κs = search needs

@@ -1,11 +1,11 @@
 -- `run_of` meets its contract: no slot that has a run is cut short.
 use native.Mathlib.Omega.{arith}
 use Prim.Native.Nat.{_*_}
-use Rattle.search.specs.Slots.{SLOT}
+use Rattle.search.specs.Index.{SLOT}
 use Rattle.search.proofs.Tracing.{shows-no-slot, shows-no-run, shows-run}
 use borrow.Author.Needs.{needs}
-use Rattle.search.proofs.path.run_of.Statement.{statement}
-use Rattle.search.proofs.path.run_of.Tie as tie
+use Rattle.search.proofs.slots.run_of.Statement.{statement}
+use Rattle.search.proofs.slots.run_of.Tie as tie
 
 mul-a : tie.Need-mul-a
 mul-a c = search needs

@@ -3,8 +3,8 @@ use native.Mathlib.Numerals.{towards-suc}
 use native.Mathlib.Omega.{arith}
 use lib.ListN.{length-set}
 use borrow.Author.Needs.{needs}
-use Rattle.search.proofs.bounded_search.write_origin.Statement.{statement}
-use Rattle.search.proofs.bounded_search.write_origin.Tie as tie
+use Rattle.search.proofs.slots.write_origin.Statement.{statement}
+use Rattle.search.proofs.slots.write_origin.Tie as tie
 
 enum-told : tie.Need-enum-told
 enum-told c = search needs

@@ -1,13 +1,13 @@
--- `listed` meets its contract. The loop's invariant: the first `end` slots decide, and slot `k` is the newest of them in the run's bucket.
+-- `slot_of` meets its contract. The loop's invariant: no slot from `end` on has the run, and of the others slot `k` is the newest in the run's bucket.
 use Prim.Native.Nat.{_≤_}
 use native.Mathlib.Omega.{arith}
-use Rattle.search.proofs.Noting.{Going, Leading, Tells, going-starts, leading-starts, leading-next, none-noted, tells, found-nowhere}
+use Rattle.search.proofs.Looking.{Passed, Leading, Tells, passed-starts, leading-starts, leading-next, none-noted, tells, found-nowhere}
 use borrow.Author.Needs.{needs}
-use Rattle.search.proofs.bounded_search.listed.Statement.{statement}
-use Rattle.search.proofs.bounded_search.listed.Tie as tie
+use Rattle.search.proofs.slots.slot_of.Statement.{statement}
+use Rattle.search.proofs.slots.slot_of.Tie as tie
 
 abbrev Inv-loop : tie.InvT-loop
-Inv-loop ws count s buckets end₀ h k₀ end k = (end ≤ count) × Going ws count s end × Leading ws count s end k
+Inv-loop ws count s buckets end₀ h k₀ end k = (end ≤ count) × Passed ws count s end × Leading ws count s end k
 
 abbrev μ-loop : tie.MeasureT-loop
 μ-loop ws count s buckets end₀ h k₀ end k = end
@@ -38,7 +38,7 @@ loop-holds c =
     let d = b .before .before .before in
     let a = d .before .before .before .args in
     let e = rw (d .slots-of .ensures, b .before .hash .ensures) at (b .bucket-at .ensures .0) in
-    (omega arith, going-starts (a .ws .now) (a .count) (a .s .now), leading-starts (a .s .now) e (c .newest .ensures))
+    (omega arith, passed-starts (a .ws .now) (a .count) (a .s .now), leading-starts (a .s .now) e (c .newest .ensures))
 
 has-run-requires : tie.Need-has-run-requires Inv-loop μ-loop
 has-run-requires c κs = search needs
@@ -84,8 +84,8 @@ loop-again c =
 returns-3 : tie.Need-returns-3 Inv-loop μ-loop
 returns-3 c = let v = c .before .loop .inv in found-nowhere (v .1) (v .2) (v .0) (omega arith)
 
-pub listed-spec : {M : Type 1} → statement M
-listed-spec =
+pub slot-of-spec : {M : Type 1} → statement M
+slot-of-spec =
     tie.close
     (tie.spec
     Inv-loop

@@ -1,8 +1,8 @@
 -- `origin_of` meets its contract: no noted term stands past the end of the slots.
 use Rattle.search.proofs.Tracing.{origin-missed}
 use borrow.Author.Needs.{needs}
-use Rattle.search.proofs.path.origin_of.Statement.{statement}
-use Rattle.search.proofs.path.origin_of.Tie as tie
+use Rattle.search.proofs.slots.origin_of.Statement.{statement}
+use Rattle.search.proofs.slots.origin_of.Tie as tie
 
 mul-at : tie.Need-mul-at
 mul-at c = search needs
