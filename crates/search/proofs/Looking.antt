@@ -18,8 +18,7 @@ use Rattle.search.specs.Runs.{term-at, home, Runs, is-in, Heads, Compare
 use Rattle.search.specs.declared.slots.Found.{Found}
 use Rattle.search.specs.declared.slots.Found.the-variants.{At, Nothing}
 
--- what the test of two terms says
-
+-- the test tells different terms apart
 pub told-apart : (s t : Term) → (s ≡ t → ⊥) → same s t ≡ false
 told-apart s t h = go (same s t) (same-reflects s t)
   where
@@ -95,7 +94,7 @@ module _ {ws : List ℕ} {count : ℕ} {xs : List ℕ} {end k : ℕ} (P : Passed
 
 -- the slot or none, as a test
 
-pub is-in-reflects : (t : Term) (ts : List Term) → Reflects (t ∈ ts) (is-in t ts)
+is-in-reflects : (t : Term) (ts : List Term) → Reflects (t ∈ ts) (is-in t ts)
 unfolding is-in
 is-in-reflects t [] = not-in-nil
 is-in-reflects t (x ∷ ts) = go (same t x) (same-reflects t x) (is-in t ts) (is-in-reflects t ts)

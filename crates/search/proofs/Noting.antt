@@ -1,4 +1,4 @@
--- The noted terms in the slots: what is said of the terms is said of them, and a slot noted is one more of them.
+-- FIND's noted terms in the slots: what the slots say of terms, said of noted terms, and a slot noted as one more of them.
 use Prim.Native.Nat.{ℕ, _+_, _<_, _≤_}
 use native.Mathlib.Omega.{arith}
 use native.Mathlib.Nat.{eq-or-lt-of-le, le-of-suc-le-suc}
