@@ -69,8 +69,8 @@ impl Earlier {
     }
 }
 
-/// Rounds for the jobs at the largest limits: more than beside the Rust, which takes seconds there.
-const LEAST_ROUNDS: usize = 20;
+/// Rounds for the jobs at the largest limits: more than beside the Rust, which takes seconds there, since they wait for memory and vary.
+const LEAST_ROUNDS: usize = 100;
 
 pub fn rows(library: Option<&str>, workspace: &mut Workspace) {
     let Some(file) = library else {
