@@ -1,0 +1,51 @@
+//! Puvainy's entries from Rust: the archive's functions over slices, and buffers that they are asked with.
+
+mod buffers;
+pub mod entries;
+
+pub use buffers::{Asked, Buffers, Room};
+
+/// The numbers of a slot.
+pub const SLOT: usize = 40;
+
+/// The most slots that are used.
+pub const MOST_SLOTS: usize = 65_535;
+
+/// The most bytes of room that are given: more than any answer has.
+pub const MOST_ROOM: usize = 1 << 25;
+
+/// What an answer's length is added to in the number that an entry returns.
+pub const ANSWER: usize = 100;
+
+/// An entry that takes a job.
+#[derive(Clone, Copy, Debug, Eq, PartialEq)]
+pub enum Entry {
+    Find,
+    Words,
+    Rename,
+}
+
+impl Entry {
+    pub const ALL: [Entry; 3] = [Entry::Find, Entry::Words, Entry::Rename];
+
+    pub fn name(self) -> &'static str {
+        match self {
+            Entry::Find => "find",
+            Entry::Words => "words",
+            Entry::Rename => "rename",
+        }
+    }
+
+    pub fn named(name: &str) -> Option<Entry> {
+        Entry::ALL.into_iter().find(|entry| entry.name() == name)
+    }
+
+    /// Calls the entry over lent buffers: what it returns. FIND alone takes the workspace.
+    pub fn call(self, job: &[u8], output: &mut [u8], workspace: &mut [u32]) -> usize {
+        match self {
+            Entry::Find => entries::find(job, output, workspace),
+            Entry::Words => entries::words(job, output),
+            Entry::Rename => entries::rename(job, output),
+        }
+    }
+}

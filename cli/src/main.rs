@@ -1,0 +1,4 @@
+mod names;
+mod term;
+
+fn main() {}

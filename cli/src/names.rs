@@ -1,0 +1,100 @@
+//! What the letters stand for, by a file of lines `v0 Orders`. Names are shown to people and never stand in an answer.
+
+use std::collections::BTreeMap;
+
+use crate::term::{Term, is_letter};
+
+/// The names of some letters.
+#[derive(Debug, Default)]
+pub struct Names(BTreeMap<String, String>);
+
+impl Names {
+    /// Reads lines of a letter, a space and its name; blank lines are passed over. Or says what is wrong, and in which line.
+    pub fn read(bytes: &[u8]) -> Result<Names, String> {
+        let text = str::from_utf8(bytes).map_err(|error| {
+            let before = &bytes[..error.valid_up_to()];
+            let line = 1 + before.iter().filter(|&&byte| byte == b'\n').count();
+            format!("line {line}: this is no UTF-8 text; save the names as UTF-8")
+        })?;
+        let text = text.strip_prefix('\u{feff}').unwrap_or(text);
+        let mut names = Names::default();
+        for (index, line) in text.lines().enumerate() {
+            let added = names.add(line.trim());
+            added.map_err(|why| format!("line {}: {why}", index + 1))?;
+        }
+        Ok(names)
+    }
+
+    fn add(&mut self, line: &str) -> Result<(), String> {
+        if line.is_empty() {
+            return Ok(());
+        }
+        let (letter, name) = line.split_once([' ', '\t']).unwrap_or((line, ""));
+        let name = name.trim();
+        if !is_letter(letter) {
+            return Err("a line begins with a letter, v0 to v999, as in `v0 Orders`".to_owned());
+        }
+        if name.is_empty() {
+            return Err(format!("{letter} has no name; write one behind it, as in `v0 Orders`"));
+        }
+        if name.chars().any(char::is_control) {
+            return Err(format!("the name of {letter} holds a control character; take it out"));
+        }
+        match self.0.insert(letter.to_owned(), name.to_owned()) {
+            None => Ok(()),
+            Some(former) => Err(format!("{letter} is named {former} already; name each letter once")),
+        }
+    }
+
+    pub fn is_empty(&self) -> bool {
+        self.0.is_empty()
+    }
+
+    /// The item's name, if it has one.
+    pub fn get(&self, item: &str) -> Option<&str> {
+        self.0.get(item).map(String::as_str)
+    }
+
+    /// The item's name, or the item itself.
+    pub fn or_item<'a>(&'a self, item: &'a str) -> &'a str {
+        self.get(item).unwrap_or(item)
+    }
+
+    /// The term for people: signs between their parts, brackets about each part that is no letter, names for letters.
+    pub fn spell(&self, term: &Term) -> String {
+        match term {
+            Term::Atom(item) => self.or_item(item).to_owned(),
+            Term::Over(sign, parts) => {
+                let [left, right] = parts.each_ref().map(|part| match part {
+                    Term::Atom(_) => self.spell(part),
+                    Term::Over(..) => format!("({})", self.spell(part)),
+                });
+                format!("{left} {sign} {right}")
+            }
+        }
+    }
+}
+
+#[cfg(test)]
+mod tests {
+    use super::*;
+
+    #[test]
+    fn names_stand_for_letters_in_a_spelled_term() {
+        let names = Names::read("v0 Orders\r\n\nv1\tNorth stock\n".as_bytes()).unwrap();
+        let term = Term::read("+ * v0 v1 * v0 + v2 0").unwrap();
+        let spelled = "(Orders * North stock) + (Orders * (v2 + 0))";
+        assert_eq!(names.spell(&term), spelled);
+        assert_eq!(names.get("v2"), None);
+    }
+
+    #[test]
+    fn a_line_that_names_nothing_is_told() {
+        let told = |bytes: &[u8]| Names::read(bytes).unwrap_err();
+        assert!(told(b"v0 Orders\nOrders v1\n").starts_with("line 2: a line begins with a letter"));
+        assert!(told(b"v0 \n").starts_with("line 1: v0 has no name"));
+        assert!(told(b"v0 A\nv0 B\n").starts_with("line 2: v0 is named A already"));
+        assert!(told(b"v0 A\x1b[2J\n").starts_with("line 1: the name of v0 holds a control"));
+        assert!(told(b"v0 A\n\nv1 \xff\n").starts_with("line 3: this is no UTF-8"));
+    }
+}
