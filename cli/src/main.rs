@@ -1,4 +1,25 @@
-mod names;
-mod term;
+//! The command `puvainy`: each entry from a shell. A word says what is asked; every word stands in one table (`word`).
 
-fn main() {}
+mod args;
+mod ask;
+mod closed;
+mod failure;
+mod job;
+mod names;
+mod picture;
+mod refusals;
+mod streams;
+mod term;
+mod word;
+
+use std::process::ExitCode;
+
+use failure::{Status, say};
+
+fn main() -> ExitCode {
+    let status = word::run(std::env::args_os().skip(1).collect()).unwrap_or_else(|failure| {
+        say(&failure.0);
+        Status::Failed
+    });
+    ExitCode::from(status as u8)
+}

@@ -1,14 +1,27 @@
 //! What the letters stand for, by a file of lines `v0 Orders`. Names are shown to people and never stand in an answer.
 
 use std::collections::BTreeMap;
+use std::ffi::OsStr;
 
+use crate::failure::{Failure, shown};
+use crate::streams::Source;
 use crate::term::{Term, is_letter};
+
+/// More bytes than a file of names needs.
+const MOST_BYTES: usize = 1 << 20;
 
 /// The names of some letters.
 #[derive(Debug, Default)]
 pub struct Names(BTreeMap<String, String>);
 
 impl Names {
+    /// The names in the file, or why they cannot be had.
+    pub fn from_file(file: &OsStr) -> Result<Names, Failure> {
+        let source = Source::File(file.into());
+        let bytes = source.read(MOST_BYTES)?;
+        Names::read(&bytes).map_err(|why| Failure(format!("the names in {}: {why}", source.name())))
+    }
+
     /// Reads lines of a letter, a space and its name; blank lines are passed over. Or says what is wrong, and in which line.
     pub fn read(bytes: &[u8]) -> Result<Names, String> {
         let text = str::from_utf8(bytes).map_err(|error| {
@@ -35,14 +48,20 @@ impl Names {
             return Err("a line begins with a letter, v0 to v999, as in `v0 Orders`".to_owned());
         }
         if name.is_empty() {
-            return Err(format!("{letter} has no name; write one behind it, as in `v0 Orders`"));
+            return Err(format!(
+                "{letter} has no name; write one behind it, as in `v0 Orders`"
+            ));
         }
         if name.chars().any(char::is_control) {
-            return Err(format!("the name of {letter} holds a control character; take it out"));
+            return Err(format!(
+                "the name of {letter} holds a control character; take it out"
+            ));
         }
         match self.0.insert(letter.to_owned(), name.to_owned()) {
             None => Ok(()),
-            Some(former) => Err(format!("{letter} is named {former} already; name each letter once")),
+            Some(former) => Err(format!(
+                "{letter} is named {former} already; name each letter once"
+            )),
         }
     }
 
@@ -58,6 +77,18 @@ impl Names {
     /// The item's name, or the item itself.
     pub fn or_item<'a>(&'a self, item: &'a str) -> &'a str {
         self.get(item).unwrap_or(item)
+    }
+
+    /// A side of a job or an answer for people, if there are names: `left: Orders * (North stock + South stock)`.
+    pub fn side(&self, key: &str, side: &str) -> Option<String> {
+        let spelled = match Term::read(side) {
+            Some(term) => self.spell(&term),
+            None => {
+                let items: Vec<_> = side.split(' ').map(|item| self.or_item(item)).collect();
+                shown(&items.join(" "))
+            }
+        };
+        (!self.is_empty()).then(|| format!("{key}: {spelled}"))
     }
 
     /// The term for people: signs between their parts, brackets about each part that is no letter, names for letters.

@@ -55,7 +55,9 @@ mod tests {
         let join = Term::Over("*", Box::new([Term::Atom("v0"), Term::Atom("1")]));
         let stack = Term::Over("+", Box::new([join, Term::Atom("v999")]));
         assert_eq!(Term::read("+ * v0 1 v999"), Some(stack));
-        for text in ["", "+ v0", "v0 + 0", "v0 ", "+  v0 v1", "v1000", "v01", "v", "2", "\u{e9}"] {
+        for text in [
+            "", "+ v0", "v0 + 0", "v0 ", "+  v0 v1", "v1000", "v01", "v", "2", "\u{e9}",
+        ] {
             assert_eq!(Term::read(text), None, "{text}");
         }
     }

@@ -1,0 +1,158 @@
+//! The words of a call, behind the first: options with their values, and files.
+
+use std::collections::VecDeque;
+use std::ffi::OsString;
+
+use crate::failure::{Failure, shown};
+use crate::streams::Source;
+
+/// One of the words.
+pub enum Arg {
+    /// An option by its long name, as in `--slots`.
+    Option(String),
+    File(Source),
+}
+
+/// The words that are left to read.
+pub struct Args {
+    rest: VecDeque<OsString>,
+    /// The value that stands in the option's own word, as in `--slots=400`.
+    value: Option<OsString>,
+    /// Whether `--` was met: what follows is files.
+    only_files: bool,
+}
+
+impl Args {
+    pub fn new(words: Vec<OsString>) -> Args {
+        Args {
+            rest: words.into(),
+            value: None,
+            only_files: false,
+        }
+    }
+
+    /// The next word.
+    pub fn next(&mut self) -> Result<Option<Arg>, Failure> {
+        let Some(word) = self.rest.pop_front() else {
+            return Ok(None);
+        };
+        if self.only_files || word == "-" || !word.as_encoded_bytes().starts_with(b"-") {
+            return Ok(Some(Arg::File(Source::named(&word))));
+        }
+        if word == "--" {
+            self.only_files = true;
+            return self.next();
+        }
+        let Some(option) = word.to_str() else {
+            return Err(unknown(&word.to_string_lossy()));
+        };
+        let (name, value) = match option.split_once('=') {
+            Some((name, value)) => (name, Some(value)),
+            None => (option, None),
+        };
+        self.value = value.map(OsString::from);
+        let long = match name {
+            "-h" => "--help",
+            "-V" => "--version",
+            _ => name,
+        };
+        Ok(Some(Arg::Option(long.to_owned())))
+    }
+
+    /// Nothing, for an option without a value.
+    pub fn no_value(&mut self, option: &str) -> Result<(), Failure> {
+        match self.value.take() {
+            None => Ok(()),
+            Some(_) => Err(Failure(format!("{option} takes no value"))),
+        }
+    }
+
+    /// The value of the option that was read last.
+    pub fn value(&mut self, option: &str, what: &str) -> Result<OsString, Failure> {
+        let given = self.value.take().or_else(|| self.rest.pop_front());
+        given.ok_or_else(|| Failure(format!("{option} takes {what}, and nothing follows it")))
+    }
+
+    /// Its value, a number.
+    pub fn number(&mut self, option: &str, least: usize, most: usize) -> Result<usize, Failure> {
+        let what = format!("a number from {least} to {most}");
+        let given = self.value(option, &what)?;
+        let digits = given.to_string_lossy();
+        let is_plain = digits.bytes().all(|byte| byte.is_ascii_digit());
+        match digits.parse() {
+            Ok(number) if is_plain && (least..=most).contains(&number) => Ok(number),
+            _ => Err(Failure(format!(
+                "{option} takes {what}, not {}",
+                shown(&digits)
+            ))),
+        }
+    }
+}
+
+/// What is said of an option that the word does not have.
+pub fn unknown(option: &str) -> Failure {
+    Failure(format!(
+        "there is no option {} here; --help shows those there are",
+        shown(option)
+    ))
+}
+
+#[cfg(test)]
+mod tests {
+    use super::*;
+
+    fn args(words: &[&str]) -> Args {
+        Args::new(words.iter().map(OsString::from).collect())
+    }
+
+    /// The next word as a text, `None` at the end.
+    fn told(args: &mut Args) -> Option<String> {
+        args.next().unwrap().map(|arg| match arg {
+            Arg::Option(option) => option,
+            Arg::File(source) => source.name(),
+        })
+    }
+
+    #[test]
+    fn options_and_files_may_stand_in_any_order() {
+        let mut args = args(&[
+            "a.job", "--slots", "7", "-", "--room=0", "-h", "--", "--slots",
+        ]);
+        assert_eq!(told(&mut args).unwrap(), "a.job");
+        assert_eq!(told(&mut args).unwrap(), "--slots");
+        assert_eq!(args.number("--slots", 0, 7), Ok(7));
+        assert_eq!(told(&mut args).unwrap(), "standard input");
+        assert_eq!(told(&mut args).unwrap(), "--room");
+        assert_eq!(args.number("--room", 0, 7), Ok(0));
+        assert_eq!(told(&mut args).unwrap(), "--help");
+        assert_eq!(told(&mut args).unwrap(), "--slots");
+        assert_eq!(told(&mut args), None);
+    }
+
+    #[test]
+    fn a_value_is_a_plain_number_within_its_bounds() {
+        for given in ["", "8", "+7", "-1", "7 ", "x", "99999999999999999999"] {
+            let mut args = args(&["--slots", given]);
+            assert!(matches!(args.next(), Ok(Some(Arg::Option(_)))));
+            let Failure(why) = args.number("--slots", 0, 7).unwrap_err();
+            assert_eq!(
+                why,
+                format!("--slots takes a number from 0 to 7, not {given}")
+            );
+        }
+    }
+
+    #[test]
+    fn a_missing_value_and_a_needless_one_are_told() {
+        let mut args = args(&["--help=yes", "--slots"]);
+        assert_eq!(told(&mut args).unwrap(), "--help");
+        assert!(args.no_value("--help").is_err());
+        assert_eq!(told(&mut args).unwrap(), "--slots");
+        assert!(
+            args.number("--slots", 0, 7)
+                .unwrap_err()
+                .0
+                .ends_with("nothing follows it")
+        );
+    }
+}

@@ -1,0 +1,95 @@
+//! One job put to the entry: what is printed of it, and what is said to people.
+
+use puvainy::{Buffers, Room};
+
+use super::Asking;
+use super::none;
+use crate::failure::{Failure, Status};
+use crate::job::Job;
+use crate::refusals::{self, Fault, Found};
+use crate::streams::Source;
+
+/// More bytes than any job may have, so that a longer text is refused and an endless one is not read on.
+const MOST_BYTES: usize = 1 << 16;
+
+/// What a job gave.
+pub struct Told {
+    pub status: Status,
+    /// For standard output: the answer, or a refusal's two lines.
+    pub printed: Vec<u8>,
+    /// For standard error, line by line.
+    pub said: Vec<String>,
+}
+
+impl Told {
+    /// Of a job that broke down.
+    pub fn lost(job: &Source) -> Told {
+        let why = "this job broke down and is not answered; the others are";
+        Told::failed(format!("{}: {why}", job.name()))
+    }
+
+    fn failed(why: String) -> Told {
+        Told {
+            status: Status::Failed,
+            printed: Vec::new(),
+            said: vec![why],
+        }
+    }
+}
+
+/// One thread's asker, with buffers of its own.
+pub struct Asker<'a> {
+    asking: &'a Asking,
+    buffers: Buffers,
+}
+
+impl<'a> Asker<'a> {
+    pub fn new(asking: &'a Asking) -> Asker<'a> {
+        Asker {
+            asking,
+            buffers: Buffers::new(asking.slots, asking.room),
+        }
+    }
+
+    /// Reads the job and asks the entry.
+    pub fn ask(&mut self, source: &Source) -> Told {
+        let bytes = match source.read_begin(MOST_BYTES) {
+            Ok(bytes) => bytes,
+            Err(Failure(why)) => return Told::failed(why),
+        };
+        let asking = self.asking;
+        match self.buffers.ask(asking.entry, &bytes) {
+            Ok(answer) => Told {
+                status: Status::Answered,
+                said: none::sentences(&source.name(), answer, &asking.names),
+                printed: answer.to_vec(),
+            },
+            Err(number) => Told {
+                status: Status::Refused,
+                said: refused(&source.name(), number, &bytes, asking),
+                printed: format!("answer=refused\nnumber={number}\n").into_bytes(),
+            },
+        }
+    }
+}
+
+/// What is said of a refused job.
+fn refused(name: &str, number: usize, bytes: &[u8], asking: &Asking) -> Vec<String> {
+    let job = Job::new(bytes);
+    let found = job.fault(number).or_else(|| lacking(number, asking));
+    let mut said = vec![format!("{name}: {}", refusals::sentence(number, found))];
+    for (key, side) in job.sides() {
+        said.extend(asking.names.side(key, side));
+    }
+    said
+}
+
+/// What the job was given too little of.
+fn lacking(number: usize, asking: &Asking) -> Option<Found> {
+    let (fault, place) = match (number, asking.room) {
+        (7, _) => (Fault::Slots, format!("with {} slots", asking.slots)),
+        (8, Room::Bytes(bytes)) => (Fault::Room, format!("with {bytes} bytes")),
+        _ => return None,
+    };
+    Some(Found { fault, place })
+}

@@ -1,0 +1,68 @@
+//! How a call of the command ends, and what it says to people.
+
+use std::io::{Error, ErrorKind, Write, stderr};
+
+/// The exit status; of several jobs the highest.
+#[derive(Clone, Copy, Debug, Eq, Ord, PartialEq, PartialOrd)]
+pub enum Status {
+    /// Every job was answered.
+    Answered = 0,
+    /// A job was refused.
+    Refused = 1,
+    /// Something could not be read or written, or the call was wrong.
+    Failed = 2,
+}
+
+/// Why the command ends with `Status::Failed`: a sentence without its full stop.
+#[derive(Debug, Eq, PartialEq)]
+pub struct Failure(pub String);
+
+/// Says a line on standard error. Where that cannot be written, the status alone tells.
+pub fn say(line: &str) {
+    let _ = writeln!(stderr(), "puvainy: {line}");
+}
+
+/// The error in plain words.
+pub fn plain(error: &Error) -> String {
+    match error.kind() {
+        ErrorKind::NotFound => "there is no such file".to_owned(),
+        ErrorKind::IsADirectory => "it is a directory".to_owned(),
+        ErrorKind::PermissionDenied => "it is not allowed".to_owned(),
+        ErrorKind::BrokenPipe => "its reader is gone".to_owned(),
+        ErrorKind::StorageFull => "there is no space left".to_owned(),
+        _ => error.to_string(),
+    }
+}
+
+/// The text with nothing in it that a terminal would obey or that would break a line.
+pub fn shown(text: &str) -> String {
+    let mut shown = String::new();
+    for character in text.chars() {
+        if character.is_control() {
+            shown.extend(character.escape_default());
+        } else {
+            shown.push(character);
+        }
+    }
+    shown
+}
+
+#[cfg(test)]
+mod tests {
+    use super::*;
+
+    #[test]
+    fn the_highest_status_counts() {
+        assert_eq!(Status::Refused.max(Status::Answered), Status::Refused);
+        assert_eq!(Status::Refused.max(Status::Failed), Status::Failed);
+        assert_eq!(
+            [0, 1, 2],
+            [Status::Answered, Status::Refused, Status::Failed].map(|s| s as u8)
+        );
+    }
+
+    #[test]
+    fn a_shown_text_obeys_nothing() {
+        assert_eq!(shown("a\nb\u{1b}[2J\u{e9}"), "a\\nb\\u{1b}[2J\u{e9}");
+    }
+}

@@ -1,0 +1,110 @@
+//! Files and standard streams, read and written so that no error is passed over.
+
+use std::ffi::OsStr;
+use std::fs::File;
+use std::io::{BufWriter, Error, Read, Write, stdin, stdout};
+use std::os::fd::AsFd;
+use std::path::PathBuf;
+
+use crate::closed;
+use crate::failure::{Failure, plain, shown};
+
+/// Where a text comes from.
+#[derive(Clone, Debug, Eq, PartialEq)]
+pub enum Source {
+    Input,
+    File(PathBuf),
+}
+
+impl Source {
+    /// The file of that name; `-` is standard input.
+    pub fn named(name: &OsStr) -> Source {
+        match name == "-" {
+            true => Source::Input,
+            false => Source::File(PathBuf::from(name)),
+        }
+    }
+
+    /// Its name for people.
+    pub fn name(&self) -> String {
+        match self {
+            Source::Input => "standard input".to_owned(),
+            Source::File(path) => shown(&path.to_string_lossy()),
+        }
+    }
+
+    /// All of it, if it has at most so many bytes.
+    pub fn read(&self, most: usize) -> Result<Vec<u8>, Failure> {
+        let bytes = self.read_begin(most + 1)?;
+        match bytes.len() <= most {
+            true => Ok(bytes),
+            false => Err(self.unread(&format!("it has over {most} bytes"))),
+        }
+    }
+
+    /// At most so many bytes of it, from the beginning.
+    pub fn read_begin(&self, most: usize) -> Result<Vec<u8>, Failure> {
+        let read = match self {
+            Source::Input if closed::input() => return Err(self.unread("it is closed")),
+            Source::Input => input().and_then(|file| read(file, most)),
+            Source::File(path) => File::open(path).and_then(|file| read(file, most)),
+        };
+        read.map_err(|error| self.unread(&plain(&error)))
+    }
+
+    fn unread(&self, why: &str) -> Failure {
+        Failure(format!("cannot read {}: {why}", self.name()))
+    }
+}
+
+/// Standard input as a file: the library's own takes one that may not be read for an empty one.
+fn input() -> Result<File, Error> {
+    Ok(File::from(stdin().as_fd().try_clone_to_owned()?))
+}
+
+fn read(file: File, most: usize) -> Result<Vec<u8>, Error> {
+    let mut bytes = Vec::new();
+    file.take(most as u64).read_to_end(&mut bytes)?;
+    Ok(bytes)
+}
+
+/// Standard output. Each failure to write is told, and none is met with silence.
+pub struct Output(BufWriter<File>);
+
+impl Output {
+    /// Standard output as a file: the library's own passes over one that may not be written.
+    pub fn new() -> Result<Output, Failure> {
+        if closed::output() {
+            return Err(unwritten("it is closed"));
+        }
+        let file = stdout()
+            .as_fd()
+            .try_clone_to_owned()
+            .map_err(cannot_write)?;
+        Ok(Output(BufWriter::new(File::from(file))))
+    }
+
+    pub fn write(&mut self, bytes: &[u8]) -> Result<(), Failure> {
+        self.0.write_all(bytes).map_err(cannot_write)
+    }
+
+    /// Sees to it that what was written is out.
+    pub fn flush(&mut self) -> Result<(), Failure> {
+        self.0.flush().map_err(cannot_write)
+    }
+}
+
+/// Prints one text on standard output.
+pub fn print(text: &str) -> Result<(), Failure> {
+    let mut output = Output::new()?;
+    output.write(text.as_bytes())?;
+    output.flush()
+}
+
+fn cannot_write(error: Error) -> Failure {
+    unwritten(&plain(&error))
+}
+
+fn unwritten(why: &str) -> Failure {
+    Failure(format!("cannot write to standard output: {why}"))
+}

@@ -1,0 +1,86 @@
+//! The words that put jobs to an entry: find, words, rename.
+
+use std::ffi::OsString;
+
+use puvainy::{Entry, MOST_ROOM, MOST_SLOTS, Room};
+
+use super::Word;
+use crate::args::{Arg, Args, unknown};
+use crate::ask::{Asking, ask};
+use crate::failure::{Failure, Status};
+use crate::names::Names;
+use crate::streams::Source;
+
+pub const FIND: Word = Word {
+    name: "find",
+    usage: USAGE,
+    does: "a shortest derivation from the smaller plan to the larger, or that there is none within the limits",
+    more: MORE,
+    run: |words| run(&FIND, Entry::Find, words),
+};
+
+pub const WORDS: Word = Word {
+    name: "words",
+    usage: USAGE,
+    does: "the words of both plans when multiplied out, and whether they are the same",
+    more: MORE,
+    run: |words| run(&WORDS, Entry::Words, words),
+};
+
+pub const RENAME: Word = Word {
+    name: "rename",
+    usage: USAGE,
+    does: "the equation of both plans under the least renaming of its letters",
+    more: MORE,
+    run: |words| run(&RENAME, Entry::Rename, words),
+};
+
+const USAGE: &str = "[--slots N] [--room N] [--names FILE] [FILE...]";
+
+const MORE: &str = "\
+A job is read from each FILE, or from standard input if none is named (or by the FILE -). The answer goes
+to standard output; of several FILEs each after a line `# FILE`, in the order given. What is wrong with a
+refused job, and what to do about it and about a none, is said on standard error.
+
+  --slots N     slots for the terms that are noted, 0 to 65535 (65535 unless said); only find uses them
+  --room N      bytes of room for an answer, 0 to 33554432 (as many as it needs unless said)
+  --names FILE  lines `v0 Orders`: the names are used where people read, on standard error
+  --            what follows is a FILE, even if it begins with -
+";
+
+/// Reads the options and asks.
+fn run(word: &Word, entry: Entry, words: Vec<OsString>) -> Result<Status, Failure> {
+    let mut asking = Asking {
+        entry,
+        slots: MOST_SLOTS,
+        room: Room::Grows,
+        names: Names::default(),
+    };
+    let mut jobs = Vec::new();
+    let mut args = Args::new(words);
+    while let Some(arg) = args.next()? {
+        let option = match arg {
+            Arg::File(source) => {
+                jobs.push(source);
+                continue;
+            }
+            Arg::Option(option) => option,
+        };
+        match option.as_str() {
+            "--help" => return word.help(&mut args),
+            "--slots" => asking.slots = args.number(&option, 0, MOST_SLOTS)?,
+            "--room" => asking.room = Room::Bytes(args.number(&option, 0, MOST_ROOM)?),
+            "--names" => asking.names = Names::from_file(&args.value(&option, "a file")?)?,
+            _ => return Err(unknown(&option)),
+        }
+    }
+    if jobs.is_empty() {
+        jobs.push(Source::Input);
+    }
+    if jobs.iter().filter(|&job| *job == Source::Input).count() > 1 {
+        return Err(Failure(
+            "- is standard input, which can be read once only".to_owned(),
+        ));
+    }
+    ask(&asking, &jobs)
+}

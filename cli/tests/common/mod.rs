@@ -1,0 +1,61 @@
+//! Calls of the built command.
+
+use std::io::Write;
+use std::path::{Path, PathBuf};
+use std::process::{Command, Output, Stdio};
+
+/// The command.
+pub const PUVAINY: &str = env!("CARGO_BIN_EXE_puvainy");
+
+/// A file of the guide.
+pub fn guide(name: &str) -> PathBuf {
+    Path::new(env!("CARGO_MANIFEST_DIR"))
+        .join("../docs/guide")
+        .join(name)
+}
+
+/// What a call gave: its status, and the texts on both streams.
+#[derive(Debug)]
+pub struct Gave {
+    pub status: Option<i32>,
+    pub printed: String,
+    pub said: String,
+}
+
+impl From<Output> for Gave {
+    fn from(output: Output) -> Gave {
+        Gave {
+            status: output.status.code(),
+            printed: String::from_utf8(output.stdout).expect("text"),
+            said: String::from_utf8(output.stderr).expect("text"),
+        }
+    }
+}
+
+/// Calls the command among the guide's files, with nothing on standard input.
+pub fn puvainy(words: &[&str]) -> Gave {
+    puvainy_on(words, b"")
+}
+
+/// Likewise, with these bytes on standard input, as far as they are read.
+pub fn puvainy_on(words: &[&str], input: &[u8]) -> Gave {
+    let mut command = Command::new(PUVAINY);
+    command.args(words).current_dir(guide(""));
+    let piped = command
+        .stdin(Stdio::piped())
+        .stdout(Stdio::piped())
+        .stderr(Stdio::piped());
+    let mut child = piped.spawn().expect("the command starts");
+    let _ = child.stdin.take().expect("it is piped").write_all(input);
+    child.wait_with_output().expect("the command ends").into()
+}
+
+/// Runs a line of the shell among the guide's files, where $P is the command.
+pub fn shell(line: &str) -> Gave {
+    let mut command = Command::new("sh");
+    command
+        .args(["-c", line])
+        .env("P", PUVAINY)
+        .current_dir(guide(""));
+    command.output().expect("the shell starts").into()
+}
