@@ -49,3 +49,17 @@ impl Entry {
         }
     }
 }
+
+#[cfg(test)]
+mod tests {
+    use super::*;
+
+    #[test]
+    fn every_entry_is_found_by_its_name() {
+        for entry in Entry::ALL {
+            assert_eq!(Entry::named(entry.name()), Some(entry));
+        }
+        assert_eq!(Entry::named("FIND"), None);
+        assert_eq!(Entry::named(""), None);
+    }
+}
