@@ -2,7 +2,7 @@
 //!
 //! Each is proved for slices of any length and contents: it reads and writes nothing beside them, and keeps none. So a call asks of its
 //! pointers only what every slice has: they are aligned and not null, even those of empty slices, and no two slices overlap, as two are
-//! borrowed mutably. A call takes up to 190,000 bytes of stack (include/puvainy.h); a thread that is started with less must make none.
+//! borrowed mutably. A call takes the stack that include/puvainy.h says; a thread that is started with less must make none.
 
 unsafe extern "C" {
     fn puvainy_find(
@@ -17,7 +17,7 @@ unsafe extern "C" {
     fn puvainy_rename(job: *const u8, job_len: usize, output: *mut u8, output_len: usize) -> usize;
 }
 
-/// FIND: what the call returns, 100 plus the answer's length or the number of a refusal.
+/// FIND: what the call returns, `ANSWER` plus the answer's length or the number of a refusal.
 pub fn find(job: &[u8], output: &mut [u8], workspace: &mut [u32]) -> usize {
     let (room, count) = (output.len(), workspace.len());
     let (out, numbers) = (output.as_mut_ptr(), workspace.as_mut_ptr());
