@@ -83,6 +83,19 @@ mod tests {
     }
 
     #[test]
+    fn each_entry_answers_as_the_guide_has_it() {
+        let job = include_bytes!("../../docs/guide/archive.job");
+        let mut buffers = Buffers::new(400, Room::Grows);
+        let mut ask = |entry| buffers.ask(entry, job).map(<[u8]>::to_vec).unwrap();
+        let find = include_bytes!("../../docs/guide/archive.answer");
+        let words = include_bytes!("../../docs/guide/archive.words");
+        let rename = include_bytes!("../../docs/guide/archive.rename");
+        assert_eq!(ask(Entry::Find), find);
+        assert_eq!(ask(Entry::Words), words);
+        assert_eq!(ask(Entry::Rename), rename);
+    }
+
+    #[test]
     fn an_output_grows_until_the_answer_fits() {
         let mut buffers = Buffers::new(MOST_SLOTS, Room::Grows);
         assert!(buffers.output.len() < LONG_LENGTH);
