@@ -8,10 +8,11 @@ use std::path::Path;
 use std::process::exit;
 
 use oracle::{Entry, PROGRAM_ROOM};
+use puvainy::SLOT;
 
 use crate::find::{self, Timed};
 use crate::lists::{ALIKE, MANY_WORDS};
-use crate::ours::{SLOT, Workspace};
+use crate::ours::Workspace;
 use crate::table::{head, row};
 
 unsafe extern "C" {

@@ -3,10 +3,11 @@
 use std::hint::black_box;
 
 use oracle::{Call, Entry, PROGRAM_ROOM, PROGRAM_SLOTS, checked, plain};
+use puvainy::MOST_SLOTS;
 use upstream::search_bounded_rewrite;
 
 use crate::job::Job;
-use crate::ours::{MOST_SLOTS, Workspace};
+use crate::ours::Workspace;
 use crate::table::{head, row};
 
 const PROGRAM: [usize; 4] = [3, 7, 3, 1_000];

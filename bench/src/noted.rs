@@ -3,9 +3,10 @@
 use std::hint::black_box;
 
 use oracle::{Entry, PROGRAM_ROOM, plain};
+use puvainy::MOST_SLOTS;
 
 use crate::job::Job;
-use crate::ours::{MOST_SLOTS, Workspace};
+use crate::ours::Workspace;
 use crate::table::best;
 
 /// Searches that would note more than 60,000 terms: from a small left side, whose results grow, and from one near the largest size.

@@ -1,12 +1,7 @@
 //! The three entries, called as a host calls them.
 
 use oracle::{Entry, Given};
-
-/// The numbers of a slot.
-pub const SLOT: usize = 40;
-
-/// The most slots that are used.
-pub const MOST_SLOTS: usize = 65_535;
+use puvainy::{ANSWER, MOST_SLOTS, SLOT, entries};
 
 /// Room for any answer of the bench.
 const ROOM: usize = 1 << 20;
@@ -28,14 +23,18 @@ impl Workspace {
     /// One call with so many slots and bytes of room: what it returns.
     pub fn call(&mut self, entry: Entry, job: &[u8], slots: usize, room: usize) -> usize {
         let output = &mut self.output[..room];
-        entries::call(entry, job, output, &mut self.numbers[..slots * SLOT])
+        match entry {
+            Entry::Find => entries::find(job, output, &mut self.numbers[..slots * SLOT]),
+            Entry::Words => entries::words(job, output),
+            Entry::Rename => entries::rename(job, output),
+        }
     }
 
     /// The answer of one call.
     pub fn answer(&mut self, entry: Entry, job: &[u8], slots: usize, room: usize) -> Given {
         match self.call(entry, job, slots, room) {
-            refused @ 0..100 => Err(refused as u8),
-            told => Ok(self.output[..told - 100].to_vec()),
+            refused @ 0..ANSWER => Err(refused as u8),
+            told => Ok(self.output[..told - ANSWER].to_vec()),
         }
     }
 }

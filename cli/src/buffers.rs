@@ -43,13 +43,122 @@ impl Buffers {
     /// Asks the entry; an output that may grow is made larger until the answer fits.
     pub fn ask(&mut self, entry: Entry, job: &[u8]) -> Asked<'_> {
         let mut number = entry.call(job, &mut self.output, &mut self.workspace);
-        while number == TOO_LONG && self.room == Room::Grows && self.output.len() < MOST_ROOM {
-            self.output.resize(2 * self.output.len(), 0);
+        while number == TOO_LONG && self.grow() {
             number = entry.call(job, &mut self.output, &mut self.workspace);
         }
         match number.checked_sub(ANSWER) {
             Some(length) => Ok(&self.output[..length]),
             None => Err(number),
         }
+    }
+
+    /// Makes the output twice as long, if it may grow; says whether it did.
+    fn grow(&mut self) -> bool {
+        let grows = self.room == Room::Grows && self.output.len() < MOST_ROOM;
+        if grows {
+            self.output.resize(2 * self.output.len(), 0);
+        }
+        grows
+    }
+}
+
+#[cfg(test)]
+mod tests {
+    use super::*;
+
+    const CASE_A: &[u8] = include_bytes!("../../examples/case-a.job");
+    const CASE_A_ANSWER: &[u8] = include_bytes!("../../examples/case-a.answer");
+
+    /// A search that notes more than 400 terms.
+    const WIDE: &[u8] = include_bytes!("../../docs/guide/refused-7.job");
+
+    /// A proof that is longer than the first output.
+    const LONG: &[u8] = include_bytes!("../../docs/guide/refused-8.job");
+    const LONG_LENGTH: usize = 39_465;
+
+    #[test]
+    fn case_a_is_answered_as_it_is_stored() {
+        let mut buffers = Buffers::new(400, Room::Grows);
+        assert_eq!(buffers.ask(Entry::Find, CASE_A), Ok(CASE_A_ANSWER));
+    }
+
+    #[test]
+    fn each_entry_answers_as_the_guide_has_it() {
+        let job = include_bytes!("../../docs/guide/archive.job");
+        let mut buffers = Buffers::new(400, Room::Grows);
+        let mut ask = |entry| buffers.ask(entry, job).map(<[u8]>::to_vec).unwrap();
+        let find = include_bytes!("../../docs/guide/archive.answer");
+        let words = include_bytes!("../../docs/guide/archive.words");
+        let rename = include_bytes!("../../docs/guide/archive.rename");
+        assert_eq!(ask(Entry::Find), find);
+        assert_eq!(ask(Entry::Words), words);
+        assert_eq!(ask(Entry::Rename), rename);
+    }
+
+    #[test]
+    fn an_output_grows_until_the_answer_fits() {
+        let mut buffers = Buffers::new(MOST_SLOTS, Room::Grows);
+        assert!(buffers.output.len() < LONG_LENGTH);
+        let answer = buffers.ask(Entry::Find, LONG).unwrap();
+        assert_eq!(answer.len(), LONG_LENGTH);
+        assert!(answer.starts_with(b"answer=proved\n"));
+        assert!(answer.ends_with(b"\n"));
+    }
+
+    #[test]
+    fn fixed_room_refuses_what_is_longer_by_8() {
+        let ask = |bytes| {
+            let mut buffers = Buffers::new(MOST_SLOTS, Room::Bytes(bytes));
+            buffers.ask(Entry::Find, LONG).map(<[u8]>::len)
+        };
+        assert_eq!(ask(32_768), Err(8));
+        assert_eq!(ask(LONG_LENGTH - 1), Err(8));
+        assert_eq!(ask(LONG_LENGTH), Ok(LONG_LENGTH));
+    }
+
+    #[test]
+    fn few_slots_refuse_a_wide_search_by_7_and_more_answer_it() {
+        let few = &mut Buffers::new(400, Room::Grows);
+        assert_eq!(few.ask(Entry::Find, WIDE), Err(7));
+        let most = &mut Buffers::new(MOST_SLOTS, Room::Grows);
+        let answer = most.ask(Entry::Find, WIDE).unwrap();
+        assert!(answer.starts_with(b"answer=proved\n"));
+    }
+
+    #[test]
+    fn the_same_buffers_answer_the_same_after_other_calls() {
+        let jobs = [CASE_A, WIDE, LONG, b"left=v0\n"];
+        let calls = Entry::ALL.map(|entry| jobs.map(|job| (entry, job)));
+        let calls = calls.as_flattened();
+        let fresh = calls.iter().map(|&(entry, job)| {
+            let mut buffers = Buffers::new(MOST_SLOTS, Room::Grows);
+            buffers.ask(entry, job).map(<[u8]>::to_vec)
+        });
+        let fresh: Vec<_> = fresh.collect();
+        let mut kept = Buffers::new(MOST_SLOTS, Room::Grows);
+        for _ in 0..2 {
+            for (&(entry, job), due) in calls.iter().zip(&fresh) {
+                let answer = kept.ask(entry, job).map(<[u8]>::to_vec);
+                assert_eq!(&answer, due, "{}", entry.name());
+            }
+        }
+    }
+
+    #[test]
+    fn buffers_of_no_length_are_lent_too() {
+        let mut none = Buffers::new(0, Room::Bytes(0));
+        for entry in Entry::ALL {
+            assert_eq!(none.ask(entry, b""), Err(1));
+            assert_eq!(none.ask(entry, CASE_A), Err(TOO_LONG));
+        }
+        assert_eq!(none.ask(Entry::Find, WIDE), Err(7));
+    }
+
+    #[test]
+    fn more_slots_and_room_than_are_used_are_cut() {
+        let mut buffers = Buffers::new(usize::MAX, Room::Bytes(usize::MAX));
+        assert_eq!(buffers.workspace.len(), MOST_SLOTS * SLOT);
+        assert_eq!(buffers.output.len(), MOST_ROOM);
+        assert_eq!(buffers.ask(Entry::Find, CASE_A), Ok(CASE_A_ANSWER));
     }
 }

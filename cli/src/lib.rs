@@ -49,3 +49,31 @@ impl Entry {
         }
     }
 }
+
+#[cfg(test)]
+mod tests {
+    use super::*;
+
+    #[test]
+    fn the_numbers_are_those_of_the_header() {
+        let header = include_str!("../../include/puvainy.h");
+        let numbers = [
+            ("SLOT", SLOT),
+            ("MOST_SLOTS", MOST_SLOTS),
+            ("ANSWER", ANSWER),
+        ];
+        for (name, number) in numbers {
+            let line = format!("\n#define PUVAINY_{name} {number}\n");
+            assert!(header.contains(&line), "{name}");
+        }
+    }
+
+    #[test]
+    fn every_entry_is_found_by_its_name() {
+        for entry in Entry::ALL {
+            assert_eq!(Entry::named(entry.name()), Some(entry));
+        }
+        assert_eq!(Entry::named("FIND"), None);
+        assert_eq!(Entry::named(""), None);
+    }
+}

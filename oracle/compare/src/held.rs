@@ -2,11 +2,9 @@
 
 use oracle::generate::Random;
 use oracle::{Call, Entry, Given, checked};
+use puvainy::{ANSWER, SLOT, entries};
 
 use crate::lent::Buffer;
-
-/// How many numbers a slot has.
-const SLOT: usize = 40;
 
 /// Bytes from which the output is filled; no output is longer.
 const DIRT: usize = 1 << 18;
@@ -35,12 +33,12 @@ impl Buffers {
     /// Makes the call; says what is not as it is due.
     pub fn fault(&mut self, call: &Call, due: &Given, random: &mut Random) -> Option<String> {
         let dirt = self.prepare(call, due, random);
-        let number = entries::call(
-            call.entry,
-            self.job.part(),
-            self.output.part_mut(),
-            self.workspace.part_mut(),
-        );
+        let (job, output) = (self.job.part(), self.output.part_mut());
+        let number = match call.entry {
+            Entry::Find => entries::find(job, output, self.workspace.part_mut()),
+            Entry::Words => entries::words(job, output),
+            Entry::Rename => entries::rename(job, output),
+        };
         self.number_fault(number, due)
             .or_else(|| self.output_fault(dirt, due))
             .or_else(|| self.kept_fault(call, due))
@@ -83,14 +81,14 @@ impl Buffers {
 
     fn number_fault(&self, number: usize, due: &Given) -> Option<String> {
         let due_number = match due {
-            Ok(text) => 100 + text.len(),
+            Ok(text) => ANSWER + text.len(),
             Err(refusal) => usize::from(*refusal),
         };
         if number == due_number {
             return None;
         }
         let left = self.output.part();
-        let left = &left[..number.saturating_sub(100).min(left.len())];
+        let left = &left[..number.saturating_sub(ANSWER).min(left.len())];
         let left = String::from_utf8_lossy(left);
         let due = checked::show(due);
         Some(format!(
