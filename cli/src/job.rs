@@ -185,7 +185,14 @@ mod tests {
     use super::*;
     use crate::refusals::ROWS;
 
+    /// A job that is accepted, and three that a small damage makes one of too many letters, of equal sides, or over a bound.
     const JOB: &str = "left=+ * v0 v1 0\nright=* v0 v1\nsteps=3\nsize=9\ndepth=4\nnodes=1000\n";
+    const JOBS: [&str; 4] = [
+        JOB,
+        "left=+ v0 + v1 + v2 v3\nright=+ v0 + v1 + v4 v5\nsteps=3\nsize=9\ndepth=4\nnodes=10\n",
+        "left=v0\nright=v1\nsteps=3\nsize=9\ndepth=4\nnodes=1000\n",
+        "left=v0\nright=1\nsteps=16\nsize=31\ndepth=15\nnodes=4096\n",
+    ];
 
     /// The place of the fault for which WORDS refuses the job.
     fn told(job: &str) -> (Fault, String) {
@@ -281,8 +288,8 @@ mod tests {
         let mut buffers = Buffers::new(0, Room::Grows);
         let mut draw: u64 = 1;
         let mut counts = [0; 9];
-        for _ in 0..20_000 {
-            let mut job = JOB.as_bytes().to_vec();
+        for round in 0..40_000 {
+            let mut job = JOBS[round % 4].as_bytes().to_vec();
             for _ in 0..1 + draw % 3 {
                 draw = draw
                     .wrapping_mul(6364136223846793005)

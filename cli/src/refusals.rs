@@ -175,7 +175,10 @@ mod tests {
     #[test]
     fn the_guide_shows_the_table() {
         let guide = include_str!("../../docs/guide.md");
-        let section = guide.split("## Refusals").nth(1).unwrap();
+        let mut sections = guide.split("\n## ");
+        let section = sections
+            .find(|text| text.starts_with("Refusals\n"))
+            .unwrap();
         let shown = section
             .lines()
             .filter(|line| line.starts_with("| "))

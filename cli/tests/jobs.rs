@@ -2,11 +2,7 @@
 
 mod common;
 
-use common::{guide, puvainy, puvainy_on, shell};
-
-fn stored(name: &str) -> String {
-    std::fs::read_to_string(guide(name)).expect("a file of the guide")
-}
+use common::{puvainy, puvainy_on, shell, stored};
 
 #[test]
 fn several_are_printed_in_order_each_after_its_name() {
@@ -140,11 +136,12 @@ fn slots_and_room_are_as_many_as_are_given() {
 fn names_are_used_on_standard_error_alone() {
     let none = puvainy(&["find", "--names", "names.txt", "archive-steps.job"]);
     assert_eq!(none.printed, stored("archive-steps.answer"));
-    let said = "puvainy: archive-steps.job: none: the search ended by itself; raise steps, size or depth, \
-                or ask whether the plans are equal: puvainy words\n\
-                puvainy: left: Archive + (Orders * (South stock + North stock))\n\
-                puvainy: right: ((Orders * North stock) + (Orders * South stock)) + Archive\n";
-    assert_eq!(none.said, said);
+    assert_eq!(none.said.lines().count(), 3);
+    assert!(
+        stored("../guide.md").contains(&format!("```\n{}```", none.said)),
+        "{}",
+        none.said
+    );
     let refused = puvainy(&["find", "--names=names.txt", "refused-2-infix.job"]);
     assert_eq!(refused.printed, stored("refused-2-infix.answer"));
     assert!(
@@ -167,5 +164,28 @@ fn names_are_used_on_standard_error_alone() {
             .starts_with("puvainy: the names in archive.job: line 1: "),
         "{}",
         wrong.said
+    );
+}
+
+#[test]
+fn the_guide_shows_what_several_jobs_give() {
+    let gave = puvainy(&[
+        "words",
+        "twice.job",
+        "refused-6.job",
+        "nowhere.job",
+        "swapped-join.job",
+    ]);
+    assert_eq!(gave.status, Some(2));
+    assert!(
+        stored("../guide.md").contains(&format!("```\n{}```", gave.printed)),
+        "{}",
+        gave.printed
+    );
+    let refused = puvainy(&["find", "refused-2.job"]);
+    assert!(
+        stored("../guide.md").contains(&format!("```\n{}```", refused.said)),
+        "{}",
+        refused.said
     );
 }

@@ -2,11 +2,7 @@
 
 mod common;
 
-use common::{Gave, guide, puvainy, puvainy_on, shell};
-
-fn stored(name: &str) -> String {
-    std::fs::read_to_string(guide(name)).expect("a file of the guide")
-}
+use common::{Gave, puvainy, puvainy_on, puvainy_unread, shell, stored};
 
 /// The call failed: it printed nothing and said this.
 fn failed(gave: Gave, said: &str) {
@@ -119,9 +115,8 @@ fn an_output_that_is_closed_full_or_unread_is_2() {
         failed(shell(&format!("$P {call} >&-")), closed);
         failed(shell(&format!("$P {call} >/dev/full")), full);
     }
-    let unread = shell("{ $P find archive.job; echo $? >&2; } | :");
-    let reader = "puvainy: cannot write to standard output: its reader is gone\n2\n";
-    assert!(unread.said == reader || unread.said == "0\n", "{unread:?}");
+    let unread = "cannot write to standard output: its reader is gone";
+    failed(puvainy_unread(&["find", "archive.job"]), unread);
     let unwritable = shell("$P find archive.job 1</dev/null");
     assert_eq!(unwritable.status, Some(2));
 }

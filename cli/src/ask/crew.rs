@@ -84,8 +84,10 @@ fn next<T>(
 mod tests {
     use super::*;
 
+    type Heard = Vec<(u32, Option<u32>)>;
+
     /// What the taker hears of the jobs 0 to 999 on three threads, up to the job where it fails.
-    fn heard(fails: u32) -> (Vec<(u32, Option<u32>)>, Result<(), Failure>) {
+    fn heard(fails: u32) -> (Heard, Result<(), Failure>) {
         let jobs: Vec<u32> = (0..1000).collect();
         let mut heard = Vec::new();
         let doer = || {

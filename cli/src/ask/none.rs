@@ -30,7 +30,7 @@ pub fn sentences(name: &str, answer: &[u8], names: &Names) -> Vec<String> {
         for (last, why, advice) in ADVICE {
             if line == last {
                 let sentence = format!(
-                    "{name}: none: {why}; {advice}, or ask whether the plans are equal: puvainy words"
+                    "{name}: none: {why}; {advice}, or ask puvainy words whether the plans are equal at all"
                 );
                 said.insert(0, sentence.replace('`', ""));
             }
@@ -40,4 +40,34 @@ pub fn sentences(name: &str, answer: &[u8], names: &Names) -> Vec<String> {
         }
     }
     said
+}
+
+#[cfg(test)]
+mod tests {
+    use super::*;
+
+    #[test]
+    fn the_guide_shows_the_advice() {
+        let guide = include_str!("../../../docs/guide.md").to_lowercase();
+        for (last, why, advice) in ADVICE {
+            let row = guide
+                .lines()
+                .find(|line| line.starts_with(&format!("| `{last}` | {why}")));
+            assert!(
+                row.is_some_and(|row| row.ends_with(&format!(" | {advice} |"))),
+                "{last}"
+            );
+        }
+    }
+
+    #[test]
+    fn only_a_none_is_told_of() {
+        let none = b"answer=none\nleft=v0\nright=v1\nexpanded=3\ncut=yes\n";
+        let said = sentences("a.job", none, &Names::default());
+        let due = "a.job: none: as many terms were opened as nodes allows; raise nodes, \
+                   or ask puvainy words whether the plans are equal at all";
+        assert_eq!(said, [due]);
+        let proved = b"answer=proved\nleft=v0\nright=+ v0 0\nsteps=1\n";
+        assert!(sentences("a.job", proved, &Names::default()).is_empty());
+    }
 }

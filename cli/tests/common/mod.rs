@@ -5,13 +5,16 @@ use std::path::{Path, PathBuf};
 use std::process::{Command, Output, Stdio};
 
 /// The command.
-pub const PUVAINY: &str = env!("CARGO_BIN_EXE_puvainy");
+const PUVAINY: &str = env!("CARGO_BIN_EXE_puvainy");
 
-/// A file of the guide.
-pub fn guide(name: &str) -> PathBuf {
-    Path::new(env!("CARGO_MANIFEST_DIR"))
-        .join("../docs/guide")
-        .join(name)
+/// The folder of the guide's files.
+fn guide() -> PathBuf {
+    Path::new(env!("CARGO_MANIFEST_DIR")).join("../docs/guide")
+}
+
+/// What a file of the guide holds.
+pub fn stored(name: &str) -> String {
+    std::fs::read_to_string(guide().join(name)).expect("a file of the guide")
 }
 
 /// What a call gave: its status, and the texts on both streams.
@@ -32,15 +35,21 @@ impl From<Output> for Gave {
     }
 }
 
-/// Calls the command among the guide's files, with nothing on standard input.
+/// A call of the command among the guide's files.
+pub fn call(words: &[&str]) -> Command {
+    let mut command = Command::new(PUVAINY);
+    command.args(words).current_dir(guide());
+    command
+}
+
+/// What the call gives with nothing on standard input.
 pub fn puvainy(words: &[&str]) -> Gave {
     puvainy_on(words, b"")
 }
 
 /// Likewise, with these bytes on standard input, as far as they are read.
 pub fn puvainy_on(words: &[&str], input: &[u8]) -> Gave {
-    let mut command = Command::new(PUVAINY);
-    command.args(words).current_dir(guide(""));
+    let mut command = call(words);
     let piped = command
         .stdin(Stdio::piped())
         .stdout(Stdio::piped())
@@ -56,6 +65,6 @@ pub fn shell(line: &str) -> Gave {
     command
         .args(["-c", line])
         .env("P", PUVAINY)
-        .current_dir(guide(""));
+        .current_dir(guide());
     command.output().expect("the shell starts").into()
 }
