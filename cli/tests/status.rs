@@ -2,7 +2,7 @@
 
 mod common;
 
-use common::{Gave, puvainy, puvainy_on, puvainy_unread, shell, stored};
+use common::{Gave, call, puvainy, puvainy_on, shell, stored};
 
 /// The call failed: it printed nothing and said this.
 fn failed(gave: Gave, said: &str) {
@@ -116,7 +116,10 @@ fn an_output_that_is_closed_full_or_unread_is_2() {
         failed(shell(&format!("$P {call} >/dev/full")), full);
     }
     let unread = "cannot write to standard output: its reader is gone";
-    failed(puvainy_unread(&["find", "archive.job"]), unread);
+    let (reader, writer) = std::io::pipe().expect("a pipe");
+    drop(reader);
+    let gave = call(&["find", "archive.job"]).stdout(writer).output();
+    failed(gave.expect("the command ends").into(), unread);
     let unwritable = shell("$P find archive.job 1</dev/null");
     assert_eq!(unwritable.status, Some(2));
 }
