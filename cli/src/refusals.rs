@@ -145,7 +145,7 @@ pub const ROWS: [Row; 18] = [
         7,
         Fault::Slots,
         "FIND would note more terms than there are slots",
-        "narrow `size` and `depth`, then `steps` and `nodes`; or give more slots, at most 65,535",
+        "narrow `size` and `depth`, then `steps` and `nodes`; or give more slots, where they are below 65,535",
     ),
     row(
         8,
