@@ -25,6 +25,14 @@ impl Source {
         }
     }
 
+    /// Its name as it is given in a call.
+    pub fn given(&self) -> String {
+        match self {
+            Source::Input => "-".to_owned(),
+            Source::File(_) => self.name(),
+        }
+    }
+
     /// Its name for people.
     pub fn name(&self) -> String {
         match self {

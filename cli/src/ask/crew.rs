@@ -10,6 +10,9 @@ use crate::failure::Failure;
 /// How many jobs a thread may be ahead of what is taken from it.
 const AHEAD: usize = 64;
 
+/// A thread's stack: more than any entry takes (include/puvainy.h).
+const STACK: usize = 1 << 20;
+
 /// How long a job is waited for before the waiting is told again.
 const TICK: Duration = Duration::from_millis(200);
 
@@ -34,7 +37,8 @@ pub fn in_order<'a, J: Sync, T: Send, D: FnMut(&J) -> T>(
             let (give, given) = sync_channel(AHEAD);
             let own = jobs.iter().skip(first).step_by(threads);
             let doer = &doer;
-            let thread = Builder::new().spawn_scoped(scope, move || work(own, doer(), give));
+            let builder = Builder::new().stack_size(STACK);
+            let thread = builder.spawn_scoped(scope, move || work(own, doer(), give));
             thread.map_err(|error| Failure(format!("cannot start a thread: {error}")))?;
             crew.push(given);
         }

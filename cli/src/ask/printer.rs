@@ -36,7 +36,7 @@ impl Printer {
         }
         if self.has_several {
             self.output
-                .write(format!("# {}\n", job.name()).as_bytes())?;
+                .write(format!("# {}\n", job.given()).as_bytes())?;
         }
         self.output.write(&told.printed)?;
         if !told.said.is_empty() {
