@@ -1,4 +1,5 @@
 mod names;
+mod picture;
 mod term;
 
 fn main() {}
