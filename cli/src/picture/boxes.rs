@@ -23,40 +23,36 @@ pub struct Boxes<'n> {
 
 impl<'n> Boxes<'n> {
     /// Boxes for names that are whole where the tree's leaves have room for that.
-    pub fn new<'a>(
-        leaves: impl Iterator<Item = &'a str>,
-        names: &'n Names,
-        room: f64,
-    ) -> Boxes<'n> {
-        let most = room - BETWEEN;
-        let [large, small] = SIZES.map(|size| Boxes { names, size, most });
-        let leaves: Vec<&str> = leaves.collect();
-        if large.take(&leaves) <= room {
-            return large;
+    pub fn new(leaves: &[&str], names: &'n Names, room: f64) -> Boxes<'n> {
+        let [large, small] = SIZES.map(|size| {
+            let wide = |leaf: &&str| names.get(leaf).map_or(LEAST, |name| width(name, size));
+            leaves.iter().map(wide).collect::<Vec<f64>>()
+        });
+        let take = |boxes: &[f64], most: f64| -> f64 {
+            boxes.iter().map(|wide| cell(wide.min(most))).sum()
+        };
+        let mut most = room - BETWEEN;
+        if take(&large, most) <= room {
+            return Boxes {
+                names,
+                size: SIZES[0],
+                most,
+            };
         }
-        let mut boxes = small;
-        while boxes.most > LEAST && boxes.take(&leaves) > room {
-            boxes.most -= 1.0;
+        while most > LEAST && take(&small, most) > room {
+            most -= 1.0;
         }
-        boxes
-    }
-
-    /// The width that the leaves take.
-    fn take(&self, leaves: &[&str]) -> f64 {
-        let wide = |leaf: &&str| self.names.get(leaf).map_or(LEAST, |name| self.width(name));
-        leaves.iter().map(|leaf| cell(wide(leaf))).sum()
-    }
-
-    /// The width of a name's box.
-    fn width(&self, name: &str) -> f64 {
-        let wide = (svg::width(name, self.size) + BESIDE).ceil();
-        wide.max(LEAST).min(self.most)
+        Boxes {
+            names,
+            size: SIZES[1],
+            most,
+        }
     }
 
     /// The name of an item, cut if need be, and the width of its box.
     pub fn of(&self, item: &str) -> Option<(String, f64)> {
         let name = self.names.get(item)?;
-        let wide = self.width(name);
+        let wide = width(name, self.size).min(self.most);
         Some((svg::cut(name, self.size, wide - BESIDE), wide))
     }
 
@@ -64,6 +60,11 @@ impl<'n> Boxes<'n> {
     pub fn size(&self) -> f64 {
         self.size
     }
+}
+
+/// The width of a whole name's box.
+fn width(name: &str, size: f64) -> f64 {
+    (svg::width(name, size) + BESIDE).ceil().max(LEAST)
 }
 
 /// The width that a leaf takes which is so wide itself.

@@ -48,8 +48,8 @@ pub struct Mark<'a> {
 impl<'a> Tree<'a> {
     /// The tree of the term. Names make it wider than letters do, as far as there is room.
     pub fn new(text: &'a str, term: &Term<'a>, names: &Names, room: f64) -> Tree<'a> {
-        let leaves = text.split(' ').filter(|item| is_atom(item));
-        let boxes = Boxes::new(leaves, names, room);
+        let leaves: Vec<&str> = text.split(' ').filter(|item| is_atom(item)).collect();
+        let boxes = Boxes::new(&leaves, names, room);
         let (nodes, levels, down) = (BTreeMap::new(), 0, DOWN);
         let (inner, width, size) = (0.0, text.len() as f64 * CHAR + 10.0, boxes.size());
         let mut tree = Tree {
