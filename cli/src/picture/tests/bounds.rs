@@ -43,6 +43,11 @@ fn check(leaves: usize, names: &Names) {
         ) {
             check_page(&picture);
             let nodes = nodes(&picture);
+            let high = |node: &[f64; 4]| node[3] - node[1];
+            assert!(
+                nodes.iter().all(|node| high(node) >= 17.0),
+                "{leaves} leaves, too small"
+            );
             for (index, node) in nodes.iter().enumerate() {
                 let clear = nodes[..index].iter().all(|other| !overlap(node, other));
                 assert!(

@@ -62,6 +62,24 @@ fn a_name_that_is_too_long_is_cut() {
     );
 }
 
+/// How wide a letter of another script becomes is not known, so the words are held to their width.
+#[test]
+fn names_in_other_scripts_are_held_to_their_width() {
+    let held = |name: &str| {
+        let picture = drawn(&format!("v2 {name}\n"));
+        let texts = picture
+            .lines()
+            .filter(|element| element.ends_with(&format!(">{name}</text>")));
+        let held: Vec<bool> = texts
+            .map(|element| element.contains(" textLength="))
+            .collect();
+        assert_eq!(held.len(), 3);
+        held
+    };
+    assert_eq!(held("\u{fdfd}\u{4e16}"), [true; 3]);
+    assert_eq!(held("Größe Süd"), [false; 3]);
+}
+
 #[test]
 fn the_same_names_give_the_same_picture() {
     assert_eq!(
