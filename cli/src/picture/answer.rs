@@ -161,18 +161,8 @@ fn side<'a>((number, text): At<'a>, key: &str) -> Result<(&'a str, Term<'a>), St
 impl<'a> Derivation<'a> {
     /// Adds a line, `LAW DIRECTION at=PLACE to=TERM`, and the term after it.
     fn add(&mut self, value: &'a str) -> Result<(), String> {
-        let parts: Vec<&str> = value.splitn(4, ' ').collect();
-        let Some((law, direction, place, after)) = (match parts[..] {
-            [law, direction, place, after] => place
-                .strip_prefix("at=")
-                .zip(after.strip_prefix("to="))
-                .map(|(place, after)| (law, direction, place, after)),
-            _ => None,
-        }) else {
-            return Err(
-                "a step is a law, forward or back, at= and to=, and this is not".to_owned(),
-            );
-        };
+        let (law, direction, place, after) =
+            parts(value).ok_or("a step is a law, forward or back, at= and to=, and this is not")?;
         let line = Line {
             law: Law::named(law)
                 .ok_or_else(|| format!("{} is none of the {} laws", quoted(law), LAWS.len()))?,
@@ -182,23 +172,27 @@ impl<'a> Derivation<'a> {
                 .ok_or_else(|| format!("{} is no place: a dot, or l and r", quoted(place)))?,
         };
         let term = Term::read(after).ok_or("what stands behind to= is no term")?;
-        let before = self.terms.last().map(|(_, before)| before);
-        if !before.is_some_and(|before| reaches(before, line.place)) {
-            return Err(format!(
-                "the place {} leads out of the term before it",
-                quoted(place)
-            ));
-        }
-        if !reaches(&term, line.place) {
-            return Err(format!(
-                "the place {} leads out of the term after it",
-                quoted(place)
-            ));
+        let (_, before) = &self.terms[self.lines.len()];
+        for (term, which) in [(before, "before"), (&term, "after")] {
+            if !reaches(term, line.place) {
+                let place = quoted(place);
+                return Err(format!(
+                    "the place {place} leads out of the term {which} it"
+                ));
+            }
         }
         self.terms.push((after, term));
         self.lines.push(line);
         Ok(())
     }
+}
+
+/// The law, direction, place and term of a line.
+fn parts(value: &str) -> Option<(&str, &str, &str, &str)> {
+    let (law, rest) = value.split_once(' ')?;
+    let (direction, rest) = rest.split_once(" at=")?;
+    let (place, after) = rest.split_once(" to=")?;
+    Some((law, direction, place, after))
 }
 
 /// The turns of a place, of which the top has none.
