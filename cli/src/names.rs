@@ -24,12 +24,7 @@ impl Names {
 
     /// Reads lines of a letter, a space and its name; blank lines are passed over. Or says what is wrong, and in which line.
     pub fn read(bytes: &[u8]) -> Result<Names, String> {
-        let text = str::from_utf8(bytes).map_err(|error| {
-            let before = &bytes[..error.valid_up_to()];
-            let line = 1 + before.iter().filter(|&&byte| byte == b'\n').count();
-            format!("line {line}: this is no UTF-8 text; save the names as UTF-8")
-        })?;
-        let text = text.strip_prefix('\u{feff}').unwrap_or(text);
+        let text = text_of(bytes, "the names")?;
         let mut names = Names::default();
         for (index, line) in text.lines().enumerate() {
             let added = names.add(line.trim());
@@ -104,6 +99,16 @@ impl Names {
             }
         }
     }
+}
+
+/// The bytes as text, without a byte order mark. Or says in which line they are none, and to save `what` they are anew.
+pub fn text_of<'a>(bytes: &'a [u8], what: &str) -> Result<&'a str, String> {
+    let text = str::from_utf8(bytes).map_err(|error| {
+        let before = &bytes[..error.valid_up_to()];
+        let line = 1 + before.iter().filter(|&&byte| byte == b'\n').count();
+        format!("line {line}: this is no UTF-8 text; save {what} as UTF-8")
+    })?;
+    Ok(text.strip_prefix('\u{feff}').unwrap_or(text))
 }
 
 #[cfg(test)]

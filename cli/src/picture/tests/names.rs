@@ -1,0 +1,89 @@
+//! Names in place of letters.
+
+use super::super::draw;
+use super::{proved, words};
+use crate::names::Names;
+
+/// The words of all text elements.
+fn texts(picture: &str) -> Vec<String> {
+    picture
+        .lines()
+        .filter(|element| element.starts_with("<text"))
+        .map(words)
+        .collect()
+}
+
+fn drawn(names: &str) -> String {
+    let terms = ["+ * v10 v2 0", "+ 0 * v10 v2"].map(str::to_owned);
+    let names = Names::read(names.as_bytes()).unwrap();
+    draw("named", proved(&terms, ".").as_bytes(), &names, None).unwrap()
+}
+
+#[test]
+fn a_name_stands_in_the_trees_and_once_in_the_key() {
+    let texts = texts(&drawn("v10 Orders\n"));
+    let times = |wanted: &str| texts.iter().filter(|text| *text == wanted).count();
+    assert_eq!((times("Orders"), times("v10")), (3, 1));
+    assert_eq!((times("v2"), times("0")), (2, 2));
+    assert_eq!((times("+ * v10 v2 0"), times("+ 0 * v10 v2")), (1, 1));
+}
+
+#[test]
+fn the_key_is_in_the_order_of_the_letters() {
+    let texts = texts(&drawn("v10 North\nv2 South\nv3 Returns\n"));
+    let from = texts.iter().position(|text| text == "v2").unwrap();
+    assert_eq!(texts[from..from + 4], ["v2", "South", "v10", "North"]);
+    assert!(!texts.iter().any(|text| text == "Returns"));
+}
+
+#[test]
+fn names_are_escaped() {
+    let name = r#"<b>&"'</text>"#;
+    let picture = drawn(&format!("v2 {name}\n"));
+    assert!(picture.contains(">&lt;b&gt;&amp;&quot;&#x27;&lt;/text&gt;</text>"));
+    assert_eq!(
+        texts(&picture).iter().filter(|text| *text == name).count(),
+        3
+    );
+    let picture = drawn("v2 a\u{fffe}\u{ffff}b\n");
+    assert!(picture.contains(">a\u{fffd}\u{fffd}b</text>"));
+}
+
+#[test]
+fn a_name_that_is_too_long_is_cut() {
+    let name = "Stock ".repeat(33);
+    let texts = texts(&drawn(&format!("v2 {name}\nv10 {name}\n")));
+    let cut: Vec<_> = texts.iter().filter(|text| text.ends_with('…')).collect();
+    assert_eq!(cut.len(), 6);
+    let begins = |text: &&String| name.starts_with(text.trim_end_matches('…'));
+    assert!(
+        cut.iter().all(|text| begins(text) && text.len() > 20),
+        "{cut:?}"
+    );
+}
+
+/// How wide a letter of another script becomes is not known, so the words are held to their width.
+#[test]
+fn names_in_other_scripts_are_held_to_their_width() {
+    let held = |name: &str| {
+        let picture = drawn(&format!("v2 {name}\n"));
+        let texts = picture
+            .lines()
+            .filter(|element| element.ends_with(&format!(">{name}</text>")));
+        let held: Vec<bool> = texts
+            .map(|element| element.contains(" textLength="))
+            .collect();
+        assert_eq!(held.len(), 3);
+        held
+    };
+    assert_eq!(held("\u{fdfd}\u{4e16}"), [true; 3]);
+    assert_eq!(held("Größe Süd"), [false; 3]);
+}
+
+#[test]
+fn the_same_names_give_the_same_picture() {
+    assert_eq!(
+        drawn("v2 South\nv10 North\n"),
+        drawn("v10 North\n\nv2 South\n")
+    );
+}
