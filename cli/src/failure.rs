@@ -47,6 +47,14 @@ pub fn shown(text: &str) -> String {
     shown
 }
 
+/// The beginning of the text, shown so.
+pub fn brief(text: &str) -> String {
+    const LONG: usize = 24;
+    let begin: String = text.chars().take(LONG).collect();
+    let rest = if begin.len() < text.len() { "…" } else { "" };
+    shown(&begin) + rest
+}
+
 #[cfg(test)]
 mod tests {
     use super::*;
@@ -59,6 +67,12 @@ mod tests {
             [0, 1, 2],
             [Status::Answered, Status::Refused, Status::Failed].map(|s| s as u8)
         );
+    }
+
+    #[test]
+    fn a_long_text_is_cut() {
+        assert_eq!(brief(&"v".repeat(24)), "v".repeat(24));
+        assert_eq!(brief(&"v".repeat(25)), "v".repeat(24) + "…");
     }
 
     #[test]

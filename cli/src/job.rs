@@ -2,7 +2,7 @@
 
 use std::collections::BTreeSet;
 
-use crate::failure::shown;
+use crate::failure::brief;
 use crate::refusals::{Fault, Found};
 use crate::term::{MOST_NODES, is_atom, is_letter};
 
@@ -168,14 +168,6 @@ fn in_term(side: &[u8]) -> Option<(Fault, String)> {
 fn in_size(side: &[u8]) -> Option<(Fault, String)> {
     let nodes = side.split(|&byte| byte == b' ').count();
     (nodes > MOST_NODES).then(|| (Fault::Nodes, format!("{nodes} nodes")))
-}
-
-/// The item for people, cut where it is long.
-fn brief(item: &str) -> String {
-    const LONG: usize = 20;
-    let begin: String = item.chars().take(LONG).collect();
-    let rest = if begin.len() < item.len() { ".." } else { "" };
-    shown(&begin) + rest
 }
 
 #[cfg(test)]

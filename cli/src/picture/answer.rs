@@ -1,6 +1,7 @@
 //! A proved answer of FIND, read for its derivation, or what keeps it from being drawn.
 
 use super::laws::{Direction, LAWS, Law};
+use crate::failure::brief;
 use crate::names::text_of;
 use crate::term::Term;
 
@@ -217,13 +218,7 @@ fn reaches(term: &Term, place: &str) -> bool {
     true
 }
 
-/// The beginning of a text, fit to be shown in a sentence.
+/// The text, fit to be shown in a sentence.
 fn quoted(text: &str) -> String {
-    let shown: String = text
-        .chars()
-        .take(24)
-        .filter(|letter| !letter.is_control())
-        .collect();
-    let more = if text.chars().count() > 24 { "…" } else { "" };
-    format!("`{shown}{more}`")
+    format!("`{}`", brief(text))
 }

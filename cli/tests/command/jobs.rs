@@ -1,8 +1,6 @@
 //! Jobs of all kinds: several at a time, bad ones among good ones, slots, room and names.
 
-mod common;
-
-use common::{puvainy, puvainy_on, shell, stored};
+use crate::common::{puvainy, puvainy_on, shell, stored};
 
 #[test]
 fn several_are_printed_in_order_each_after_its_name() {

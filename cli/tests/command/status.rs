@@ -1,8 +1,6 @@
 //! Each exit status, and that no failure to read or write is met with silence.
 
-mod common;
-
-use common::{Gave, call, puvainy, puvainy_on, shell, stored};
+use crate::common::{Gave, call, puvainy, puvainy_on, shell, stored};
 
 /// The call failed: it printed nothing and said this.
 fn failed(gave: Gave, said: &str) {

@@ -1,0 +1,6 @@
+//! The built command, called as people call it.
+
+mod common;
+mod drawn;
+mod jobs;
+mod status;
