@@ -1,7 +1,8 @@
 //! The words of a call, behind the first: options with their values, and files.
 
 use std::collections::VecDeque;
-use std::ffi::OsString;
+use std::ffi::{OsStr, OsString};
+use std::os::unix::ffi::OsStrExt;
 
 use crate::failure::{Failure, shown};
 use crate::streams::Source;
@@ -43,19 +44,12 @@ impl Args {
             self.only_files = true;
             return self.next();
         }
-        let Some(option) = word.to_str() else {
-            return Err(unknown(&word.to_string_lossy()));
-        };
-        let (name, value) = match option.split_once('=') {
-            Some((name, value)) => (name, Some(value)),
-            None => (option, None),
-        };
-        self.value = value.map(OsString::from);
-        let long = match name {
-            "-h" => "--help",
-            "-V" => "--version",
-            _ => name,
-        };
+        let mut parts = word.as_bytes().splitn(2, |&byte| byte == b'=');
+        let name = String::from_utf8_lossy(parts.next().unwrap_or_default());
+        self.value = parts
+            .next()
+            .map(|value| OsStr::from_bytes(value).to_owned());
+        let long = if name == "-h" { "--help" } else { &name };
         Ok(Some(Arg::Option(long.to_owned())))
     }
 
@@ -82,7 +76,7 @@ impl Args {
         match digits.parse() {
             Ok(number) if is_plain && (least..=most).contains(&number) => Ok(number),
             _ => Err(Failure(format!(
-                "{option} takes {what}, not {}",
+                "{option} takes {what}, not \"{}\"",
                 shown(&digits)
             ))),
         }
@@ -115,9 +109,7 @@ mod tests {
 
     #[test]
     fn options_and_files_may_stand_in_any_order() {
-        let mut args = args(&[
-            "a.job", "--slots", "7", "-", "--room=0", "-h", "--", "--slots",
-        ]);
+        let mut args = args(&["a.job", "--slots", "7", "-", "--room=0", "-h", "--", "-x"]);
         assert_eq!(told(&mut args).unwrap(), "a.job");
         assert_eq!(told(&mut args).unwrap(), "--slots");
         assert_eq!(args.number("--slots", 0, 7), Ok(7));
@@ -125,7 +117,8 @@ mod tests {
         assert_eq!(told(&mut args).unwrap(), "--room");
         assert_eq!(args.number("--room", 0, 7), Ok(0));
         assert_eq!(told(&mut args).unwrap(), "--help");
-        assert_eq!(told(&mut args).unwrap(), "--slots");
+        let last = args.next().unwrap();
+        assert!(matches!(last, Some(Arg::File(Source::File(file))) if file.as_os_str() == "-x"));
         assert_eq!(told(&mut args), None);
     }
 
@@ -137,7 +130,7 @@ mod tests {
             let Failure(why) = args.number("--slots", 0, 7).unwrap_err();
             assert_eq!(
                 why,
-                format!("--slots takes a number from 0 to 7, not {given}")
+                format!("--slots takes a number from 0 to 7, not \"{given}\"")
             );
         }
     }

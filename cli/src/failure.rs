@@ -19,7 +19,13 @@ pub struct Failure(pub String);
 
 /// Says a line on standard error. Where that cannot be written, the status alone tells.
 pub fn say(line: &str) {
-    let _ = writeln!(stderr(), "puvainy: {line}");
+    let _ = stderr().write_all(spoken(&[line]).as_bytes());
+}
+
+/// The lines as they are said: in one text, so that calls side by side do not tear each other's.
+pub fn spoken(lines: &[impl AsRef<str>]) -> String {
+    let line = |line: &_| format!("puvainy: {}\n", AsRef::as_ref(line));
+    lines.iter().map(line).collect()
 }
 
 /// The error in plain words.
@@ -30,6 +36,9 @@ pub fn plain(error: &Error) -> String {
         ErrorKind::PermissionDenied => "it is not allowed".to_owned(),
         ErrorKind::BrokenPipe => "its reader is gone".to_owned(),
         ErrorKind::StorageFull => "there is no space left".to_owned(),
+        ErrorKind::NotADirectory => "a part of its name is no directory".to_owned(),
+        ErrorKind::InvalidFilename => "its name is too long".to_owned(),
+        ErrorKind::FileTooLarge => "it would become too large".to_owned(),
         _ => error.to_string(),
     }
 }

@@ -5,7 +5,7 @@ use std::ffi::OsStr;
 
 use crate::failure::{Failure, shown};
 use crate::streams::Source;
-use crate::term::{Term, is_letter};
+use crate::term::{Term, is_atom, is_letter};
 
 /// More bytes than a file of names needs.
 const MOST_BYTES: usize = 1 << 20;
@@ -47,9 +47,19 @@ impl Names {
                 "{letter} has no name; write one behind it, as in `v0 Orders`"
             ));
         }
-        if name.chars().any(char::is_control) {
+        if name.chars().any(is_unseen) {
             return Err(format!(
-                "the name of {letter} holds a control character; take it out"
+                "the name of {letter} holds a character that cannot be seen; take it out"
+            ));
+        }
+        if is_atom(name) || name == "+" || name == "*" {
+            return Err(format!(
+                "{name} is an item of terms and no name; take another"
+            ));
+        }
+        if let Some((other, _)) = self.0.iter().find(|(_, given)| *given == name) {
+            return Err(format!(
+                "{other} is named {name} too; give each letter a name of its own"
             ));
         }
         match self.0.insert(letter.to_owned(), name.to_owned()) {
@@ -58,10 +68,6 @@ impl Names {
                 "{letter} is named {former} already; name each letter once"
             )),
         }
-    }
-
-    pub fn is_empty(&self) -> bool {
-        self.0.is_empty()
     }
 
     /// The item's name, if it has one.
@@ -76,6 +82,9 @@ impl Names {
 
     /// A side of a job or an answer for people, if there are names: `left: Orders * (North stock + South stock)`.
     pub fn side(&self, key: &str, side: &str) -> Option<String> {
+        if self.0.is_empty() {
+            return None;
+        }
         let spelled = match Term::read(side) {
             Some(term) => self.spell(&term),
             None => {
@@ -83,7 +92,7 @@ impl Names {
                 shown(&items.join(" "))
             }
         };
-        (!self.is_empty()).then(|| format!("{key}: {spelled}"))
+        Some(format!("{key}: {spelled}"))
     }
 
     /// The term for people: signs between their parts, brackets about each part that is no letter, names for letters.
@@ -99,6 +108,13 @@ impl Names {
             }
         }
     }
+}
+
+/// Whether the character changes how a text is shown without being seen itself.
+fn is_unseen(character: char) -> bool {
+    let turns = ['\u{200e}', '\u{200f}', '\u{61c}', '\u{feff}'].contains(&character);
+    let turns = turns || matches!(character, '\u{202a}'..='\u{202e}' | '\u{2066}'..='\u{2069}');
+    turns || character.is_control()
 }
 
 /// The bytes as text, without a byte order mark. Or says in which line they are none, and to save `what` they are anew.
@@ -130,7 +146,16 @@ mod tests {
         assert!(told(b"v0 Orders\nOrders v1\n").starts_with("line 2: a line begins with a letter"));
         assert!(told(b"v0 \n").starts_with("line 1: v0 has no name"));
         assert!(told(b"v0 A\nv0 B\n").starts_with("line 2: v0 is named A already"));
-        assert!(told(b"v0 A\x1b[2J\n").starts_with("line 1: the name of v0 holds a control"));
+        assert!(told(b"v0 A\x1b[2J\n").starts_with("line 1: the name of v0 holds a character"));
+        assert!(told("v0 A\u{202e}B\n".as_bytes()).starts_with("line 1: the name of v0 holds"));
+        assert!(told(b"v0 A\nv1 A\n").starts_with("line 2: v0 is named A too"));
+        for item in ["0", "1", "v7", "+", "*"] {
+            let why = told(format!("v0 {item}\n").as_bytes());
+            assert!(
+                why.starts_with(&format!("line 1: {item} is an item of terms")),
+                "{why}"
+            );
+        }
         assert!(told(b"v0 A\n\nv1 \xff\n").starts_with("line 3: this is no UTF-8"));
     }
 }

@@ -11,6 +11,7 @@ pub enum Fault {
     End,
     More,
     Digits,
+    Empty,
     Space,
     Item,
     Part,
@@ -49,7 +50,7 @@ const fn row(number: usize, fault: Fault, wrong: &'static str, to_do: &'static s
 
 const SHARED: &str = "give a part that both plans share a letter of its own";
 
-pub const ROWS: [Row; 18] = [
+pub const ROWS: [Row; 19] = [
     row(
         1,
         Fault::Long,
@@ -59,8 +60,8 @@ pub const ROWS: [Row; 18] = [
     row(
         1,
         Fault::Mark,
-        "an invisible mark of the encoding stands before the text",
-        "save as plain text, or as UTF-8 without a mark",
+        "the text is saved in an encoding that is not plain",
+        "save as plain text, or as UTF-8 without a mark (BOM)",
     ),
     row(
         1,
@@ -98,6 +99,7 @@ pub const ROWS: [Row; 18] = [
         "the limit is no plain number",
         "write digits alone, with no needless 0 in front",
     ),
+    row(2, Fault::Empty, "the side is empty", "write a term"),
     row(
         2,
         Fault::Space,

@@ -4,6 +4,7 @@ use std::ffi::OsStr;
 use std::fs::File;
 use std::io::{BufWriter, Error, Read, Write, stdin, stdout};
 use std::os::fd::AsFd;
+use std::os::unix::ffi::OsStrExt;
 use std::path::PathBuf;
 
 use crate::closed;
@@ -25,18 +26,28 @@ impl Source {
         }
     }
 
-    /// Its name as it is given in a call.
-    pub fn given(&self) -> String {
-        match self {
-            Source::Input => "-".to_owned(),
-            Source::File(_) => self.name(),
+    /// The line above its answer among several: `# FILE` as it was given, but for a line feed in the name, which is written `\n`.
+    pub fn header(&self) -> Vec<u8> {
+        let name = match self {
+            Source::Input => b"-",
+            Source::File(path) => path.as_os_str().as_bytes(),
+        };
+        let mut header = b"# ".to_vec();
+        for &byte in name {
+            match byte {
+                b'\n' => header.extend(b"\\n"),
+                _ => header.push(byte),
+            }
         }
+        header.push(b'\n');
+        header
     }
 
     /// Its name for people.
     pub fn name(&self) -> String {
         match self {
             Source::Input => "standard input".to_owned(),
+            Source::File(path) if path.as_os_str().is_empty() => "\"\"".to_owned(),
             Source::File(path) => shown(&path.to_string_lossy()),
         }
     }
@@ -77,11 +88,11 @@ fn read(file: File, most: usize) -> Result<Vec<u8>, Error> {
 }
 
 /// Standard output. Each failure to write is told, and none is met with silence.
-pub struct Output(BufWriter<File>);
+pub struct Output<W: Write>(BufWriter<W>);
 
-impl Output {
+impl Output<File> {
     /// Standard output as a file: the library's own passes over one that may not be written.
-    pub fn new() -> Result<Output, Failure> {
+    pub fn standard() -> Result<Output<File>, Failure> {
         if closed::output() {
             return Err(unwritten("it is closed"));
         }
@@ -89,7 +100,13 @@ impl Output {
             .as_fd()
             .try_clone_to_owned()
             .map_err(cannot_write)?;
-        Ok(Output(BufWriter::new(File::from(file))))
+        Ok(Output::new(File::from(file)))
+    }
+}
+
+impl<W: Write> Output<W> {
+    pub fn new(to: W) -> Output<W> {
+        Output(BufWriter::new(to))
     }
 
     pub fn write(&mut self, bytes: &[u8]) -> Result<(), Failure> {
@@ -104,7 +121,7 @@ impl Output {
 
 /// Prints one text on standard output.
 pub fn print(text: &str) -> Result<(), Failure> {
-    let mut output = Output::new()?;
+    let mut output = Output::standard()?;
     output.write(text.as_bytes())?;
     output.flush()
 }
@@ -115,4 +132,18 @@ fn cannot_write(error: Error) -> Failure {
 
 fn unwritten(why: &str) -> Failure {
     Failure(format!("cannot write to standard output: {why}"))
+}
+
+#[cfg(test)]
+mod tests {
+    use super::*;
+
+    #[test]
+    fn a_header_is_the_name_as_it_was_given() {
+        let header = |name: &[u8]| Source::named(OsStr::from_bytes(name)).header();
+        assert_eq!(header(b"a b.job"), b"# a b.job\n");
+        assert_eq!(header(b"\xff\\.job"), b"# \xff\\.job\n");
+        assert_eq!(header(b"new\nline"), b"# new\\nline\n");
+        assert_eq!(header(b"-"), b"# -\n");
+    }
 }

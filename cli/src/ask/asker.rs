@@ -1,6 +1,8 @@
 //! One job put to the entry: what is printed of it, and what is said to people.
 
-use puvainy::{Buffers, Room};
+use std::sync::Arc;
+
+use puvainy::{Buffers, Entry, MOST_SLOTS, Room};
 
 use super::Asking;
 use super::none;
@@ -28,6 +30,16 @@ impl Told {
         Told::failed(format!("{}: {why}", job.name()))
     }
 
+    /// Of an answer of which nothing is said.
+    #[cfg(test)]
+    pub fn answered(answer: &[u8]) -> Told {
+        Told {
+            status: Status::Answered,
+            printed: answer.to_vec(),
+            said: Vec::new(),
+        }
+    }
+
     fn failed(why: String) -> Told {
         Told {
             status: Status::Failed,
@@ -38,16 +50,21 @@ impl Told {
 }
 
 /// One thread's asker, with buffers of its own.
-pub struct Asker<'a> {
-    asking: &'a Asking,
+pub struct Asker {
+    asking: Arc<Asking>,
     buffers: Buffers,
 }
 
-impl<'a> Asker<'a> {
-    pub fn new(asking: &'a Asking) -> Asker<'a> {
+impl Asker {
+    /// An asker with the slots that the entry uses.
+    pub fn new(asking: Arc<Asking>) -> Asker {
+        let slots = match asking.entry {
+            Entry::Find => asking.slots,
+            Entry::Words | Entry::Rename => 0,
+        };
         Asker {
+            buffers: Buffers::new(slots, asking.room),
             asking,
-            buffers: Buffers::new(asking.slots, asking.room),
         }
     }
 
@@ -57,7 +74,7 @@ impl<'a> Asker<'a> {
             Ok(bytes) => bytes,
             Err(Failure(why)) => return Told::failed(why),
         };
-        let asking = self.asking;
+        let asking = &*self.asking;
         match self.buffers.ask(asking.entry, &bytes) {
             Ok(answer) => Told {
                 status: Status::Answered,
@@ -87,6 +104,9 @@ fn refused(name: &str, number: usize, bytes: &[u8], asking: &Asking) -> Vec<Stri
 /// What the job was given too little of.
 fn lacking(number: usize, asking: &Asking) -> Option<Found> {
     let (fault, place) = match (number, asking.room) {
+        (7, _) if asking.slots == MOST_SLOTS => {
+            (Fault::Slots, format!("with all {MOST_SLOTS} slots"))
+        }
         (7, _) => (Fault::Slots, format!("with {} slots", asking.slots)),
         (8, Room::Bytes(bytes)) => (Fault::Room, format!("with {bytes} bytes")),
         _ => return None,

@@ -6,8 +6,8 @@ mod none;
 mod printer;
 mod progress;
 
-use std::io::{IsTerminal, stdin};
-use std::thread::available_parallelism;
+use std::io::{IsTerminal, Write, stdin};
+use std::sync::Arc;
 
 use puvainy::{Entry, Room};
 
@@ -15,6 +15,7 @@ use crate::failure::{Failure, Status, say};
 use crate::names::Names;
 use crate::streams::Source;
 use asker::{Asker, Told};
+use crew::News;
 use printer::Printer;
 
 /// What is asked of every job.
@@ -26,22 +27,29 @@ pub struct Asking {
 }
 
 /// Asks all the jobs and prints what each gives. The status is the highest of any.
-pub fn ask(asking: &Asking, jobs: &[Source]) -> Result<Status, Failure> {
+pub fn ask(asking: Asking, jobs: Vec<Source>) -> Result<Status, Failure> {
     if jobs.contains(&Source::Input) && stdin().is_terminal() {
         say("reading a job from the terminal; end it by Ctrl-D");
     }
-    let threads = available_parallelism()
-        .map_or(1, usize::from)
-        .min(jobs.len());
-    let mut printer = Printer::new(jobs.len())?;
-    let mut status = Status::Answered;
-    let asker = || {
-        let mut asker = Asker::new(asking);
+    let printer = Printer::standard(&jobs)?;
+    let asking = Arc::new(asking);
+    let asker = move || {
+        let mut asker = Asker::new(asking.clone());
         move |job: &Source| asker.ask(job)
     };
-    crew::in_order(jobs, threads, asker, |news| match news {
-        crew::News::Waiting => printer.wait(),
-        crew::News::Done(job, told) => {
+    print_all(jobs, asker, printer)
+}
+
+/// Prints what the doers give for all the jobs.
+fn print_all<O: Write, E: Write, D: FnMut(&Source) -> Told>(
+    jobs: Vec<Source>,
+    doer: impl Fn() -> D + Send + Sync + 'static,
+    mut printer: Printer<O, E>,
+) -> Result<Status, Failure> {
+    let mut status = Status::Answered;
+    crew::in_order(jobs, doer, |news| match news {
+        News::Waiting => printer.wait(),
+        News::Done(job, told) => {
             let told = told.unwrap_or_else(|| Told::lost(job));
             status = status.max(told.status);
             printer.print(job, &told)
@@ -49,4 +57,26 @@ pub fn ask(asking: &Asking, jobs: &[Source]) -> Result<Status, Failure> {
     })?;
     printer.finish()?;
     Ok(status)
+}
+
+#[cfg(test)]
+mod tests {
+    use super::*;
+
+    #[test]
+    fn a_job_that_breaks_down_is_told_and_the_others_are_printed() {
+        let jobs = ["a", "b", "c"].map(|name| Source::named(name.as_ref()));
+        let doer = || {
+            |job: &Source| {
+                assert_ne!(job.name(), "b");
+                Told::answered(format!("answer {}\n", job.name()).as_bytes())
+            }
+        };
+        let (mut output, mut error) = (Vec::new(), Vec::new());
+        let printer = Printer::over(&mut output, &mut error, jobs.len());
+        assert_eq!(print_all(jobs.to_vec(), doer, printer), Ok(Status::Failed));
+        assert_eq!(output, b"# a\nanswer a\n# b\n# c\nanswer c\n");
+        let said = "puvainy: b: this job broke down and is not answered; the others are\n";
+        assert_eq!(error, said.as_bytes());
+    }
 }

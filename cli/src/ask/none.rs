@@ -7,12 +7,12 @@ pub const ADVICE: [(&str, &str, &str); 2] = [
     (
         "cut=no",
         "the search ended by itself",
-        "raise `steps`, `size` or `depth`",
+        "raise `steps`, `size` or `depth` (at most 16, 31 and 15)",
     ),
     (
         "cut=yes",
         "as many terms were opened as `nodes` allows",
-        "raise `nodes`",
+        "raise `nodes` (at most 4,096)",
     ),
 ];
 
@@ -64,7 +64,7 @@ mod tests {
     fn only_a_none_is_told_of() {
         let none = b"answer=none\nleft=v0\nright=v1\nexpanded=3\ncut=yes\n";
         let said = sentences("a.job", none, &Names::default());
-        let due = "a.job: none: as many terms were opened as nodes allows; raise nodes, \
+        let due = "a.job: none: as many terms were opened as nodes allows; raise nodes (at most 4,096), \
                    or ask puvainy words whether the plans are equal at all";
         assert_eq!(said, [due]);
         let proved = b"answer=proved\nleft=v0\nright=+ v0 0\nsteps=1\n";

@@ -33,7 +33,7 @@ fn run(words: Vec<OsString>) -> Result<Status, Failure> {
         match arg {
             Arg::File(source) => answers.push(source),
             Arg::Option(option) => match option.as_str() {
-                "--help" => return DRAW.help(&mut args),
+                "--help" => return DRAW.helps(&mut args),
                 "--names" => names = Names::from_file(&args.value(&option, "a file")?)?,
                 "--page" => page = Some(args.number(&option, 1, 999)?),
                 _ => return Err(unknown(&option)),

@@ -4,36 +4,41 @@ use std::ffi::OsString;
 
 use puvainy::{Entry, MOST_ROOM, MOST_SLOTS, Room};
 
-use super::Word;
+use super::{Run, Word};
 use crate::args::{Arg, Args, unknown};
 use crate::ask::{Asking, ask};
 use crate::failure::{Failure, Status};
 use crate::names::Names;
 use crate::streams::Source;
 
-pub const FIND: Word = Word {
-    name: "find",
-    usage: USAGE,
-    does: "a shortest derivation from the smaller plan to the larger, or that there is none within the limits",
-    more: MORE,
-    run: |words| run(&FIND, Entry::Find, words),
-};
+pub const FIND: Word = word(
+    "find",
+    "a shortest derivation from the smaller plan to the larger, or that there is none within the limits",
+    |words| run(&FIND, Entry::Find, words),
+);
 
-pub const WORDS: Word = Word {
-    name: "words",
-    usage: USAGE,
-    does: "the words of both plans when multiplied out, and whether they are the same",
-    more: MORE,
-    run: |words| run(&WORDS, Entry::Words, words),
-};
+pub const WORDS: Word = word(
+    "words",
+    "the words of both plans when multiplied out, and whether they are the same",
+    |words| run(&WORDS, Entry::Words, words),
+);
 
-pub const RENAME: Word = Word {
-    name: "rename",
-    usage: USAGE,
-    does: "the equation of both plans under the least renaming of its letters",
-    more: MORE,
-    run: |words| run(&RENAME, Entry::Rename, words),
-};
+pub const RENAME: Word = word(
+    "rename",
+    "the equation of both plans under the least renaming of its letters",
+    |words| run(&RENAME, Entry::Rename, words),
+);
+
+/// A word that asks an entry.
+const fn word(name: &'static str, does: &'static str, run: Run) -> Word {
+    Word {
+        name,
+        usage: USAGE,
+        does,
+        more: MORE,
+        run,
+    }
+}
 
 const USAGE: &str = "[--slots N] [--room N] [--names FILE] [FILE...]";
 
@@ -67,7 +72,7 @@ fn run(word: &Word, entry: Entry, words: Vec<OsString>) -> Result<Status, Failur
             Arg::Option(option) => option,
         };
         match option.as_str() {
-            "--help" => return word.help(&mut args),
+            "--help" => return word.helps(&mut args),
             "--slots" => asking.slots = args.number(&option, 0, MOST_SLOTS)?,
             "--room" => asking.room = Room::Bytes(args.number(&option, 0, MOST_ROOM)?),
             "--names" => asking.names = Names::from_file(&args.value(&option, "a file")?)?,
@@ -82,5 +87,5 @@ fn run(word: &Word, entry: Entry, words: Vec<OsString>) -> Result<Status, Failur
             "- is standard input, which can be read once only".to_owned(),
         ));
     }
-    ask(&asking, &jobs)
+    ask(asking, jobs)
 }

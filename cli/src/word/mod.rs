@@ -3,7 +3,7 @@
 mod draw;
 mod jobs;
 
-use std::ffi::OsString;
+use std::ffi::{OsStr, OsString};
 
 use crate::args::Args;
 use crate::failure::{Failure, Status, shown};
@@ -17,8 +17,11 @@ pub struct Word {
     pub does: &'static str,
     /// The rest of its help.
     pub more: &'static str,
-    run: fn(Vec<OsString>) -> Result<Status, Failure>,
+    run: Run,
 }
+
+/// Does what the words behind its name ask.
+type Run = fn(Vec<OsString>) -> Result<Status, Failure>;
 
 pub const WORDS: [&Word; 4] = [&jobs::FIND, &jobs::WORDS, &jobs::RENAME, &draw::DRAW];
 
@@ -29,24 +32,31 @@ Exit status: 0 answered, 1 refused (of several jobs: any), 2 could not read or w
 /// Does what the words ask.
 pub fn run(mut words: Vec<OsString>) -> Result<Status, Failure> {
     if words.is_empty() {
+        let all = names();
         return Err(Failure(format!(
-            "what shall be done? Name one of {}, or --help",
-            names()
+            "what shall be done? Name one of {all}, or --help"
         )));
     }
     let first = words.remove(0);
-    match first.to_string_lossy().as_ref() {
-        "--help" | "-h" => printed(&help()),
-        "--version" | "-V" => printed(concat!("puvainy ", env!("CARGO_PKG_VERSION"), "\n")),
-        name => match WORDS.iter().find(|word| word.name == name) {
-            Some(word) => (word.run)(words),
-            None => Err(Failure(format!(
-                "there is no word {}: name one of {}, or --help",
-                shown(name),
-                names()
-            ))),
-        },
+    match (first.to_string_lossy().as_ref(), &words[..]) {
+        ("--help" | "-h", []) => printed(&help()),
+        ("--help" | "-h", [name]) => printed(&named(name)?.help()),
+        ("--version" | "-V", []) => printed(concat!("puvainy ", env!("CARGO_PKG_VERSION"), "\n")),
+        (option @ ("--help" | "-h" | "--version" | "-V"), _) => {
+            Err(Failure(format!("too much follows {option}")))
+        }
+        _ => (named(&first)?.run)(words),
     }
+}
+
+fn named(name: &OsStr) -> Result<&'static Word, Failure> {
+    let word = WORDS.into_iter().find(|word| name == word.name);
+    word.ok_or_else(|| {
+        let (name, all) = (shown(&name.to_string_lossy()), names());
+        Failure(format!(
+            "there is no word \"{name}\": name one of {all}, or --help"
+        ))
+    })
 }
 
 fn printed(text: &str) -> Result<Status, Failure> {
@@ -72,9 +82,8 @@ fn help() -> String {
 }
 
 impl Word {
-    /// Prints its help.
-    fn help(&self, args: &mut Args) -> Result<Status, Failure> {
-        args.no_value("--help")?;
+    /// Its whole help.
+    fn help(&self) -> String {
         let Word {
             name,
             usage,
@@ -82,8 +91,12 @@ impl Word {
             more,
             ..
         } = self;
-        printed(&format!(
-            "puvainy {name} {usage}\n    {does}\n\n{more}\n{STATUSES}"
-        ))
+        format!("puvainy {name} {usage}\n    {does}\n\n{more}\n{STATUSES}")
+    }
+
+    /// Prints its help, where an option asks for it.
+    fn helps(&self, args: &mut Args) -> Result<Status, Failure> {
+        args.no_value("--help")?;
+        printed(&self.help())
     }
 }

@@ -55,6 +55,20 @@ fn a_bad_job_loses_nothing_of_the_others() {
 }
 
 #[test]
+fn each_sentence_stands_behind_its_answer() {
+    let both = shell("$P words twice.job refused-6.job - swapped-join.job 2>&1 <refused-2.job");
+    let printed = "# twice.job\nsame=no\nleft=v0\nright=v0;v0\n\
+                   # refused-6.job\nanswer=refused\nnumber=6\n\
+                   puvainy: refused-6.job: lines 1 and 2: both sides are the same term; \
+                   do nothing: there is nothing to derive (refusal 6)\n\
+                   # -\nanswer=refused\nnumber=2\n\
+                   puvainy: standard input: line 1 (left), behind item 2: a sign lacks a part; \
+                   count the parts: each sign has two (refusal 2)\n\
+                   # swapped-join.job\nsame=no\nleft=v0 v1\nright=v1 v0\n";
+    assert_eq!((both.status, both.printed.as_str()), (Some(1), printed));
+}
+
+#[test]
 fn a_text_that_is_no_job_is_refused() {
     let large = puvainy_on(&["find"], &[b'a'; 1 << 20]);
     assert_eq!(
@@ -153,6 +167,11 @@ fn names_are_used_on_standard_error_alone() {
     assert_eq!(
         (proved.printed, proved.said.as_str()),
         (stored("archive.answer"), "")
+    );
+    let differ = puvainy(&["words", "--names", "names.txt", "twice.job"]);
+    assert_eq!(
+        (differ.printed, differ.said.as_str()),
+        (stored("twice.words"), "")
     );
     let wrong = puvainy(&["find", "--names", "archive.job", "archive.job"]);
     assert_eq!((wrong.status, wrong.printed.as_str()), (Some(2), ""));

@@ -1,5 +1,10 @@
 //! Each exit status, and that no failure to read or write is met with silence.
 
+use std::fs::File;
+use std::process::Stdio;
+use std::thread::sleep;
+use std::time::{Duration, Instant};
+
 use crate::common::{Gave, call, puvainy, puvainy_on, shell, stored};
 
 /// The call failed: it printed nothing and said this.
@@ -83,11 +88,11 @@ fn a_wrong_call_is_2() {
         puvainy(&[]),
         "what shall be done? Name one of find, words, rename, draw, or --help",
     );
-    let words = "there is no word fnd: name one of find, words, rename, draw, or --help";
+    let words = "there is no word \"fnd\": name one of find, words, rename, draw, or --help";
     failed(puvainy(&["fnd", "archive.job"]), words);
     let option = "there is no option --slot here; --help shows those there are";
     failed(puvainy(&["find", "--slot", "4", "archive.job"]), option);
-    let number = "--slots takes a number from 0 to 65535, not 65536";
+    let number = "--slots takes a number from 0 to 65535, not \"65536\"";
     failed(puvainy(&["find", "--slots=65536", "archive.job"]), number);
     failed(
         puvainy(&["find", "-", "-"]),
@@ -134,6 +139,28 @@ fn a_reader_that_leaves_a_long_run_is_told() {
 }
 
 #[test]
+fn a_failed_output_does_not_wait_for_a_job_that_never_comes() {
+    let full = File::create("/dev/full").expect("the full device");
+    let mut call = call(&["words", "archive.job", "-"]);
+    let mut child = call
+        .stdin(Stdio::piped())
+        .stdout(full)
+        .stderr(Stdio::null())
+        .spawn()
+        .unwrap();
+    let input = child.stdin.take();
+    let start = Instant::now();
+    let status = loop {
+        match child.try_wait().unwrap() {
+            None if start.elapsed() < Duration::from_secs(60) => sleep(Duration::from_millis(20)),
+            status => break status,
+        }
+    };
+    drop(input);
+    assert_eq!(status.and_then(|status| status.code()), Some(2));
+}
+
+#[test]
 fn a_closed_standard_error_changes_no_answer() {
     let gave = shell("$P find refused-2.job 2>&-; echo $?");
     assert_eq!(gave.printed, "answer=refused\nnumber=2\n1\n");
@@ -158,9 +185,17 @@ fn help_and_version_are_0() {
         );
         assert!(own.printed.contains("Exit status: 0 answered, 1 refused"));
     }
-    let version = puvainy(&["--version"]);
     assert_eq!(
-        (version.status, version.printed.as_str()),
-        (Some(0), "puvainy 0.1.0\n")
+        puvainy(&["--help", "draw"]).printed,
+        puvainy(&["draw", "-h"]).printed
     );
+    for word in ["--version", "-V"] {
+        let version = puvainy(&[word]);
+        assert_eq!(
+            (version.status, version.printed.as_str()),
+            (Some(0), "puvainy 0.1.0\n")
+        );
+    }
+    failed(puvainy(&["--version", "x"]), "too much follows --version");
+    failed(puvainy(&["find", "--help=x"]), "--help takes no value");
 }

@@ -52,7 +52,7 @@ fn names_are_escaped() {
 #[test]
 fn a_name_that_is_too_long_is_cut() {
     let name = "Stock ".repeat(33);
-    let texts = texts(&drawn(&format!("v2 {name}\nv10 {name}\n")));
+    let texts = texts(&drawn(&format!("v2 {name}\nv10 {name}B\n")));
     let cut: Vec<_> = texts.iter().filter(|text| text.ends_with('…')).collect();
     assert_eq!(cut.len(), 6);
     let begins = |text: &&String| name.starts_with(text.trim_end_matches('…'));

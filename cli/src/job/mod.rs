@@ -36,7 +36,9 @@ impl<'a> Job<'a> {
         if self.bytes.len() > MOST_BYTES {
             return Vec::new();
         }
-        let shown = |(line, key)| Some((key, str::from_utf8(self.value(line, key)?).ok()?));
+        let text =
+            |value: &'a [u8]| str::from_utf8(value.strip_suffix(b"\r").unwrap_or(value)).ok();
+        let shown = |(line, key)| Some((key, text(self.value(line, key)?)?));
         SIDES.into_iter().enumerate().filter_map(shown).collect()
     }
 
@@ -65,8 +67,9 @@ impl<'a> Job<'a> {
         if self.bytes.len() > MOST_BYTES {
             return Some(found(Fault::Long, "the whole text".to_owned()));
         }
-        if MARKS.iter().any(|mark| self.bytes.starts_with(mark)) {
-            return Some(at(Fault::Mark, 0));
+        let is_marked = MARKS.iter().any(|mark| self.bytes.starts_with(mark));
+        if is_marked || self.bytes.contains(&0) {
+            return Some(found(Fault::Mark, "the whole text".to_owned()));
         }
         let returned = self.lines.iter().position(|line| line.ends_with(b"\r\n"));
         returned.map(|line| at(Fault::Windows, line))
@@ -93,7 +96,7 @@ impl<'a> Job<'a> {
     fn in_sides(&self, find: fn(&[u8]) -> Option<(Fault, String)>) -> Option<Found> {
         SIDES.into_iter().enumerate().find_map(|(line, key)| {
             let (fault, place) = find(self.value(line, key)?)?;
-            Some(found(fault, format!("line {} ({key}), {place}", line + 1)))
+            Some(found(fault, format!("line {} ({key}){place}", line + 1)))
         })
     }
 
@@ -145,8 +148,11 @@ fn is_number(digits: &[u8]) -> bool {
 /// Why a side is no term, and at which of its items.
 fn in_term(side: &[u8]) -> Option<(Fault, String)> {
     let side = String::from_utf8_lossy(side);
+    if side.is_empty() {
+        return Some((Fault::Empty, String::new()));
+    }
     let items: Vec<_> = side.split(' ').collect();
-    let place = |index: usize| format!("item {}", index + 1);
+    let place = |index: usize| format!(", item {}", index + 1);
     if let Some(index) = items.iter().position(|item| item.is_empty()) {
         return Some((Fault::Space, place(index)));
     }
@@ -162,142 +168,13 @@ fn in_term(side: &[u8]) -> Option<(Fault, String)> {
         }
         parts = if is_sign { parts + 1 } else { parts - 1 };
     }
-    (parts > 0).then(|| (Fault::Part, format!("behind {}", place(items.len() - 1))))
+    (parts > 0).then(|| (Fault::Part, format!(", behind item {}", items.len())))
 }
 
 fn in_size(side: &[u8]) -> Option<(Fault, String)> {
     let nodes = side.split(|&byte| byte == b' ').count();
-    (nodes > MOST_NODES).then(|| (Fault::Nodes, format!("{nodes} nodes")))
+    (nodes > MOST_NODES).then(|| (Fault::Nodes, format!(", {nodes} nodes")))
 }
 
 #[cfg(test)]
-mod tests {
-    use puvainy::{Buffers, Entry, Room};
-
-    use super::*;
-    use crate::refusals::ROWS;
-
-    /// A job that is accepted, and three that a small damage makes one of too many letters, of equal sides, or over a bound.
-    const JOB: &str = "left=+ * v0 v1 0\nright=* v0 v1\nsteps=3\nsize=9\ndepth=4\nnodes=1000\n";
-    const JOBS: [&str; 4] = [
-        JOB,
-        "left=+ v0 + v1 + v2 v3\nright=+ v0 + v1 + v4 v5\nsteps=3\nsize=9\ndepth=4\nnodes=10\n",
-        "left=v0\nright=v1\nsteps=3\nsize=9\ndepth=4\nnodes=1000\n",
-        "left=v0\nright=1\nsteps=16\nsize=31\ndepth=15\nnodes=4096\n",
-    ];
-
-    /// The place of the fault for which WORDS refuses the job.
-    fn told(job: &str) -> (Fault, String) {
-        let asked = Buffers::new(0, Room::Grows)
-            .ask(Entry::Words, job.as_bytes())
-            .map(<[u8]>::len);
-        let found = Job::new(job.as_bytes()).fault(asked.unwrap_err()).unwrap();
-        (found.fault, found.place)
-    }
-
-    #[test]
-    fn the_place_of_each_fault_is_told() {
-        let with = |from: &str, to: &str| told(&JOB.replacen(from, to, 1));
-        let due = |fault, place: &str| (fault, place.to_owned());
-        assert_eq!(
-            with("left=", &" ".repeat(1024)),
-            due(Fault::Long, "the whole text")
-        );
-        assert_eq!(with("left", "\u{feff}left"), due(Fault::Mark, "line 1"));
-        assert_eq!(with("3\n", "3\r\n"), due(Fault::Windows, "line 3"));
-        assert_eq!(
-            with("nodes=1000\n", ""),
-            due(Fault::Missing, "line 6 (nodes)")
-        );
-        assert_eq!(told(""), due(Fault::Missing, "line 1 (left)"));
-        assert_eq!(with("size", "Size"), due(Fault::Key, "line 4 (size)"));
-        assert_eq!(with("1000\n", "1000"), due(Fault::End, "line 6 (nodes)"));
-        assert_eq!(with("1000\n", "1000\n\n"), due(Fault::More, "line 7"));
-        assert_eq!(
-            with("depth=4", "depth=04"),
-            due(Fault::Digits, "line 5 (depth)")
-        );
-        assert_eq!(
-            with("* v0 v1 0", "* v0  v1 0"),
-            due(Fault::Space, "line 1 (left), item 4")
-        );
-        assert_eq!(
-            with("right=* v0 v1", "right="),
-            due(Fault::Space, "line 2 (right), item 1")
-        );
-        assert_eq!(
-            with("v1 0", "v\u{e9}\t1 0"),
-            due(Fault::Item, "line 1 (left), item 4 (v\u{e9}\\t1)")
-        );
-        assert_eq!(
-            with("v1 0", "v1"),
-            due(Fault::Part, "line 1 (left), behind item 4")
-        );
-        assert_eq!(
-            with("v1 0", "v1 0 0"),
-            due(Fault::Left, "line 1 (left), item 6")
-        );
-        let wide = format!("right={}v1", "+ v1 ".repeat(16));
-        assert_eq!(
-            with("right=* v0 v1", &wide),
-            due(Fault::Nodes, "line 2 (right), 33 nodes")
-        );
-        let many = "+ v6 + v5 + v4 + v3 + v2 ";
-        assert_eq!(
-            with("left=", &format!("left={many}")),
-            due(Fault::Letters, "lines 1 and 2, 7 letters")
-        );
-        assert_eq!(
-            with("size=9", "size=32"),
-            due(Fault::Bound, "line 4 (size)")
-        );
-        let long = format!("nodes={}", "9".repeat(40));
-        assert_eq!(
-            with("nodes=1000", &long),
-            due(Fault::Bound, "line 6 (nodes)")
-        );
-        assert_eq!(
-            with("left=+ * v0 v1 0", "left=* v0 v1"),
-            due(Fault::Same, "lines 1 and 2")
-        );
-    }
-
-    /// Damages the job at one place, by a draw.
-    fn damage(job: &mut Vec<u8>, draw: u64) {
-        const BYTES: &[u8] = b"+*v019 =\n\r\xff\x00abst";
-        let place = (draw >> 8) as usize % (job.len() + 1);
-        let byte = BYTES[(draw >> 40) as usize % BYTES.len()];
-        match draw >> 60 {
-            0..6 => job.insert(place, byte),
-            6..12 if place < job.len() => job[place] = byte,
-            12..15 if place < job.len() => drop(job.remove(place)),
-            _ => job.truncate(place),
-        }
-    }
-
-    #[test]
-    fn the_fault_found_is_one_of_the_number_given() {
-        let mut buffers = Buffers::new(0, Room::Grows);
-        let mut draw: u64 = 1;
-        let mut counts = [0; 9];
-        for round in 0..40_000 {
-            let mut job = JOBS[round % 4].as_bytes().to_vec();
-            for _ in 0..1 + draw % 3 {
-                draw = draw
-                    .wrapping_mul(6364136223846793005)
-                    .wrapping_add(1442695040888963407);
-                damage(&mut job, draw ^ draw >> 29);
-            }
-            let number = buffers.ask(Entry::Words, &job).err().unwrap_or(0);
-            counts[number] += 1;
-            let found = Job::new(&job).fault(number).map(|found| found.fault);
-            let row = ROWS.iter().find(|row| Some(row.fault) == found);
-            let text = String::from_utf8_lossy(&job);
-            assert_eq!(row.map_or(0, |row| row.number), number, "{text}");
-        }
-        assert!(
-            [0, 1, 2, 5].into_iter().all(|number| counts[number] > 100),
-            "{counts:?}"
-        );
-    }
-}
+mod tests;
