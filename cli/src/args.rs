@@ -32,27 +32,6 @@ impl Args {
         }
     }
 
-    /// The next word.
-    pub fn next(&mut self) -> Result<Option<Arg>, Failure> {
-        let Some(word) = self.rest.pop_front() else {
-            return Ok(None);
-        };
-        if self.only_files || word == "-" || !word.as_encoded_bytes().starts_with(b"-") {
-            return Ok(Some(Arg::File(Source::named(&word))));
-        }
-        if word == "--" {
-            self.only_files = true;
-            return self.next();
-        }
-        let mut parts = word.as_bytes().splitn(2, |&byte| byte == b'=');
-        let name = String::from_utf8_lossy(parts.next().unwrap_or_default());
-        self.value = parts
-            .next()
-            .map(|value| OsStr::from_bytes(value).to_owned());
-        let long = if name == "-h" { "--help" } else { &name };
-        Ok(Some(Arg::Option(long.to_owned())))
-    }
-
     /// Nothing, for an option without a value.
     pub fn no_value(&mut self, option: &str) -> Result<(), Failure> {
         match self.value.take() {
@@ -83,6 +62,27 @@ impl Args {
     }
 }
 
+impl Iterator for Args {
+    type Item = Arg;
+
+    fn next(&mut self) -> Option<Arg> {
+        let word = self.rest.pop_front()?;
+        if self.only_files || word == "-" || !word.as_bytes().starts_with(b"-") {
+            return Some(Arg::File(Source::named(&word)));
+        }
+        if word == "--" {
+            self.only_files = true;
+            return self.next();
+        }
+        let mut parts = word.as_bytes().splitn(2, |&byte| byte == b'=');
+        let name = String::from_utf8_lossy(parts.next().unwrap_or_default());
+        let value = parts.next().map(OsStr::from_bytes);
+        self.value = value.map(OsStr::to_owned);
+        let long = if name == "-h" { "--help" } else { &name };
+        Some(Arg::Option(long.to_owned()))
+    }
+}
+
 /// What is said of an option that the word does not have.
 pub fn unknown(option: &str) -> Failure {
     Failure(format!(
@@ -101,7 +101,7 @@ mod tests {
 
     /// The next word as a text, `None` at the end.
     fn told(args: &mut Args) -> Option<String> {
-        args.next().unwrap().map(|arg| match arg {
+        args.next().map(|arg| match arg {
             Arg::Option(option) => option,
             Arg::File(source) => source.name(),
         })
@@ -117,7 +117,7 @@ mod tests {
         assert_eq!(told(&mut args).unwrap(), "--room");
         assert_eq!(args.number("--room", 0, 7), Ok(0));
         assert_eq!(told(&mut args).unwrap(), "--help");
-        let last = args.next().unwrap();
+        let last = args.next();
         assert!(matches!(last, Some(Arg::File(Source::File(file))) if file.as_os_str() == "-x"));
         assert_eq!(told(&mut args), None);
     }
@@ -126,7 +126,7 @@ mod tests {
     fn a_value_is_a_plain_number_within_its_bounds() {
         for given in ["", "8", "+7", "-1", "7 ", "x", "99999999999999999999"] {
             let mut args = args(&["--slots", given]);
-            assert!(matches!(args.next(), Ok(Some(Arg::Option(_)))));
+            assert!(matches!(args.next(), Some(Arg::Option(_))));
             let Failure(why) = args.number("--slots", 0, 7).unwrap_err();
             assert_eq!(
                 why,

@@ -29,7 +29,7 @@ tells it, and not checked.
 fn run(words: Vec<OsString>) -> Result<Status, Failure> {
     let (mut names, mut page, mut answers) = (Names::default(), None, Vec::new());
     let mut args = Args::new(words);
-    while let Some(arg) = args.next()? {
+    while let Some(arg) = args.next() {
         match arg {
             Arg::File(source) => answers.push(source),
             Arg::Option(option) => match option.as_str() {

@@ -63,7 +63,7 @@ fn run(word: &Word, entry: Entry, words: Vec<OsString>) -> Result<Status, Failur
     };
     let mut jobs = Vec::new();
     let mut args = Args::new(words);
-    while let Some(arg) = args.next()? {
+    while let Some(arg) = args.next() {
         let option = match arg {
             Arg::File(source) => {
                 jobs.push(source);
