@@ -38,16 +38,26 @@ pub fn plain(error: &Error) -> String {
         ErrorKind::StorageFull => "there is no space left".to_owned(),
         ErrorKind::NotADirectory => "a part of its name is no directory".to_owned(),
         ErrorKind::InvalidFilename => "its name is too long".to_owned(),
+        ErrorKind::WouldBlock => "it was set not to wait, and is not ready".to_owned(),
         ErrorKind::FileTooLarge => "it would become too large".to_owned(),
         _ => error.to_string(),
     }
+}
+
+/// Whether the character changes how a text is shown without being seen itself.
+pub fn is_unseen(character: char) -> bool {
+    let is_mark = matches!(
+        character,
+        '\u{ad}' | '\u{61c}' | '\u{200b}'..='\u{200f}' | '\u{2028}'..='\u{202e}' | '\u{2060}'..='\u{206f}' | '\u{feff}'
+    );
+    is_mark || character.is_control()
 }
 
 /// The text with nothing in it that a terminal would obey or that would break a line.
 pub fn shown(text: &str) -> String {
     let mut shown = String::new();
     for character in text.chars() {
-        if character.is_control() {
+        if is_unseen(character) {
             shown.extend(character.escape_default());
         } else {
             shown.push(character);
@@ -86,6 +96,9 @@ mod tests {
 
     #[test]
     fn a_shown_text_obeys_nothing() {
-        assert_eq!(shown("a\nb\u{1b}[2J\u{e9}"), "a\\nb\\u{1b}[2J\u{e9}");
+        assert_eq!(
+            shown("a\nb\u{1b}[2J\u{e9}\u{202e}"),
+            "a\\nb\\u{1b}[2J\u{e9}\\u{202e}"
+        );
     }
 }

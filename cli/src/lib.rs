@@ -52,6 +52,9 @@ impl Entry {
 
 #[cfg(test)]
 mod tests {
+    use std::fs;
+    use std::path::{Path, PathBuf};
+
     use super::*;
 
     #[test]
@@ -75,5 +78,37 @@ mod tests {
         }
         assert_eq!(Entry::named("FIND"), None);
         assert_eq!(Entry::named(""), None);
+    }
+
+    /// The Rust files below a folder of the repository, but for what is built.
+    fn sources(folder: PathBuf) -> Vec<(PathBuf, String)> {
+        let mut files = Vec::new();
+        for entry in fs::read_dir(folder).unwrap() {
+            let path = entry.unwrap().path();
+            if path.is_dir() && !path.ends_with("target") {
+                files.extend(sources(path));
+            } else if path.extension().is_some_and(|ending| ending == "rs") {
+                let text = fs::read_to_string(&path).unwrap();
+                files.push((path, text));
+            }
+        }
+        files
+    }
+
+    #[test]
+    fn the_entries_are_declared_once() {
+        let repository = Path::new(env!("CARGO_MANIFEST_DIR")).join("..");
+        let declaration = concat!("fn ", "puvainy_");
+        let folders = ["cli", "bench", "oracle", "examples"].map(|folder| repository.join(folder));
+        let files = folders.into_iter().flat_map(sources);
+        let declaring: Vec<_> = files
+            .filter(|(_, text)| text.contains(declaration))
+            .collect();
+        let [(file, text)] = &declaring[..] else {
+            panic!("{declaring:?}");
+        };
+        assert!(file.ends_with("cli/src/entries.rs"));
+        assert_eq!(text.matches(declaration).count(), Entry::ALL.len());
+        assert_eq!(text.matches("unsafe {").count(), Entry::ALL.len());
     }
 }

@@ -1,9 +1,9 @@
 //! What the letters stand for, by a file of lines `v0 Orders`. Names are shown to people and never stand in an answer.
 
 use std::collections::BTreeMap;
-use std::ffi::OsStr;
+use std::ffi::OsString;
 
-use crate::failure::{Failure, shown};
+use crate::failure::{Failure, is_unseen, shown};
 use crate::streams::Source;
 use crate::term::{Term, is_atom, is_letter};
 
@@ -15,8 +15,11 @@ const MOST_BYTES: usize = 1 << 20;
 pub struct Names(BTreeMap<String, String>);
 
 impl Names {
-    /// The names in the file, or why they cannot be had.
-    pub fn from_file(file: &OsStr) -> Result<Names, Failure> {
+    /// The names in the file, if one is chosen, or why they cannot be had.
+    pub fn chosen(file: Option<OsString>) -> Result<Names, Failure> {
+        let Some(file) = file else {
+            return Ok(Names::default());
+        };
         let source = Source::File(file.into());
         let bytes = source.read(MOST_BYTES)?;
         Names::read(&bytes).map_err(|why| Failure(format!("the names in {}: {why}", source.name())))
@@ -38,7 +41,7 @@ impl Names {
             return Ok(());
         }
         let (letter, name) = line.split_once([' ', '\t']).unwrap_or((line, ""));
-        let name = name.trim();
+        let name = name.split_whitespace().collect::<Vec<_>>().join(" ");
         if !is_letter(letter) {
             return Err("a line begins with a letter, v0 to v999, as in `v0 Orders`".to_owned());
         }
@@ -52,17 +55,17 @@ impl Names {
                 "the name of {letter} holds a character that cannot be seen; take it out"
             ));
         }
-        if is_atom(name) || name == "+" || name == "*" {
+        if is_atom(&name) || name == "+" || name == "*" {
             return Err(format!(
                 "{name} is an item of terms and no name; take another"
             ));
         }
-        if let Some((other, _)) = self.0.iter().find(|(_, given)| *given == name) {
+        if let Some((other, _)) = self.0.iter().find(|(_, given)| **given == name) {
             return Err(format!(
                 "{other} is named {name} too; give each letter a name of its own"
             ));
         }
-        match self.0.insert(letter.to_owned(), name.to_owned()) {
+        match self.0.insert(letter.to_owned(), name) {
             None => Ok(()),
             Some(former) => Err(format!(
                 "{letter} is named {former} already; name each letter once"
@@ -95,10 +98,14 @@ impl Names {
         Some(format!("{key}: {spelled}"))
     }
 
-    /// The term for people: signs between their parts, brackets about each part that is no letter, names for letters.
+    /// The term for people: signs between their parts, brackets about each part that is no letter, names for letters. A name that holds
+    /// signs or brackets is quoted.
     pub fn spell(&self, term: &Term) -> String {
         match term {
-            Term::Atom(item) => self.or_item(item).to_owned(),
+            Term::Atom(item) => match self.or_item(item) {
+                name if name.contains(['+', '*', '(', ')', '"']) => format!("\"{name}\""),
+                name => name.to_owned(),
+            },
             Term::Over(sign, parts) => {
                 let [left, right] = parts.each_ref().map(|part| match part {
                     Term::Atom(_) => self.spell(part),
@@ -108,13 +115,6 @@ impl Names {
             }
         }
     }
-}
-
-/// Whether the character changes how a text is shown without being seen itself.
-fn is_unseen(character: char) -> bool {
-    let turns = ['\u{200e}', '\u{200f}', '\u{61c}', '\u{feff}'].contains(&character);
-    let turns = turns || matches!(character, '\u{202a}'..='\u{202e}' | '\u{2066}'..='\u{2069}');
-    turns || character.is_control()
 }
 
 /// The bytes as text, without a byte order mark. Or says in which line they are none, and to save `what` they are anew.
@@ -138,6 +138,9 @@ mod tests {
         let spelled = "(Orders * North stock) + (Orders * (v2 + 0))";
         assert_eq!(names.spell(&term), spelled);
         assert_eq!(names.get("v2"), None);
+        let names = Names::read(b"v0 Orders (A + B)\n").unwrap();
+        let spelled = "(\"Orders (A + B)\" * v1) + (\"Orders (A + B)\" * (v2 + 0))";
+        assert_eq!(names.spell(&term), spelled);
     }
 
     #[test]
@@ -148,6 +151,10 @@ mod tests {
         assert!(told(b"v0 A\nv0 B\n").starts_with("line 2: v0 is named A already"));
         assert!(told(b"v0 A\x1b[2J\n").starts_with("line 1: the name of v0 holds a character"));
         assert!(told("v0 A\u{202e}B\n".as_bytes()).starts_with("line 1: the name of v0 holds"));
+        assert!(
+            told("v0 A\nv1 A\u{200b}\n".as_bytes()).starts_with("line 2: the name of v1 holds")
+        );
+        assert!(told(b"v0 A  B\nv1 A B\n").starts_with("line 2: v0 is named A B too"));
         assert!(told(b"v0 A\nv1 A\n").starts_with("line 2: v0 is named A too"));
         for item in ["0", "1", "v7", "+", "*"] {
             let why = told(format!("v0 {item}\n").as_bytes());

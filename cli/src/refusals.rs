@@ -134,7 +134,7 @@ pub const ROWS: [Row; 19] = [
     row(
         5,
         Fault::Bound,
-        "the limit is over its bound: steps 16, size 31, depth 15, nodes 4,096",
+        "the limit is over its bound: steps 16, size 31, depth 15, nodes 4096",
         "lower the limit",
     ),
     row(
@@ -147,13 +147,13 @@ pub const ROWS: [Row; 19] = [
         7,
         Fault::Slots,
         "FIND would note more terms than there are slots",
-        "narrow `size` and `depth`, then `steps` and `nodes`; or give more slots, where they are below 65,535",
+        "narrow `size` and `depth`, then `steps` and `nodes`; or give more slots, where they are below 65535",
     ),
     row(
         8,
         Fault::Room,
         "the answer is longer than the output room",
-        "give more room; or go by a plan in between, with a job for each half",
+        "give more room; or, with FIND, go by a plan in between, with a job for each half",
     ),
 ];
 

@@ -78,7 +78,7 @@ impl Asker {
         match self.buffers.ask(asking.entry, &bytes) {
             Ok(answer) => Told {
                 status: Status::Answered,
-                said: none::sentences(&source.name(), answer, &asking.names),
+                said: none::sentences(&source.name(), &Job::new(&bytes), answer, &asking.names),
                 printed: answer.to_vec(),
             },
             Err(number) => Told {
@@ -107,8 +107,8 @@ fn lacking(number: usize, asking: &Asking) -> Option<Found> {
         (7, _) if asking.slots == MOST_SLOTS => {
             (Fault::Slots, format!("with all {MOST_SLOTS} slots"))
         }
-        (7, _) => (Fault::Slots, format!("with {} slots", asking.slots)),
-        (8, Room::Bytes(bytes)) => (Fault::Room, format!("with {bytes} bytes")),
+        (7, _) => (Fault::Slots, format!("with --slots {}", asking.slots)),
+        (8, Room::Bytes(bytes)) => (Fault::Room, format!("with --room {bytes}")),
         _ => return None,
     };
     Some(Found { fault, place })

@@ -42,6 +42,15 @@ impl<'a> Job<'a> {
         SIDES.into_iter().enumerate().filter_map(shown).collect()
     }
 
+    /// Its limits with their bounds, where they are numbers.
+    pub fn limits(&self) -> Vec<(&'static str, usize, usize)> {
+        let limit = |(index, (key, most))| {
+            let digits = str::from_utf8(self.value(SIDES.len() + index, key)?).ok()?;
+            Some((key, digits.parse().ok()?, most))
+        };
+        LIMITS.into_iter().enumerate().filter_map(limit).collect()
+    }
+
     /// What stands behind the key in that line, if the line has it; the first line is 0.
     fn value(&self, line: usize, key: &str) -> Option<&'a [u8]> {
         let line = self.lines.get(line)?;

@@ -49,11 +49,17 @@ impl<'n> Boxes<'n> {
         }
     }
 
-    /// The name of an item, cut if need be, and the width of its box.
+    /// What stands in an item's box, and the box's width: its name, or if that has no room, the item with as much of the name as has
+    /// room. So different letters never look alike.
     pub fn of(&self, item: &str) -> Option<(String, f64)> {
         let name = self.names.get(item)?;
-        let wide = width(name, self.size).min(self.most);
-        Some((svg::cut(name, self.size, wide - BESIDE), wide))
+        let whole = width(name, self.size);
+        if whole <= self.most {
+            return Some((name.to_owned(), whole));
+        }
+        let cut = svg::cut(&format!("{item} {name}"), self.size, self.most - BESIDE);
+        let has_more = cut.len() > item.len() + " …".len();
+        Some((if has_more { cut } else { item.to_owned() }, self.most))
     }
 
     /// The size of the names.

@@ -1,6 +1,6 @@
 //! Pictures of derivations.
 //!
-//! Each term of the path is a tree. Each line of the path is an arrow in its own colour. The part that a line replaces has a solid
+//! Each term of the path is a tree. Each line of the path is an arrow, on its page in a colour of its own. The part that a line replaces has a solid
 //! outline in the term before, what it puts there a dashed one in the term after. The same answer and names give the same bytes.
 
 mod answer;

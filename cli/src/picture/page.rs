@@ -27,7 +27,7 @@ pub fn width(path: &Path, rows: &[Row], names: &Names) -> f64 {
     (2.0 * MARGIN + widest).clamp(LEGEND, WIDE)
 }
 
-/// Lays the rows on as few pages as they need in their order. The trees of a row that is too high for a page are lowered.
+/// Lays the rows on pages in their order, each on the page before it if that has room, and a colour for each line. The trees of a row that is too high for a page are lowered.
 pub fn pages<'a>(path: &mut Path<'a>, rows: Vec<Row>, names: &Names, wide: f64) -> Vec<Page<'a>> {
     let mut pages: Vec<Page> = Vec::new();
     for row in rows {
@@ -36,7 +36,7 @@ pub fn pages<'a>(path: &mut Path<'a>, rows: Vec<Row>, names: &Names, wide: f64) 
         if let Some(last) = pages.last_mut() {
             let rows = last.rows.iter().cloned().chain([row.clone()]).collect();
             let longer = Page::new(path, rows, names, wide);
-            if longer.tall <= TALL {
+            if longer.tall <= TALL && longer.lines() <= COLOURS.len() {
                 *last = longer;
                 continue;
             }
@@ -52,6 +52,11 @@ impl<'a> Page<'a> {
         let high: f64 = rows.iter().map(|row| path.row_height(row)).sum();
         let tall = ABOVE + high + key.height() + BELOW;
         Page { rows, key, tall }
+    }
+
+    /// How many lines it shows at most: one to each of its terms, and the one that leads on.
+    fn lines(&self) -> usize {
+        self.rows.iter().map(|row| row.len()).sum::<usize>() + 1
     }
 
     /// Draws the page. `which` tells it from the other pages, and is empty if there are none.

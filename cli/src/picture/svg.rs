@@ -22,8 +22,8 @@ pub struct Colour {
     pub fill: &'static str,
 }
 
-/// The colours, which the lines take in turn.
-pub const COLOURS: [Colour; 4] = [
+/// The colours, which the lines take in turn; no page shows more lines.
+pub const COLOURS: [Colour; 8] = [
     Colour {
         line: "#1d62a8",
         fill: "#dceaf8",
@@ -39,6 +39,22 @@ pub const COLOURS: [Colour; 4] = [
     Colour {
         line: "#7b3aa3",
         fill: "#eedff7",
+    },
+    Colour {
+        line: "#a8243c",
+        fill: "#f8dce1",
+    },
+    Colour {
+        line: "#0f7a7a",
+        fill: "#d5efef",
+    },
+    Colour {
+        line: "#6b6a00",
+        fill: "#efeecb",
+    },
+    Colour {
+        line: "#b0308a",
+        fill: "#f8dcef",
     },
 ];
 

@@ -22,19 +22,20 @@ tells it, and not checked.
 
   --names FILE  lines `v0 Orders`: tables are drawn with their names
   --page K      page K alone
+  --            what follows is the ANSWER, even if it begins with -
 ",
     run,
 };
 
 fn run(words: Vec<OsString>) -> Result<Status, Failure> {
-    let (mut names, mut page, mut answers) = (Names::default(), None, Vec::new());
+    let (mut names, mut page, mut answers) = (None, None, Vec::new());
     let mut args = Args::new(words);
     while let Some(arg) = args.next() {
         match arg {
             Arg::File(source) => answers.push(source),
             Arg::Option(option) => match option.as_str() {
                 "--help" => return DRAW.helps(&mut args),
-                "--names" => names = Names::from_file(&args.value(&option, "a file")?)?,
+                "--names" => names = Some(args.value(&option, "a file")?),
                 "--page" => page = Some(args.number(&option, 1, 999)?),
                 _ => return Err(unknown(&option)),
             },
@@ -46,7 +47,7 @@ fn run(words: Vec<OsString>) -> Result<Status, Failure> {
             "draw takes one ANSWER, and {count} are named; --help tells more"
         )));
     };
-    draw(answer, &names, page)
+    draw(answer, &Names::chosen(names)?, page)
 }
 
 /// Draws the answer; one that holds no derivation is refused.

@@ -61,7 +61,7 @@ fn run(word: &Word, entry: Entry, words: Vec<OsString>) -> Result<Status, Failur
         room: Room::Grows,
         names: Names::default(),
     };
-    let mut jobs = Vec::new();
+    let (mut jobs, mut names) = (Vec::new(), None);
     let mut args = Args::new(words);
     while let Some(arg) = args.next() {
         let option = match arg {
@@ -75,7 +75,7 @@ fn run(word: &Word, entry: Entry, words: Vec<OsString>) -> Result<Status, Failur
             "--help" => return word.helps(&mut args),
             "--slots" => asking.slots = args.number(&option, 0, MOST_SLOTS)?,
             "--room" => asking.room = Room::Bytes(args.number(&option, 0, MOST_ROOM)?),
-            "--names" => asking.names = Names::from_file(&args.value(&option, "a file")?)?,
+            "--names" => names = Some(args.value(&option, "a file")?),
             _ => return Err(unknown(&option)),
         }
     }
@@ -87,5 +87,6 @@ fn run(word: &Word, entry: Entry, words: Vec<OsString>) -> Result<Status, Failur
             "- is standard input, which can be read once only".to_owned(),
         ));
     }
+    asking.names = Names::chosen(names)?;
     ask(asking, jobs)
 }

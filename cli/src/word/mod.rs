@@ -54,7 +54,7 @@ fn named(name: &OsStr) -> Result<&'static Word, Failure> {
     word.ok_or_else(|| {
         let (name, all) = (shown(&name.to_string_lossy()), names());
         Failure(format!(
-            "there is no word \"{name}\": name one of {all}, or --help"
+            "there is no command \"{name}\": name one of {all}, or --help"
         ))
     })
 }
@@ -77,7 +77,7 @@ fn help() -> String {
             word.name, word.usage, word.does
         );
     }
-    text += "\n  puvainy WORD --help   the whole help of a word\n  puvainy --version\n\n";
+    text += "\n  puvainy COMMAND --help   all about one (or -h)\n  puvainy --version        (or -V)\n\n";
     text + STATUSES
 }
 

@@ -121,10 +121,10 @@ fn slots_and_room_are_as_many_as_are_given() {
         let with = puvainy(&["find", option, job]);
         assert_eq!(with.status, Some(1));
         assert_eq!(with.printed, format!("answer=refused\nnumber={number}\n"));
-        let given = option.split('=').next_back().unwrap();
+        let given = option.replace('=', " ");
         assert!(
             with.said
-                .starts_with(&format!("puvainy: {job}: with {given} ")),
+                .starts_with(&format!("puvainy: {job}: with {given}: ")),
             "{}",
             with.said
         );

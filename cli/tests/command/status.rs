@@ -88,7 +88,7 @@ fn a_wrong_call_is_2() {
         puvainy(&[]),
         "what shall be done? Name one of find, words, rename, draw, or --help",
     );
-    let words = "there is no word \"fnd\": name one of find, words, rename, draw, or --help";
+    let words = "there is no command \"fnd\": name one of find, words, rename, draw, or --help";
     failed(puvainy(&["fnd", "archive.job"]), words);
     let option = "there is no option --slot here; --help shows those there are";
     failed(puvainy(&["find", "--slot", "4", "archive.job"]), option);

@@ -55,11 +55,35 @@ fn a_name_that_is_too_long_is_cut() {
     let texts = texts(&drawn(&format!("v2 {name}\nv10 {name}B\n")));
     let cut: Vec<_> = texts.iter().filter(|text| text.ends_with('…')).collect();
     assert_eq!(cut.len(), 6);
-    let begins = |text: &&String| name.starts_with(text.trim_end_matches('…'));
-    assert!(
-        cut.iter().all(|text| begins(text) && text.len() > 20),
-        "{cut:?}"
-    );
+    // In the trees the letter stands before the name, in the key beside it.
+    let whole = [name.clone(), format!("v2 {name}"), format!("v10 {name}")];
+    let begins = |text: &str| whole.iter().any(|whole| whole.starts_with(text));
+    for text in cut {
+        assert!(
+            begins(text.trim_end_matches('…')) && text.len() > 20,
+            "{text}"
+        );
+    }
+}
+
+#[test]
+fn letters_whose_names_begin_alike_do_not_look_alike() {
+    let letters = ["v0", "v1", "v2", "v999"];
+    let names = letters.map(|letter| format!("{letter} Warehouse of the region {letter}\n"));
+    let names = Names::read(names.concat().as_bytes()).unwrap();
+    let side = "+ ".repeat(15) + &letters.repeat(4).join(" ");
+    let terms = [side.clone(), side];
+    let picture = draw("wide", proved(&terms, ".").as_bytes(), &names, None).unwrap();
+    let texts = texts(&picture);
+    for letter in letters {
+        let begins = |text: &&String| *text == letter || text.starts_with(&format!("{letter} W"));
+        // Four leaves in each of two trees, and the letter in the keys of two pages.
+        assert_eq!(
+            texts.iter().filter(begins).count(),
+            10,
+            "{letter}: {texts:?}"
+        );
+    }
 }
 
 /// How wide a letter of another script becomes is not known, so the words are held to their width.
