@@ -1,7 +1,9 @@
 //! Long paths, cut into pages.
 
+use std::collections::BTreeSet;
+
 use super::super::draw;
-use super::{check_page, proved, shapes, value, words};
+use super::{check_page, proved, shapes, text_value, value, words};
 use crate::names::Names;
 
 fn drawn(answer: &str, page: Option<usize>) -> Result<String, String> {
@@ -49,6 +51,30 @@ fn each_line_and_each_term_of_a_long_path_is_on_one_page() {
             assert_eq!(holds(page, &format!("{title}{}", pages.len())), 1);
             assert_eq!(holds(page, "the next line replaces this"), 1);
         }
+    }
+}
+
+/// On a page no colour has two arrows, two parts that are replaced or two that were put there.
+#[test]
+fn a_colour_belongs_to_one_line_of_a_page() {
+    let terms: Vec<String> = (0..17).map(|index| format!("v{}", index % 2)).collect();
+    let pages = pages(&proved(&terms, "."));
+    assert!(pages.len() > 1);
+    for page in pages {
+        let arrows = page.lines().filter(|element| element.contains(">line "));
+        let arrows = arrows.map(|element| ("arrow", text_value(element, "fill").unwrap()));
+        let outlines = page.lines().filter(|element| {
+            let is_sample = element.contains(r#" width="26" "#);
+            element.starts_with("<rect") && element.contains("stroke-width") && !is_sample
+        });
+        let outlines = outlines.map(|element| {
+            let is_dashed = element.contains("stroke-dasharray");
+            let kind = if is_dashed { "put there" } else { "replaced" };
+            (kind, text_value(element, "stroke").unwrap())
+        });
+        let coloured: Vec<_> = arrows.chain(outlines).collect();
+        let different: BTreeSet<_> = coloured.iter().collect();
+        assert_eq!(different.len(), coloured.len(), "{coloured:?}");
     }
 }
 
