@@ -17,9 +17,12 @@ fn the_guides_pictures_are_drawn_as_they_are_stored() {
         "four-joins",
         "nothing-first",
     ] {
-        let gave = puvainy(&["draw", &format!("{name}.answer")]);
-        assert_eq!((gave.status, gave.said.as_str()), (Some(0), ""));
-        assert_eq!(gave.printed, stored(&format!("{name}.svg")), "{name}");
+        let (answer, picture) = (format!("{name}.answer"), stored(&format!("{name}.svg")));
+        for words in [&["draw", &answer][..], &["draw", "--page", "1", &answer]] {
+            let gave = puvainy(words);
+            assert_eq!((gave.status, gave.said.as_str()), (Some(0), ""));
+            assert_eq!(gave.printed, picture, "{name}");
+        }
     }
 }
 

@@ -1,9 +1,9 @@
 //! What the tests share: answers made as text, and a picture's elements measured.
 
 mod bounds;
+mod guide;
 mod names;
 mod pages;
-mod stored;
 mod wrong;
 
 use super::svg;
