@@ -1,3 +1,2 @@
 -- Laws on what the program prints.
-pub mod Refusals
 pub mod Printing

@@ -25,7 +25,7 @@ fn respond(input: &[u8], output: &mut [u8], workspace: &mut [u32]) -> usize
 
 // One byte more than a job may have is read, so that a longer input is seen to be too long.
 fn main() {
-    let mut input = [0u8; 1025];
+    let mut input = [0u8; 4097];
     let n = io::read_full(STDIN_FILENO, &mut input);
     let mut output = [0u8; 32768];
     let mut workspace = [0u32; 16000];

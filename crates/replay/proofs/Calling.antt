@@ -10,7 +10,7 @@ use Rattle.terms.specs.Theory.Reflects.{Reflects}
 use Rattle.text.specs.Entry.{Call, FindCall}
 use Rattle.text.specs.Words.{words-entry}
 use Rattle.text.specs.Rename.{rename-entry}
-use Rattle.replay.specs.Calls.{lent-numbers, due-number, changed-to, Made, Verdict, Replayed}
+use Rattle.replay.specs.Calls.{lent-numbers, due-number, is-searched, changed-to, Made, Verdict, Replayed}
 use Rattle.replay.specs.Records.{part}
 use Rattle.replay.specs.Dirt.{bytes, over, due}
 use Rattle.replay.specs.declared.record.Record.{Record}
@@ -33,10 +33,16 @@ module _ (entry number lent : ℕ) where
   changed-by-others h = rw (ne-eqb entry 1 h, changed-to)
 
   pub changed-by-refusal : entry ≡ 1 → number ≤ 6 → 0 ≡ changed-to entry number lent
-  changed-by-refusal h l = rw (eq-eqb entry 1 h, le-ltb 6 number l, changed-to)
+  changed-by-refusal h l = rw (eq-eqb entry 1 h, le-ltb 6 number l, changed-to, is-searched)
 
-  pub changed-by-find : entry ≡ 1 → 6 < number → lent ≡ changed-to entry number lent
-  changed-by-find h l = rw (eq-eqb entry 1 h, lt-ltb 6 number l, changed-to)
+  pub changed-by-nine : entry ≡ 1 → 6 < number → number ≡ 9 → 0 ≡ changed-to entry number lent
+  changed-by-nine h l n = rw (eq-eqb entry 1 h, lt-ltb 6 number l, eq-eqb number 9 n, changed-to, is-searched)
+
+  pub changed-by-ten : entry ≡ 1 → 6 < number → (number ≡ 9 → ⊥) → number ≡ 10 → 0 ≡ changed-to entry number lent
+  changed-by-ten h l n t = rw (eq-eqb entry 1 h, lt-ltb 6 number l, ne-eqb number 9 n, eq-eqb number 10 t, changed-to, is-searched)
+
+  pub changed-by-find : entry ≡ 1 → 6 < number → (number ≡ 9 → ⊥) → (number ≡ 10 → ⊥) → lent ≡ changed-to entry number lent
+  changed-by-find h l n t = rw (eq-eqb entry 1 h, lt-ltb 6 number l, ne-eqb number 9 n, ne-eqb number 10 t, changed-to, is-searched)
 
 module _ {entry : ℕ} {job out work : List ℕ} {r : ℕ} {out′ work′ : List ℕ} where
   pub made-find : entry ≡ 1 → FindCall job out work r out′ work′ → Made entry job out work r out′ work′

@@ -5,8 +5,8 @@ use native.Mathlib.Nat.{zero-add, sub-zero}
 use native.Mathlib.Numerals.{add-one}
 use mathlib.Core.Path.{_≡_, refl, sym, ap, _∙_}
 use mathlib.Core.List.{List, _∷_, _++_, append-nil}
-use lib.ListN.{length, take, drop, getD, set, drop-of-length-le, length-set}
-use lib.Seq.{paste-suc, drop-cons, take-all}
+use lib.ListN.{length, take, drop, getD, set, drop-of-length-le, length-set, length-drop}
+use lib.Seq.{paste-suc, drop-cons, take-all, length-take-le, getD-append-add, getD-drop}
 use Rattle.replay.specs.Dirt.{dirt, over}
 
 -- the first i numbers are copied
@@ -39,6 +39,30 @@ pub copied-from-end : {from to₀ to : List ℕ} {i : ℕ} → Copied from to₀
 copied-from-end {from} {to₀} {to} {i} h l =
     let e : i ≡ length from = omega arith in
     h .is ∙ rw (e, take-all (length from) from (omega arith), take-all (length to₀) from (omega arith))
+
+-- ---- a list's own end moved to its front
+
+module _ {xs ys : List ℕ} (from : ℕ) {to : ℕ} (h : Copied (drop from xs) xs ys to) where
+  -- the number to move next still stands where it was
+  moved-next : getD ys (from + to) 0 ≡ getD (drop from xs) to 0
+  moved-next =
+      let moved = take to (drop from xs) in
+      let e : from + to ≡ length moved + from = omega (arith, length-take-le to (drop from xs) (h .read)) in
+      let k : to + from ≡ from + to = omega arith in
+      ap (λ (zs : List ℕ). getD zs (from + to) 0) (h .is)
+      ∙ ap (λ (j : ℕ). getD (moved ++ drop to xs) j 0) e
+      ∙ getD-append-add moved (drop to xs) from 0
+      ∙ getD-drop to xs from 0
+      ∙ ap (λ (j : ℕ). getD xs j 0) k
+      ∙ sym (getD-drop from xs to 0)
+
+  pub moved-more : (at : ℕ) → at ≡ from + to → at < length ys → Copied (drop from xs) xs (set ys to (getD ys at 0)) (to + 1)
+  moved-more at e l =
+      copied-more (getD ys at 0) h (omega (arith, length-drop from xs, h .long)) (omega arith) (rw e (sym moved-next))
+
+  pub moved-end : (at : ℕ) → at ≡ from + to → length ys ≤ at → (to ≡ length xs - from) × (ys ≡ over (drop from xs) xs)
+  moved-end at e l =
+      (omega (arith, length-drop from xs, h .long, h .read), copied-from-end h (omega (arith, length-drop from xs, h .long)))
 
 -- the dirt from a position on is the dirt that starts with the number there
 

@@ -1,7 +1,7 @@
 -- What a stored call is made on, what is due of it, and what a fault says of it.
 use Prim.Native.Nat.{ℕ, _+_, _*_, _%_, _<_}
 use mathlib.Core.Path.{_≡_}
-use mathlib.Core.Bool.{true, false, _&&_}
+use mathlib.Core.Bool.{Bool, true, false, not, _&&_}
 use mathlib.Core.Logic.{_⊎_}
 use mathlib.Core.List.{List, _++_}
 use lib.Dec.{eqb, ltb}
@@ -23,9 +23,13 @@ lent-numbers slots = elim (ltb 1000 slots) [ true ↦ 41000 | false ↦ slots * 
 abbrev pub due-number : (stored : ℕ) (answer : List ℕ) → ℕ
 due-number stored answer = elim (eqb stored 0) [ true ↦ 100 + length answer | false ↦ stored ]
 
--- where the workspace may be changed up to: in the lent part, by a call of FIND that returns more than 6
+-- whether a call of FIND that returns this number has searched: it is no refusal, or it is 7 or 8
+abbrev pub is-searched : (number : ℕ) → Bool
+is-searched number = ltb 6 number && not (eqb number 9) && not (eqb number 10)
+
+-- where the workspace may be changed up to: in the lent part, by a call of FIND that has searched
 abbrev pub changed-to : (entry number lent : ℕ) → ℕ
-changed-to entry number lent = elim (eqb entry 1 && ltb 6 number) [ true ↦ lent | false ↦ 0 ]
+changed-to entry number lent = elim (eqb entry 1 && is-searched number) [ true ↦ lent | false ↦ 0 ]
 
 -- a call of the entry with this number: FIND, WORDS or else RENAME
 pub record Made (entry : ℕ) (job out work : List ℕ) (r : ℕ) (out′ work′ : List ℕ) : Type 0 where

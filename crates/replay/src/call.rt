@@ -50,7 +50,8 @@ fn made(entry: usize, job: &[u8], output: &mut [u8], workspace: &mut [u32]) -> u
     puvainy::puvainy_rename(job, output)
 }
 
-// Where the workspace may be changed up to: nowhere by 1 to 6 and by WORDS and RENAME, else in the lent part.
+// Where the workspace may be changed up to: nowhere by 1 to 6, 9, 10 and by WORDS and RENAME, else in the
+// lent part.
 fn changed_up_to(entry: usize, number: usize, lent: usize) -> usize
     ensures { λ r. ⌜ r ≡ changed-to entry number lent ⌝ }
 {
@@ -58,6 +59,12 @@ fn changed_up_to(entry: usize, number: usize, lent: usize) -> usize
         return 0;
     }
     if number <= 6 {
+        return 0;
+    }
+    if number == 9 {
+        return 0;
+    }
+    if number == 10 {
         return 0;
     }
     lent

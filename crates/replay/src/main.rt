@@ -33,21 +33,51 @@ fn replay_one(
     call.next
 }
 
-// Each call finds the workspace as former calls left it, and an output full of other bytes.
+// Makes the calls that start before a position, and answers where the next one does. Each finds the workspace
+// as former calls left it, and an output full of other bytes.
 fn replay(
     s: &[u8],
+    upto: usize,
+    output: &mut [u8],
+    workspace: &mut [u32],
+    former: &mut [u32],
+    counts: &mut [u32],
+) -> usize
+    requires { ⌜ upto ≤ length (now s) ⌝ }
+    ensures { λ r. ⌜ r ≤ length (now (s .entry)) ⌝ }
+{
+    let mut first: u8 = 0;
+    let mut at: usize = 0;
+    while at < upto {
+        at = replay_one(s, at, first, output, workspace, former, counts);
+        first = std::num::wrapping_add_u8(first, 1);
+    }
+    at
+}
+
+// The list is read part by part; what is not replayed of a part is moved to the front of the next.
+fn replay_list(
+    input: &mut [u8],
     output: &mut [u8],
     workspace: &mut [u32],
     former: &mut [u32],
     counts: &mut [u32],
 ) {
     dirt::fill_numbers(workspace, 7);
-    let mut first: u8 = 0;
-    let mut at: usize = 0;
-    while at < s.len() {
-        at = replay_one(s, at, first, output, workspace, former, counts);
-        first = std::num::wrapping_add_u8(first, 1);
+    let mut held: usize = 0;
+    let mut part: usize = 0;
+    while part < 64 {
+        let n = io::read_full(STDIN_FILENO, &mut input[held..]);
+        let end = held + n;
+        let upto = record::starts_up_to(end, input.len());
+        let next = replay(&input[..end], upto, output, workspace, former, counts);
+        if end < input.len() {
+            return;
+        }
+        held = record::move_to_front(input, next);
+        part += 1;
     }
+    io::write_all(STDOUT_FILENO, b"the list is too long\n");
 }
 
 fn print_field(name: &[u8], n: u32) {
@@ -55,7 +85,7 @@ fn print_field(name: &[u8], n: u32) {
     io::print_decimal(STDOUT_FILENO, n as u64);
 }
 
-// The answers and the refusals 1 to 8 of an entry.
+// The answers and the refusals 1 to 10 of an entry.
 fn print_entry(counts: &[u32], name: &[u8], entry: usize) {
     io::write_all(STDOUT_FILENO, name);
     if 3 < entry {
@@ -63,7 +93,7 @@ fn print_entry(counts: &[u32], name: &[u8], entry: usize) {
     }
     print_field(b" answers=", tally::count_at(counts, entry * 16));
     let mut n: usize = 1;
-    while n < 9 {
+    while n < 11 {
         io::write_all(STDOUT_FILENO, b" refused_");
         io::print_decimal(STDOUT_FILENO, n as u64);
         print_field(b"=", tally::count_at(counts, entry * 16 + n));
@@ -84,20 +114,14 @@ fn print_counts(counts: &[u32]) {
     print_entry(counts, b"rename", 3);
 }
 
-// A list that fills the array may be cut off.
 fn main() {
-    let mut input = [0u8; 655360];
-    let n = io::read_full(STDIN_FILENO, &mut input);
-    if n == 655360 {
-        io::write_all(STDOUT_FILENO, b"the list is too long\n");
-        return;
-    }
+    let mut input = [0u8; 131072];
     let mut output = [0u8; 32768];
     let mut workspace = [0u32; 16040];
     let mut former = [0u32; 16040];
     let mut counts = [0u32; 64];
-    replay(
-        &input[..n],
+    replay_list(
+        &mut input,
         &mut output,
         &mut workspace,
         &mut former,

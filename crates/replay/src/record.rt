@@ -1,7 +1,9 @@
 // The list of stored calls: where its records start, and what stands in them.
-ghost use Prim.Native.Nat.{_≤_};
-ghost use lib.ListN.{length};
+ghost use Prim.Native.Nat.{_-_, _≤_};
+ghost use mathlib.Core.Path.{_≡_};
+ghost use lib.ListN.{length, drop};
 ghost use Rattle.replay.specs.Records.{Reads};
+ghost use Rattle.replay.specs.Dirt.{over};
 
 // A number, and the position after the byte that ends it.
 pub struct Number {
@@ -84,4 +86,35 @@ pub fn record_at(s: &[u8], at: usize) -> Reading
         answer,
         next,
     })
+}
+
+// No record is longer: one that starts as far before the end of a part of the list is whole.
+const LONGEST: usize = 40960;
+
+// Up to where the records that start in a part are whole. The last part leaves room behind it.
+pub fn starts_up_to(end: usize, size: usize) -> usize
+    ensures { λ r. ⌜ r ≤ end ⌝ }
+{
+    if end < size {
+        return end;
+    }
+    if end < LONGEST {
+        return 0;
+    }
+    end - LONGEST
+}
+
+// Moves the bytes from a position on to the front, and answers how many they are.
+pub fn move_to_front(s: &mut [u8], from: usize) -> usize
+    ensures { λ r. ⌜ (r ≡ length (now (s .entry)) - from) × (now (s .exit) ≡ over (drop from (now (s .entry))) (now (s .entry))) ⌝ }
+{
+    let mut to: usize = 0;
+    let mut at = from;
+    while at < s.len() {
+        let b = s[at];
+        s[to] = b;
+        to += 1;
+        at += 1;
+    }
+    to
 }

@@ -39,7 +39,7 @@ law-read-back = each-law (λ w. numbered-law (law-number w) ≡ w) (refl, refl, 
 pub law-ranked : (w : Law) → law-number w ≡ rank (name-of w)
 law-ranked = each-law (λ w. law-number w ≡ rank (name-of w)) (refl, refl, refl, refl, refl, refl, refl, refl, refl, refl)
 
-number-below : (w : Law) → law-number w < 10
+pub number-below : (w : Law) → law-number w < 10
 number-below = each-law (λ w. law-number w < 10) (omega arith, omega arith, omega arith, omega arith, omega arith, omega arith, omega arith, omega arith, omega arith, omega arith)
 
 pub direction-read-back : (d : Direction) → numbered-direction (direction-number d) ≡ d

@@ -27,10 +27,12 @@ pub mod Keeping
 pub mod Tracing
 pub mod Turning
 pub mod Traced
-pub mod Running
+pub mod Serving
+pub mod Replying
+pub mod Answering
 pub mod Resulting
 pub mod Repeating
 pub mod InTurn
 pub mod Taking
+pub mod Standing
 pub mod Searching
-pub mod Answering

@@ -15,10 +15,9 @@ use Rattle.terms.specs.Theory.Insert.{insert-lt, insert-eq, insert-gt}
 use Rattle.terms.specs.Theory.Sorted.{insert-below}
 use Rattle.terms.specs.Theory.TermOrder.{term-order, told-apart}
 use Rattle.search.specs.Line.{Line, by-result}
-use Rattle.search.specs.Search.{Noted, is-noted, entry, Turn, ended, note}
+use Rattle.search.specs.Search.{Noted, is-noted, entry}
 use Rattle.search.specs.Ordered.{inserted, unknown, joined}
 use Rattle.search.proofs.Rising.{line-at, Rising, below, rising-at, rising-inserted}
-use Rattle.search.proofs.Running.{note-known}
 
 -- a term noted before, or else as the last one
 module _ (t : Term) (n : Noted) where
@@ -159,33 +158,9 @@ fresh-rest ns trail xs j s f p h k =
     (told-apart (line-at xs p .result) (line-at xs j .result) (λ e. irreflexive term-order (rising-at xs s j p (omega arith) k) (sym e)))
     ∙ f p (omega arith) k
 
-still-noted : (t : Term) (n : Noted) (ns : List Noted) → is-noted t ns ≡ true → is-noted t (ns ++ (n ∷ [])) ≡ true
+-- what is noted stays so, and one noted term more makes noted what it is itself
+pub still-noted : (t : Term) (n : Noted) (ns : List Noted) → is-noted t ns ≡ true → is-noted t (ns ++ (n ∷ [])) ≡ true
 still-noted t n ns e = told (same t (n .term)) (λ q. last-noted t n ns q) (λ q. noted-without t n ns q ∙ e)
 
-module _ (right : Term) (trail : List Line) (ns : List Noted) where
-  -- a result that is noted before any is taken is passed over in its turn
-  pub note-unknown : (xs : List Line) (ys : List Noted) → ((t : Term) → is-noted t ns ≡ true → is-noted t ys ≡ true)
-      → note right trail (unknown ns xs) ys ≡ note right trail xs ys
-  unfolding note unknown
-  note-unknown [] ys h = refl
-  note-unknown (x ∷ xs) ys h =
-      told (is-noted (x .result) ns)
-      (λ e.
-      ap (λ l. note right trail l ys) (unknown-out ns x xs e)
-      ∙ note-unknown xs ys h
-      ∙ sym (note-known right trail x xs ys (h (x .result) e)))
-      (λ e.
-      ap (λ l. note right trail l ys) (unknown-in ns x xs e)
-      ∙ go (is-noted (x .result) ys) (same (x .result) right) (note-unknown xs ys h) (note-unknown xs more (λ t k. still-noted t (entry trail x) ys (h t k))))
-    where
-      more : List Noted
-      more = ys ++ (entry trail x ∷ [])
-
-      turn : Bool → Bool → List Line → Turn
-      turn b c zs = elim b [ true ↦ note right trail zs ys | false ↦ elim c [ true ↦ ended (entry trail x) more | false ↦ note right trail zs more ] ]
-
-      go : (b c : Bool) → note right trail (unknown ns xs) ys ≡ note right trail xs ys → note right trail (unknown ns xs) more ≡ note right trail xs more
-          → turn b c (unknown ns xs) ≡ turn b c xs
-      go true c p q = p
-      go false true p q = refl
-      go false false p q = q
+pub now-noted : (t : Term) (n : Noted) (ns : List Noted) → is-noted t ns ≡ false → is-noted t (ns ++ (n ∷ [])) ≡ same t (n .term)
+now-noted t n ns e = told (same t (n .term)) (λ q. last-noted t n ns q ∙ sym q) (λ q. noted-without t n ns q ∙ e ∙ sym q)

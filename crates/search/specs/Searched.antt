@@ -1,80 +1,100 @@
 -- What the search answers, with the noted terms in a workspace.
-use Prim.Native.Nat.{ℕ, _+_, _-_, _≤_, _<_}
+use Prim.Native.Nat.{ℕ, _+_, _≤_, _<_}
 use mathlib.Core.Path.{_≡_}
 use mathlib.Core.Bool.{true, false}
 use mathlib.Core.List.{List, [], _∷_, _++_}
-use lib.ListN.{length, take}
-use Rattle.terms.specs.Term.{Term, size, same}
+use lib.Dec.{ltb}
+use lib.ListN.{length, take, getD}
+use Rattle.terms.specs.Lists.{_∈_}
+use Rattle.terms.specs.Term.{Term, size}
 use Rattle.terms.specs.Held.{IsRun}
-use Rattle.search.specs.Law.{semiring}
+use Rattle.search.specs.Law.{Law}
 use Rattle.search.specs.Line as line
 use Rattle.search.specs.Line.{Line, results}
-use Rattle.search.specs.Search as search
-use Rattle.search.specs.Search.{Noted, entry, proved, unproved, whole-line, begun}
-use Rattle.search.specs.Coded.{name-of}
-use Rattle.search.specs.Runs.{Spells}
+use Rattle.search.specs.Search.{Noted, terms, entry}
+use Rattle.search.specs.Explore.{start}
+use Rattle.search.specs.Serve as serve
+use Rattle.search.specs.Serve.{times, Served, stopped, serve-on}
+use Rattle.search.specs.Runs.{term-at, Spells, Runs}
 use Rattle.search.specs.Slots.{noted-at, Slots}
 pub use Rattle.search.specs.Index.{slots-of}
 use Rattle.search.specs.Ordered.{Result, Ordered, unknown}
 use Rattle.search.specs.Resulted.{most-nodes}
+use Rattle.search.specs.Replied.{reply-of, waiting, Replied}
 use Rattle.search.specs.declared.bounded_search.Limits.{Limits}
 use Rattle.search.specs.declared.bounded_search.Taken.{Taken}
 use Rattle.search.specs.declared.bounded_search.Taken.the-variants as taken
-use Rattle.search.specs.declared.bounded_search.Outcome.{Outcome}
-use Rattle.search.specs.declared.bounded_search.Outcome.the-variants.{Direct, Proved, Unproved, Full}
+use Rattle.search.specs.declared.bounded_search.Stop.{Stop}
+use Rattle.search.specs.declared.bounded_search.Stop.the-variants.{All, Over, Full}
+use Rattle.search.specs.declared.bounded_search.Ended.{Ended}
 
 abbrev pub limits-of : Limits → line.Limits
 limits-of m = record { steps = m .steps; size = m .size; depth = m .depth; nodes = m .nodes }
 
--- what the functions promise
+abbrev pub stop-of : Stop → serve.Stop
+stop-of All = serve.all
+stop-of Over = serve.over
+stop-of Full = serve.full
+
+-- the one search ended so, and ws has its noted terms
+pub record Ends (r : Ended) (ws : List ℕ) (s : Served) : Type 0 where
+  pub stop : stop-of (r .stop) ≡ s .stop
+  pub opened : r .opened ≡ s .opened
+  pub noted : r .noted ≡ length (s .noted)
+  pub slots : Slots ws (s .noted)
+
+-- what the functions promise, each for a list of laws
 
 -- of `open_slot`
-pub record Opens (ws : List ℕ) (noted i : ℕ) (m : Limits) (res order : List ℕ) (r : ℕ) : Type 0 where
+pub record Opens (laws : List Law) (ws : List ℕ) (noted i : ℕ) (m : Limits) (res order : List ℕ) (r : ℕ) : Type 0 where
   pub few : r ≤ length order
   pub exact : (ns : List Noted) (t : Term) → Slots ws ns → length ns ≡ noted → Spells ws i t → size t ≤ most-nodes order → m .size ≤ 31
-      → Ordered t i res r (take r order) (unknown ns (results semiring (limits-of m) t))
+      → Ordered t i res r (take r order) (unknown ns (results laws (limits-of m) t))
 
 -- a slot is left for what is noted
 abbrev pub HasRoom : Taken → ℕ → ℕ → Type 0
-HasRoom taken.Noted count slots = count < slots
-HasRoom taken.Right count slots = count < slots
+HasRoom (taken.Noted c) count slots = count < slots
 HasRoom taken.Full count slots = Unit {0}
 
--- a line on the noted term n, taken in a search to t; ws has the noted terms afterwards
-abbrev pub Became : Taken → ℕ → List ℕ → List Noted → Noted → Line → Term → Type 0
-Became taken.Noted slots ws ns n x t = (same (x .result) t ≡ false) × Slots ws (ns ++ (entry (n .trail) x ∷ []))
-Became taken.Right slots ws ns n x t = (same (x .result) t ≡ true) × Slots ws (ns ++ (entry (n .trail) x ∷ []))
-Became taken.Full slots ws ns n x t = slots ≤ length ns
+-- a line on the noted term n, taken in a search that waits for ts; ws has the noted terms afterwards
+abbrev pub Became : Taken → ℕ → List ℕ → List Noted → Noted → Line → List Term → Type 0
+Became (taken.Noted c) slots ws ns n x ts = (c ≡ times (x .result) ts) × Slots ws (ns ++ (entry (n .trail) x ∷ []))
+Became taken.Full slots ws ns n x ts = (slots ≤ length ns) × Slots ws ns
 
 -- of `take_result`: slot k of res has a result of a noted term, whose distance is d
-pub record Takes (ws : List ℕ) (count slots : ℕ) (res : List ℕ) (k d : ℕ) (right : List ℕ) (r : Taken) (ws′ : List ℕ) : Type 0 where
+pub record Takes (ws : List ℕ) (count slots : ℕ) (res : List ℕ) (k d : ℕ) (rights replies : List ℕ) (r : Taken) (ws′ : List ℕ) : Type 0 where
   pub room : HasRoom r count slots
-  pub exact : (ns : List Noted) (i : ℕ) (x : Line) (t : Term) → Slots ws ns → length ns ≡ count → i < count → Result (noted-at ns i .term) i res k x
-      → d ≡ length (noted-at ns i .trail) → IsRun right t → Became r slots ws′ ns (noted-at ns i) x t
+  pub exact : (ns : List Noted) (i : ℕ) (x : Line) (ts : List Term) → Slots ws ns → length ns ≡ count → i < count → Result (noted-at ns i .term) i res k x
+      → d ≡ length (noted-at ns i .trail) → Runs rights ts → length ts ≡ length replies → Became r slots ws′ ns (noted-at ns i) x (waiting ts replies)
 
--- s is the first of the n noted terms, and right the last
-pub record Arrives (slots : ℕ) (ws : List ℕ) (s : Term) (e n : ℕ) (o : search.Outcome) : Type 0 where
-  pub some : 0 < n
-  pub room : n ≤ slots
-  pub ns : List Noted
-  pub held : Slots ws ns
-  pub count : length ns ≡ n
-  pub start : noted-at ns 0 .term ≡ s
-  pub is : o ≡ proved (noted-at ns (n - 1) .trail) e n
+-- of `explore`, which has room for the results of terms of at most `most` nodes; left is none of the right sides
+pub record Explores (laws : List Law) (rights replies : List ℕ) (n : ℕ) (m : Limits) (slots most : ℕ) (ws ws′ : List ℕ) (r : Ended) : Type 0 where
+  pub room : r .noted ≤ slots
+  pub exact : (s : Term) (ts : List Term) → Slots ws (start s) → Runs rights ts → length ts ≡ length replies → n ≡ length (waiting ts replies)
+      → (s ∈ ts → ⊥) → size s ≤ most → m .size ≤ most
+      → Ends r ws′ (serve-on (results laws (limits-of m)) (m .steps) slots (waiting ts replies) (m .nodes) 0 (start s))
 
--- an answer in a search from s to t, with so many slots, against the outcome
-abbrev pub Answers : Outcome → ℕ → List ℕ → Term → Term → search.Outcome → Type 0
-Answers (Direct w) slots ws s t o = o ≡ proved (whole-line (name-of w) t ∷ []) 0 0
-Answers (Proved e n) slots ws s t o = Arrives slots ws s e n o
-Answers (Unproved e) slots ws s t o = (n : ℕ) × (n ≤ slots) × (o ≡ unproved e n)
-Answers Full slots ws s t o = slots < search.noted o
+-- a search from s that waits for ts: s is noted in the first slot, if there is one
+abbrev pub begins : List Law → line.Limits → ℕ → Term → List Term → Served
+begins laws m slots s ts =
+    elim (ltb 0 slots) [
+      | false ↦ stopped serve.full 0 []
+      | true ↦ serve-on (results laws m) (m .steps) slots ts (m .nodes) 0 (start s)
+    ]
 
--- of `explore`, which has room for the results of terms of at most `most` nodes
-pub record Explores (right : List ℕ) (m : Limits) (slots most : ℕ) (ws ws′ : List ℕ) (r : Outcome) : Type 0 where
-  pub exact : (s t : Term) → Slots ws (record { term = s; trail = [] } ∷ []) → IsRun right t → size s ≤ most → m .size ≤ most
-      → Answers r slots ws′ s t (begun semiring (limits-of m) s t)
+-- of `explore_from`
+pub record Begins (laws : List Law) (left rights replies : List ℕ) (n : ℕ) (m : Limits) (ws ws′ : List ℕ) (r : Ended) : Type 0 where
+  pub room : r .noted ≤ slots-of (length ws)
+  pub exact : (s : Term) (ts : List Term) → IsRun left s → size s ≤ 31 → Runs rights ts → length ts ≡ length replies → n ≡ length (waiting ts replies)
+      → (s ∈ ts → ⊥) → m .size ≤ 31 → Ends r ws′ (begins laws (limits-of m) (slots-of (length ws)) s (waiting ts replies))
+
+-- how a search ended, and what became of each right side
+pub record Answers (laws : List Law) (m : line.Limits) (slots : ℕ) (s : Term) (ts : List Term) (ws replies : List ℕ) (r : Ended) : Type 0 where
+  pub ends : Ends r ws (serve.serve laws m slots s ts)
+  pub replied : (k : ℕ) → k < length ts → Replied laws s (term-at ts k) (terms (serve.serve laws m slots s ts .noted)) (reply-of (getD replies k 0))
 
 -- of `search_bounded_rewrite`
-pub record Searches (left right : List ℕ) (m : Limits) (ws ws′ : List ℕ) (r : Outcome) : Type 0 where
-  pub exact : (s t : Term) → IsRun left s → IsRun right t → size s ≤ 31 → size t ≤ 31 → m .size ≤ 31
-      → Answers r (slots-of (length ws)) ws′ s t (search.search semiring (limits-of m) s t)
+pub record Searches (laws : List Law) (left rights : List ℕ) (m : Limits) (ws ws′ replies replies′ : List ℕ) (r : Ended) : Type 0 where
+  pub kept : length replies′ ≡ length replies
+  pub exact : (s : Term) (ts : List Term) → IsRun left s → size s ≤ 31 → Runs rights ts → length ts ≡ length replies → (s ∈ ts → ⊥) → m .size ≤ 31
+      → Answers laws (limits-of m) (slots-of (length ws)) s ts ws′ replies′ r

@@ -132,7 +132,7 @@ fn newest(ws: &[u32], count: u32, b: usize) -> u32
 }
 
 // Whether slot `k` has the run `s`, whose hash is `h`: the runs are compared only where the hash is the same.
-fn has_run(ws: &[u32], k: u32, s: &[u32], h: u32) -> bool
+pub fn has_run(ws: &[u32], k: u32, s: &[u32], h: u32) -> bool
     requires { ⌜ SLOT * k + SLOT ≤ length (now ws) ⌝ }
     ensures { λ r. ⌜ Compares (now (ws .entry)) k (now (s .entry)) h r ⌝ }
 {

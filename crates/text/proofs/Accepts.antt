@@ -1,65 +1,44 @@
--- The refusals of a job in their order, and the sides of an accepted one as runs.
+-- The refusals of sides that were read in their order, and the sides of accepted jobs as runs.
 use Prim.Native.Nat.{ℕ, _≤_, _<_, min}
 use native.Mathlib.Omega.{arith}
 use mathlib.Core.Logic.{⊎-elim}
-use mathlib.Core.Bool.{Bool, true, false}
-use mathlib.Core.Option.{none, some}
-use mathlib.Core.List.{List, _++_}
-use mathlib.Core.Path.{_≡_, sym, ap, subst, _∙_}
+use mathlib.Core.Bool.{Bool, true, false, _&&_}
+use mathlib.Core.List.{List, [], _∷_, map}
+use mathlib.Core.Path.{_≡_, refl, sym, ap, subst, _∙_}
 use lib.Dec.{T, leb}
 use lib.ListN.{length, take}
-use lib.Seq.{slice}
+use lib.Seq.{sets, length-sets}
 use borrow.Author.Tests.{le-leb, lt-leb}
 use Rattle.terms.specs.Compare.{order-numbers}
 use Rattle.terms.specs.Equation.{Equation, orient}
-use Rattle.terms.specs.Term.{Term, size, order, same}
-use Rattle.terms.specs.Letters.{letters, rising}
+use Rattle.terms.specs.Term.{Term, size, order}
 use Rattle.terms.specs.Run.{run}
 use Rattle.terms.specs.Held.{Fine, IsRun}
-use Rattle.terms.specs.Promises.{Equals, Lists}
 use Rattle.terms.specs.Theory.Order.{below?}
 use Rattle.terms.specs.Theory.Run.{run-order}
 use Rattle.terms.specs.Theory.Held.{fine-letters, size-of}
 use Rattle.terms.specs.Theory.Equation.{orient-either}
-use Rattle.terms.specs.declared.term.Listed.{Listed}
-use Rattle.terms.specs.declared.term.Listed.the-variants.{All, TooMany}
 use Rattle.words.specs.Candidate.{sides, Room, Keeps}
 use Rattle.words.specs.Decoded.{both}
 use Rattle.words.specs.declared.candidate.Lengths.{Lengths}
 use Rattle.words.proofs.Coded.{code-orient}
+use Rattle.words.proofs.Parts.{front-stored}
 use Rattle.search.specs.Line.{Limits}
+use Rattle.search.specs.Runs.{Runs, Shows, Enters}
 use Rattle.search.specs.Searched.{limits-of}
 use Rattle.search.specs.declared.bounded_search.Limits as limits
-use Rattle.text.specs.declared.job.lines.Written.{Written}
-use Rattle.text.specs.declared.job.accept.Reading.{Reading}
+use Rattle.search.specs.declared.slots.Origin.{Origin}
+use Rattle.search.proofs.Indexing.{no-runs, entered}
+use Rattle.text.specs.declared.job.rights.Test.{Test}
+use Rattle.text.specs.declared.job.rights.Test.the-variants.{Few, Differs, After}
 use Rattle.text.specs.declared.job.accept.Reading.the-variants.{Refused, Accepted}
-use Rattle.text.specs.Answer.{refused, accepted, _>>=_, require, or-refuse}
-use Rattle.text.specs.TermText.{read-term}
-use Rattle.text.specs.Layout.{Layout, layout}
-use Rattle.text.specs.Job.{in-range, oriented, accept, read-job}
-use Rattle.text.specs.SideRead.{TermRead}
-use Rattle.text.specs.LayoutRead.{capped, LaidOut}
-use Rattle.text.specs.Accepting.{Answers, FewLetters, AcceptsSides, ReadsJob}
+use Rattle.text.specs.Answer.{refused, accepted, _>>=_, require}
+use Rattle.text.specs.Job.{in-range, oriented}
+use Rattle.text.specs.FindJob.{every, several, in-place, all-small, accept-each, job-of}
+use Rattle.text.specs.LayoutRead.{capped}
+use Rattle.text.specs.Accepting.{asked, AllPass, Orients, Takes, AcceptsSides}
 use Rattle.text.specs.Theory.Jobs.{in-range-true}
-
--- the letters
-
-module _ {xs ys names names′ : List ℕ} {l : Listed} (e : length names ≡ 6) (h : Lists xs ys names l names′) where
-  pub few : {k : ℕ} → l ≡ All k → FewLetters xs ys true
-  few p =
-      record {
-        exact = λ s t u v.
-            let fills = rw p at (h .terms s t u v) in
-            sym (le-leb (length (rising (letters s ++ letters t))) 6 (omega (arith, fills .0, fills .1)));
-      }
-
-  pub many : l ≡ TooMany → FewLetters xs ys false
-  many p =
-      record {
-        exact = λ s t u v.
-            let fills = rw p at (h .terms s t u v) in
-            sym (lt-leb (length (rising (letters s ++ letters t))) 6 (omega (arith, fills .0)));
-      }
+use Rattle.text.specs.Theory.FindJobs.{all-kept}
 
 -- the limits
 
@@ -114,43 +93,6 @@ capped-small m e =
       nodes = cap-small (m .nodes) (r .nodes) i;
     }
 
--- refusals 3 to 6
-
-module _ {xs ys : List ℕ} {s t : Term} (m : Limits) (u : IsRun xs s) (v : IsRun ys t) where
-  left-large : 31 < length xs → accept s t m ≡ refused 3
-  unfolding accept _>>=_ require
-  left-large h = let l : 31 < size s = omega (arith, size-of u) in rw (lt-leb (size s) 31 l)
-
-  module _ (p : length xs ≤ 31) where
-    left-small : leb (size s) 31 ≡ true
-    left-small = le-leb (size s) 31 (omega (arith, size-of u))
-
-    right-large : 31 < length ys → accept s t m ≡ refused 3
-    unfolding accept _>>=_ require
-    right-large h = let l : 31 < size t = omega (arith, size-of v) in rw (left-small, lt-leb (size t) 31 l)
-
-    module _ (q : length ys ≤ 31) where
-      right-small : leb (size t) 31 ≡ true
-      right-small = le-leb (size t) 31 (omega (arith, size-of v))
-
-      letters-many : FewLetters xs ys false → accept s t m ≡ refused 4
-      unfolding accept _>>=_ require
-      letters-many f = rw (left-small, right-small) (rw (← f .exact s t u v))
-
-      module _ (f : FewLetters xs ys true) where
-        limits-over : in-range m ≡ false → accept s t m ≡ refused 5
-        unfolding accept _>>=_ require
-        limits-over e = rw (left-small, right-small) (rw (← f .exact s t u v) (rw e))
-
-        module _ (e : in-range m ≡ true) where
-          sides-same : same s t ≡ true → accept s t m ≡ refused 6
-          unfolding accept _>>=_ require
-          sides-same d = rw (left-small, right-small) (rw (← f .exact s t u v) (rw e (rw d)))
-
-          sides-differ : same s t ≡ false → accept s t m ≡ accepted (oriented s t m)
-          unfolding accept _>>=_ require
-          sides-differ d = rw (left-small, right-small) (rw (← f .exact s t u v) (rw e (rw d)))
-
 -- the sides as runs
 
 run-carries : (s t : Term) → Fine s → Fine t → order-numbers (run s) (run t) ≡ order s t
@@ -166,96 +108,166 @@ module _ {xs ys left right left′ right′ : List ℕ} {k : Lengths} (h : Keeps
         record { fine = fine .1; whole = ap (λ (z : Equation (List ℕ)). z .right) e },
       )
 
--- what the code found of two runs and the limits
+-- the smaller of left and the only right side is kept as left, and the other goes to slot 0
+module _ {xs ys zs left other left′ other′ rights rights′ : List ℕ} {k : Lengths} {o : Origin} {v : ℕ} where
+  pub kept-in-order : Shows rights 0 ys → 31 ≤ length other → Keeps xs ys left other k left′ other′ → length left′ ≡ length left
+      → zs ≡ take (k .right) other′ → Enters rights rights′ 0 zs o v → Orients xs left rights (k .left) left′ rights′
+  kept-in-order shown room keeps same e E =
+      record {
+        exact = λ s t u runs small l.
+            let right = runs .spelled 0 (omega arith) in
+            let w = shown .exact t right in
+            let kept =
+            kept-runs keeps u w (record { first = omega (arith, size-of u); second = omega (arith, size-of w, right .small); left-room = l; right-room = room }) in
+            (omega (arith, keeps .within .left-side), kept .0, entered [] (orient order s t .right) E (no-runs rights) (rw e (kept .1)));
+      }
 
-told : {xs ys : List ℕ} {f b : Bool} → f ≡ b → FewLetters xs ys f → FewLetters xs ys b
-told {xs} {ys} h letters = subst (λ x. FewLetters xs ys x) h letters
+-- refusals 3 to 6 and 10
+
+module _ (s : Term) (ts : List Term) (m : Limits) where
+  pub one-large : (leb (size s) 31 && all-small ts) ≡ false → accept-each s ts m ≡ refused 3
+  unfolding accept-each _>>=_ require
+  one-large h = rw h
+
+  module _ (small : (leb (size s) 31 && all-small ts) ≡ true) where
+    letters-many : every (asked Few s) ts ≡ false → accept-each s ts m ≡ refused 4
+    unfolding accept-each _>>=_ require
+    letters-many h = rw small (rw h)
+
+    module _ (few : every (asked Few s) ts ≡ true) where
+      limits-over : in-range m ≡ false → accept-each s ts m ≡ refused 5
+      unfolding accept-each _>>=_ require
+      limits-over h = rw small (rw few (rw h))
+
+      module _ (ranged : in-range m ≡ true) where
+        one-same : every (asked Differs s) ts ≡ false → accept-each s ts m ≡ refused 6
+        unfolding accept-each _>>=_ require
+        one-same h = rw small (rw few (rw ranged (rw h)))
+
+        module _ (differ : every (asked Differs s) ts ≡ true) where
+          one-before : in-place s ts ≡ false → accept-each s ts m ≡ refused 10
+          unfolding accept-each _>>=_ require
+          one-before h = rw small (rw few (rw ranged (rw differ (rw h))))
+
+          each-accepted : in-place s ts ≡ true → accept-each s ts m ≡ accepted (map (λ t. oriented s t m) ts)
+          unfolding accept-each _>>=_ require
+          each-accepted h = rw small (rw few (rw ranged (rw differ (rw h))))
+
+-- one right side is in place, and its job is oriented
+
+in-place-one : (s t : Term) → in-place s (t ∷ []) ≡ true
+unfolding in-place several
+in-place-one s t = refl
+
+oriented-sides : (s t : Term) (m : Limits) → oriented s t m ≡ job-of (orient order s t .left) m (orient order s t .right)
+unfolding oriented
+oriented-sides s t m = refl
+
+-- several are in place if none comes before left; without one that does, one or several are
+
+several-true : (ts : List Term) → 0 < length ts → (length ts ≡ 1 → ⊥) → several ts ≡ true
+unfolding several
+several-true [] h k = absurd (omega (arith, h))
+several-true (t ∷ []) h k = absurd (k refl)
+several-true (t ∷ u ∷ us) h k = refl
+
+in-place-several : (s : Term) (ts : List Term) → several ts ≡ true → in-place s ts ≡ every (asked After s) ts
+unfolding in-place
+in-place-several s ts h = rw (h, in-place)
+
+in-place-after : (s : Term) (ts : List Term) → every (asked After s) ts ≡ true → in-place s ts ≡ true
+unfolding in-place
+in-place-after s ts h = go (several ts)
+  where
+    go : (b : Bool) → elim b [ true ↦ every (asked After s) ts | false ↦ true ] ≡ true
+    go true = h
+    go false = refl
+
+-- what the code found of left, the right sides and the limits
+
+found : {test : Test} {xs rights : List ℕ} {n : ℕ} {f b : Bool} → AllPass test xs rights n f → f ≡ b
+    → {s : Term} {ts : List Term} → IsRun xs s → Runs rights ts → length ts ≡ n → every (asked test s) ts ≡ b
+found h k {s} {ts} u v e = sym (h .exact s ts u v e) ∙ k
 
 ranged : (m : limits.Limits) (y : Limits) {g b : Bool} → g ≡ in-range (limits-of m) → limits-of m ≡ capped y → g ≡ b → in-range y ≡ b
 ranged m y i e h = sym (in-range-capped y) ∙ ap in-range (sym e) ∙ sym i ∙ h
 
-module _ {xs ys left right left′ right′ : List ℕ} (m : limits.Limits) where
-  pub refuse-left : 31 < length xs → AcceptsSides xs ys m left right (Refused 3) left′ right′
-  refuse-left h = record { exact = λ s t y u v e a b. left-large y u v h }
+small-enough : (s : Term) (ts : List Term) → size s ≤ 31 → all-small ts ≡ true → (leb (size s) 31 && all-small ts) ≡ true
+small-enough s ts h k = rw (le-leb (size s) 31 h, k)
 
-  module _ (p : length xs ≤ 31) where
-    pub refuse-right : 31 < length ys → AcceptsSides xs ys m left right (Refused 3) left′ right′
-    refuse-right h = record { exact = λ s t y u v e a b. right-large y u v p h }
+module _ (m : limits.Limits) {xs rights : List ℕ} {n : ℕ} {f : Bool} (letters : AllPass Few xs rights n f) {left left′ : List ℕ} where
+  pub refuse-letters : {rights′ : List ℕ} → f ≡ false → AcceptsSides xs n m left rights (Refused 4) left′ rights′
+  refuse-letters h = record { exact = λ s ts y u v c a b e. letters-many s ts y (small-enough s ts a b) (found letters h u v c) }
 
-    module _ (q : length ys ≤ 31) {f : Bool} (letters : FewLetters xs ys f) where
-      pub refuse-letters : f ≡ false → AcceptsSides xs ys m left right (Refused 4) left′ right′
-      refuse-letters h = record { exact = λ s t y u v e a b. letters-many y u v p q (told h letters) }
+  module _ (i : f ≡ true) {g : Bool} (limits : g ≡ in-range (limits-of m)) where
+    pub refuse-limits : {rights′ : List ℕ} → g ≡ false → AcceptsSides xs n m left rights (Refused 5) left′ rights′
+    refuse-limits h =
+        record { exact = λ s ts y u v c a b e. limits-over s ts y (small-enough s ts a b) (found letters i u v c) (ranged m y limits e h) }
 
-      module _ (j : f ≡ true) {g : Bool} (limits : g ≡ in-range (limits-of m)) where
-        pub refuse-limits : g ≡ false → AcceptsSides xs ys m left right (Refused 5) left′ right′
-        refuse-limits h = record { exact = λ s t y u v e a b. limits-over y u v p q (told j letters) (ranged m y limits e h) }
+    module _ (j : g ≡ true) {d : Bool} (differ : AllPass Differs xs rights n d) where
+      pub refuse-same : {rights′ : List ℕ} → d ≡ false → AcceptsSides xs n m left rights (Refused 6) left′ rights′
+      refuse-same h =
+          record {
+            exact = λ s ts y u v c a b e.
+                one-same s ts y (small-enough s ts a b) (found letters i u v c) (ranged m y limits e j) (found differ h u v c);
+          }
 
-        module _ (k : g ≡ true) {d : Bool} (equal : Equals xs ys d) where
-          pub refuse-same : d ≡ true → AcceptsSides xs ys m left right (Refused 6) left′ right′
-          refuse-same h =
-              record { exact = λ s t y u v e a b. sides-same y u v p q (told j letters) (ranged m y limits e k) (sym (equal .terms s t u v) ∙ h) }
-
-          pub accept-both : d ≡ false → {n : Lengths} → Keeps xs ys left right n left′ right′
-              → length left′ ≡ length left → length right′ ≡ length right
-              → AcceptsSides xs ys m left right (Accepted (record { left = n .left; right = n .right; limits = m })) left′ right′
-          unfolding oriented
-          accept-both h keeps l r =
+      module _ (k : d ≡ true) where
+        module _ (some-rights : 0 < n) {p : Bool} (after : AllPass After xs rights n p) where
+          pub accept-after : n ≤ 16 → 31 ≤ length left → p ≡ true → left′ ≡ sets left 0 xs
+              → AcceptsSides xs n m left rights (Accepted (record { left = length xs; rights = n; limits = m })) left′ rights
+          accept-after few-rights room h stored =
               record {
-                exact = λ s t y u v e a b.
-                    let runs = kept-runs keeps u v (record { first = p; second = q; left-room = a; right-room = b }) in
+                exact = λ s ts y u v c a b e.
+                    let in-limits = ranged m y limits e j in
+                    let none-before = found after h u v c in
+                    let jobs =
+                    each-accepted s ts y (small-enough s ts a b) (found letters i u v c) in-limits (found differ k u v c) (in-place-after s ts none-before) in
                     record {
-                      job = oriented s t y;
-                      accepted = sides-differ y u v p q (told j letters) (ranged m y limits e k) (sym (equal .terms s t u v) ∙ h);
-                      left-room = omega (arith, keeps .within .left-side);
-                      right-room = omega (arith, keeps .within .right-side);
-                      left-run = runs .0;
-                      right-run = runs .1;
-                      limits = e ∙ capped-small y (ranged m y limits e k);
+                      side = s;
+                      others = ts;
+                      limits = y;
+                      accepted = jobs ∙ ap accepted (all-kept s y ts (subst T (sym none-before) tt));
+                      room = omega (arith, size-of u, ap length stored, length-sets left 0 xs);
+                      run = rw (stored, front-stored left xs (omega (arith, size-of u))) u;
+                      runs = v;
+                      count = c;
+                      some-rights = some-rights;
+                      few-rights = few-rights;
+                      is = e ∙ capped-small y in-limits;
                     };
               }
 
--- the whole job
+          pub refuse-before : (n ≡ 1 → ⊥) → {rights′ : List ℕ} → p ≡ false → AcceptsSides xs n m left rights (Refused 10) left′ rights′
+          refuse-before more h =
+              record {
+                exact = λ s ts y u v c a b e.
+                    one-before s ts y (small-enough s ts a b) (found letters i u v c) (ranged m y limits e j) (found differ k u v c)
+                    (in-place-several s ts (several-true ts (omega arith) (λ q. more (sym c ∙ q))) ∙ found after h u v c);
+              }
 
-module _ (bs : List ℕ) where
-  pub too-long : 1024 < length bs → read-job bs ≡ refused 1
-  unfolding read-job _>>=_ require
-  too-long h = rw (lt-leb (length bs) 1024 h)
-
-  module _ (short : length bs ≤ 1024) where
-    short-enough : leb (length bs) 1024 ≡ true
-    short-enough = le-leb (length bs) 1024 short
-
-    pub no-layout : layout bs ≡ none → read-job bs ≡ refused 1
-    unfolding read-job _>>=_ require or-refuse
-    no-layout h = rw (short-enough) (rw h)
-
-    module _ {j : Layout} (lines : layout bs ≡ some j) where
-      no-left-term : read-term (j .left) ≡ none → read-job bs ≡ refused 2
-      unfolding read-job _>>=_ require or-refuse
-      no-left-term h = rw (short-enough) (rw lines (rw h))
-
-      module _ {s : Term} (first : read-term (j .left) ≡ some s) where
-        no-right-term : read-term (j .right) ≡ none → read-job bs ≡ refused 2
-        unfolding read-job _>>=_ require or-refuse
-        no-right-term h = rw (short-enough) (rw lines (rw first (rw h)))
-
-        both-terms : {t : Term} → read-term (j .right) ≡ some t → read-job bs ≡ accept s t (j .limits)
-        unfolding read-job _>>=_ require or-refuse
-        both-terms h = rw (short-enough) (rw lines (rw first (rw h)))
-
--- the lines and terms that the code found
-
-module _ (bs : List ℕ) (short : length bs ≤ 1024) {w : Written} (o : LaidOut bs w) where
-  pub foul-left : read-term (slice (w .left .from) (w .left .to) bs) ≡ none → read-job bs ≡ refused 2
-  foul-left h = no-left-term bs short (o .lines) h
-
-  module _ {first : List ℕ} {m : ℕ} (a : TermRead (slice (w .left .from) (w .left .to) bs) first m) where
-    pub foul-right : read-term (slice (w .right .from) (w .right .to) bs) ≡ none → read-job bs ≡ refused 2
-    foul-right h = no-right-term bs short (o .lines) (a .read) h
-
-    pub job-read : {second : List ℕ} {n : ℕ} → TermRead (slice (w .right .from) (w .right .to) bs) second n
-        → {xs ys left right left′ right′ : List ℕ} {r : Reading} → xs ≡ take m first → ys ≡ take n second
-        → AcceptsSides xs ys (w .limits) left right r left′ right′ → 31 ≤ length left → 31 ≤ length right → ReadsJob bs r left′ right′
-    job-read b {xs} {ys} {left} {right} {left′} {right′} {r} e f sides p q =
-        subst (λ x. Answers x r left′ right′) (sym (both-terms bs short (o .lines) (a .read) (b .read)))
-        (sides .exact (a .term) (b .term) (o .limits) (rw e (a .whole)) (rw f (b .whole)) (o .is) p q)
+        pub accept-one : n ≡ 1 → 31 ≤ length left → {r : ℕ} {rights′ : List ℕ} → Orients xs left rights r left′ rights′
+            → AcceptsSides xs n m left rights (Accepted (record { left = r; rights = n; limits = m })) left′ rights′
+        accept-one one room {r} {rights′} orients = record { exact = go }
+          where
+            go : (s : Term) (ts : List Term) (y : Limits) → IsRun xs s → Runs rights ts → length ts ≡ n → size s ≤ 31 → all-small ts ≡ true → limits-of m ≡ capped y
+                → Takes (accept-each s ts y) (record { left = r; rights = n; limits = m }) left′ rights′
+            go s [] y u v c a b e = absurd (omega (arith, c, one))
+            go s (t ∷ []) y u v c a b e =
+                let kept = orients .exact s t u v a room in
+                let in-limits = ranged m y limits e j in
+                record {
+                  side = orient order s t .left;
+                  others = orient order s t .right ∷ [];
+                  limits = y;
+                  accepted = each-accepted s (t ∷ []) y (small-enough s (t ∷ []) a b) (found letters i u v c) in-limits (found differ k u v c) (in-place-one s t)
+                      ∙ ap (λ j. accepted (j ∷ [])) (oriented-sides s t y);
+                  room = kept .0;
+                  run = kept .1;
+                  runs = kept .2;
+                  count = sym one;
+                  some-rights = omega (arith, one);
+                  few-rights = omega (arith, one);
+                  is = e ∙ capped-small y in-limits;
+                }
+            go s (t ∷ t′ ∷ ts) y u v c a b e = absurd (omega (arith, c, one))

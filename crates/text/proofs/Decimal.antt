@@ -32,7 +32,7 @@ pub number-small : (n : ℕ) → n < 10 → number n ≡ (48 + n) ∷ []
 unfolding number
 number-small n h = decimal-small n n h
 
-number-more : (n : ℕ) → 10 ≤ n → number n ≡ number (n / 10) ++ ((48 + n % 10) ∷ [])
+pub number-more : (n : ℕ) → 10 ≤ n → number n ≡ number (n / 10) ++ ((48 + n % 10) ∷ [])
 unfolding number
 number-more n h =
     let e : n ≡ suc (n - 1) = omega arith in

@@ -1,32 +1,33 @@
 -- The entries, by what became of the job.
-use Prim.Native.Nat.{ℕ, _≤_}
+use Prim.Native.Nat.{ℕ, _≤_, _<_}
 use native.Mathlib.Omega.{arith}
 use mathlib.Core.Path.{_≡_, refl}
-use mathlib.Core.Bool.{Bool, true, false}
-use mathlib.Core.List.{List, _++_}
-use lib.Dec.{leb}
+use mathlib.Core.List.{List, [], _∷_, _++_}
 use lib.ListN.{length, take}
+use Rattle.terms.specs.Lists.{_∈_}
 use Rattle.terms.specs.Term.{Term, size}
 use Rattle.terms.specs.Letters.{letters, rising}
 use Rattle.terms.specs.Held.{IsRun}
 use Rattle.words.specs.Words.{words}
 use Rattle.words.specs.Rename.{canonical-terms}
-use Rattle.search.specs.Law.{semiring}
-use Rattle.search.specs.Search.{Outcome, noted, search}
+use Rattle.search.specs.Line as line
+use Rattle.search.specs.Runs.{Runs, Shows}
 use Rattle.search.specs.Searched.{limits-of, slots-of}
-use Rattle.text.specs.Answer.{_>>=_, refused, accepted, require, fitting}
+use Rattle.text.specs.Answer.{Answer, _>>=_, refused, accepted, fitting}
 use Rattle.text.specs.Job.{Job, read-job, Fit, Accepted}
-use Rattle.text.specs.Accepting.{Accepts}
+use Rattle.text.specs.FindJob.{read-find, jobs-of}
+use Rattle.text.specs.Accepting.{Takes, TakesOne}
+use Rattle.text.specs.Find.{together, find}
 use Rattle.text.specs.Words.{words-text, words-entry}
 use Rattle.text.specs.Rename.{term-lines, renamed-words, rename-entry}
-use Rattle.text.specs.Find.{outcome-text, find}
-use Rattle.text.specs.Entry.{returned, Call, FindCall}
+use Rattle.text.specs.Entry.{returned, Call, before-search, FindCall}
 use Rattle.text.specs.Theory.Jobs.{job-accepted}
+use Rattle.text.specs.Theory.Entry.{among, Numbered, searched-numbered, each-in}
 use Rattle.text.specs.declared.job.accept.Read.{Read}
 use Rattle.text.proofs.Measured.{refuses}
 
 -- what is known of an accepted job
-pub accepted-job : (bs : List ℕ) (j : Job) → read-job bs ≡ accepted j → Accepted j
+accepted-job : (bs : List ℕ) (j : Job) → read-job bs ≡ accepted j → Accepted j
 accepted-job bs j e = rw e at (job-accepted bs)
 
 -- a refused job is refused by its number, whatever was asked for
@@ -39,29 +40,12 @@ module _ (bs out : List ℕ) {n : ℕ} (e : read-job bs ≡ refused n) where
   unfolding rename-entry _>>=_
   rename-refused = rw e (refuses n out)
 
-  pub find-refused : (work : List ℕ) → FindCall bs out work n out work
-  unfolding find _>>=_
-  find-refused work = record { call = rw e (refuses n out); workspace = λ h. refl }
+pub find-refused : (bs out work : List ℕ) {n : ℕ} → read-find bs ≡ refused n → FindCall bs out work n out work
+unfolding find _>>=_
+find-refused bs out work {n} e = record { call = rw e (refuses n out); workspace = λ h. refl }
 
--- an accepted one is refused by 7 or 8 at most
-module _ (bs : List ℕ) {j : Job} (read : read-job bs ≡ accepted j) (slots room : ℕ) where
-  find-late : 7 ≤ returned (find bs slots room)
-  unfolding find _>>=_ require fitting
-  find-late = rw read (go (leb (noted o) slots) (leb (length t) room))
-    where
-      o : Outcome
-      o = search semiring (j .limits) (j .left) (j .right)
-
-      t : List ℕ
-      t = outcome-text semiring j o
-
-      go : (enough fits : Bool) → 7 ≤ returned (_>>=_ (require 7 enough) (λ _. _>>=_ (require 8 fits) (λ _. accepted t)))
-      go false fits = omega arith
-      go true false = omega arith
-      go true true = omega arith
-
--- an accepted one is answered from the runs of its sides
-module _ (bs : List ℕ) {left right xs ys : List ℕ} {j : Read} (h : Accepts bs j left right) (e : xs ≡ take (j .left) left) (f : ys ≡ take (j .right) right) where
+-- an accepted one is answered from the runs of its sides, right's in slot 0
+module _ (bs : List ℕ) {left rights xs ys : List ℕ} {j : Read} (h : TakesOne (read-job bs) j left rights) (e : xs ≡ take (j .left) left) (shown : Shows rights 0 ys) where
   fit : Fit (h .job .left) (h .job .right)
   fit = accepted-job bs (h .job) (h .accepted) .sides
 
@@ -69,7 +53,7 @@ module _ (bs : List ℕ) {left right xs ys : List ℕ} {j : Read} (h : Accepts b
   left-run = rw e (h .left-run)
 
   right-run : IsRun ys (h .job .right)
-  right-run = rw f (h .right-run)
+  right-run = shown .exact (h .job .right) (h .right-run)
 
   module _ {r : ℕ} (out : List ℕ) {out′ : List ℕ} where
     pub words-answered :
@@ -87,13 +71,30 @@ module _ (bs : List ℕ) {left right xs ys : List ℕ} {j : Read} (h : Accepts b
     rename-answered answer =
         rw (h .accepted) (answer (h .job .left) (h .job .right) left-run right-run (fit .small-left) (fit .small-right) (fit .few))
 
-    pub find-answered : {work work′ : List ℕ}
-        → ((bs : List ℕ) (k : Job) → read-job bs ≡ accepted k → IsRun xs (k .left) → IsRun ys (k .right) → limits-of (j .limits) ≡ k .limits
-        → Call (find bs (slots-of (length work)) (length out)) out r out′)
-        → FindCall bs out work r out′ work′
-    find-answered {work} answer =
-        let call = answer bs (h .job) (h .accepted) left-run right-run (h .limits) in
-        record {
-          call = call;
-          workspace = λ low. absurd (omega (arith, call .number, find-late bs (h .accepted) (slots-of (length work)) (length out)));
-        }
+-- accepted jobs of FIND are refused by 7 or 8 at most, which are no numbers of refusals that come before the search
+early : {r : ℕ} → r ∈ before-search → (r < 100) × (7 ≤ r → r ≤ 8 → ⊥)
+early = each-in (λ n. (n < 100) × (7 ≤ n → n ≤ 8 → ⊥)) before-search (search arith depth 20)
+
+late : (a : Answer (List ℕ)) → Numbered (7 ∷ 8 ∷ []) a → returned a ∈ before-search → ⊥
+late (refused n) h i =
+    let k : (7 ≤ n) × (n ≤ 8) = each-in (λ m. (7 ≤ m) × (m ≤ 8)) (7 ∷ 8 ∷ []) (search arith) h in
+    early i .1 (k .0) (k .1)
+late (accepted t) h i = omega (arith, early i .0)
+
+find-late : (bs : List ℕ) {js : List Job} (slots room : ℕ) → read-find bs ≡ accepted js → returned (find bs slots room) ∈ before-search → ⊥
+unfolding find _>>=_
+find-late bs {js} slots room e =
+    rw e (late (_>>=_ (together slots js) (fitting room)) (searched-numbered (7 ∷ 8 ∷ []) (search among) (search among) slots room js))
+
+-- they are answered from left's run and those of the right sides
+module _ (bs : List ℕ) {left rights xs : List ℕ} {j : Read} (h : Takes (read-find bs) j left rights) (e : xs ≡ take (j .left) left) where
+  pub find-answered : {r : ℕ} (out : List ℕ) {out′ work work′ : List ℕ}
+      → ((bs : List ℕ) (s : Term) (ts : List Term) (m : line.Limits) → read-find bs ≡ accepted (jobs-of s ts m) → IsRun xs s → Runs rights ts
+      → length ts ≡ j .rights → limits-of (j .limits) ≡ m → Call (find bs (slots-of (length work)) (length out)) out r out′)
+      → FindCall bs out work r out′ work′
+  find-answered out {work = work} answer =
+      let call = answer bs (h .side) (h .others) (h .limits) (h .accepted) (rw e (h .run)) (h .runs) (h .count) (h .is) in
+      record {
+        call = call;
+        workspace = λ i. absurd (find-late bs (slots-of (length work)) (length out) (h .accepted) (rw (call .number) at i));
+      }

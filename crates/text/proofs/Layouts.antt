@@ -4,8 +4,8 @@ use Prim.Native.String.{String}
 use native.Mathlib.Omega.{arith}
 use mathlib.Core.Logic.{⊎-elim}
 use mathlib.Core.Option.{Option, none, some, bind}
-use mathlib.Core.List.{List}
-use mathlib.Core.Path.{_≡_, refl, sym, subst, _∙_}
+use mathlib.Core.List.{List, [], _∷_}
+use mathlib.Core.Path.{_≡_, refl, sym, ap, subst, _∙_}
 use lib.ListN.{length, drop, drop-of-length-le}
 use lib.Seq.{slice, drop-cons}
 use Rattle.terms.specs.Theory.Order.{below?}
@@ -16,11 +16,14 @@ use Rattle.text.specs.declared.job.Number.the-variants.{Is, TooLarge, Ma
 use Rattle.text.specs.declared.job.Value.the-variants.{Between, Missing}
 use Rattle.text.specs.declared.job.lines.Limit.{Limit}
 use Rattle.text.specs.declared.job.lines.Limit.the-variants as limit
-use Rattle.text.specs.Bytes.{ascii, end, read-number}
-use Rattle.text.specs.Layout.{limit-line, limit-lines, layout}
+use Rattle.text.specs.declared.job.lines.Rights.{Rights}
+use Rattle.text.specs.Bytes.{ascii, end, read-number, Split}
+use Rattle.text.specs.Layout.{keyed, limit-line, limit-lines}
+use Rattle.text.specs.FindJob.{Repeated, Layouts, layouts}
 use Rattle.text.specs.Reading.{Valued, Values, limited}
-use Rattle.text.specs.LayoutRead.{LimitAt, LimitIn, LimitedBy, LaidOut}
+use Rattle.text.specs.LayoutRead.{LimitAt, LimitIn, LimitedBy, RightsIn, LaidOut}
 use Rattle.text.proofs.Numbers.{allowed, too-large, malformed}
+use Rattle.text.proofs.RightLines.{all, all-none, all-some}
 
 -- the line of one limit
 
@@ -97,33 +100,68 @@ module _ (s : List ℕ) (from : ℕ) where
                 lines = all-lines ∙ rw (drop-of-length-le s h);
               }
 
--- the six lines
+-- all the lines
+
+-- the right sides and the limits behind left
+abbrev laid : List ℕ → Repeated → Option Layouts
+laid left r =
+    elim (r .values) [
+      | [] ↦ none
+      | v ∷ vs ↦ bind (limit-lines (r .rest)) (λ m. some (record { left = left; rights = v ∷ vs; limits = m }))
+    ]
+
+module _ (left rest : List ℕ) where
+  laid-none : (vs : List (List ℕ)) → length vs ≡ 0 → laid left (record { values = vs; rest = rest }) ≡ none
+  laid-none [] h = refl
+  laid-none (v ∷ vs) h = let z : ⊥ = omega (arith, h) in absurd z
+
+  laid-open : (vs : List (List ℕ)) → limit-lines rest ≡ none → laid left (record { values = vs; rest = rest }) ≡ none
+  unfolding bind
+  laid-open [] h = refl
+  laid-open (v ∷ vs) h = rw h
+
+  laid-some : (vs : List (List ℕ)) (m : Limits) → 0 < length vs → limit-lines rest ≡ some m
+      → laid left (record { values = vs; rest = rest }) ≡ some (record { left = left; rights = vs; limits = m })
+  unfolding bind
+  laid-some [] m h e = let z : ⊥ = omega (arith, h) in absurd z
+  laid-some (v ∷ vs) m h e = rw e
 
 module _ (s : List ℕ) where
-  pub no-left : Values s 0 (ascii "left=") Missing → layout s ≡ none
-  unfolding layout bind
+  pub no-left : Values s 0 (ascii "left=") Missing → layouts s ≡ none
+  unfolding layouts bind
   no-left h = rw (h "left=" refl)
 
   module _ {a b : ℕ} (l : Valued s 0 (ascii "left=") a b) where
-    pub no-right : Values s (b + 1) (ascii "right=") Missing → layout s ≡ none
-    unfolding layout bind
-    no-right h = rw (l .parts "left=" refl) (rw (h "right=" refl))
+    -- the first right line and the others are all right lines
+    layouts-laid : layouts s ≡ laid (slice a b s) (all "right=" (drop (b + 1) s))
+    unfolding layouts bind
+    layouts-laid = go (keyed "right=" (drop (b + 1) s)) refl
+      where
+        go : (o : Option Split) → keyed "right=" (drop (b + 1) s) ≡ o → layouts s ≡ laid (slice a b s) (all "right=" (drop (b + 1) s))
+        go none e = rw (l .parts "left=" refl) (rw (e, all-none "right=" (drop (b + 1) s) e))
+        go (some r) e = rw (l .parts "left=" refl) (rw (e, all-some "right=" (drop (b + 1) s) e))
 
-    module _ {c d : ℕ} (r : Valued s (b + 1) (ascii "right=") c d) where
-      pub no-limits : limit-lines (drop (d + 1) s) ≡ none → layout s ≡ none
-      unfolding layout bind
-      no-limits h = rw (l .parts "left=" refl) (rw (r .parts "right=" refl) (rw h))
+    module _ {places₀ places : List ℕ} {r : Rights} (R : RightsIn s (b + 1) places₀ places r) where
+      layouts-read : layouts s ≡ laid (slice a b s) (record { values = R .values; rest = drop (r .end) s })
+      layouts-read = layouts-laid ∙ ap (laid (slice a b s)) (R .lines)
 
-      pub laid-out : {m : limits.Limits} → LimitedBy (drop (d + 1) s) m
-          → LaidOut s (record { left = record { from = a; to = b }; right = record { from = c; to = d }; limits = m })
-      unfolding layout bind
-      laid-out h =
+      pub no-right : r .count ≡ 0 → layouts s ≡ none
+      no-right h = layouts-read ∙ laid-none (slice a b s) (drop (r .end) s) (R .values) (sym (R .counted) ∙ h)
+
+      pub no-limits : limit-lines (drop (r .end) s) ≡ none → layouts s ≡ none
+      no-limits h = layouts-read ∙ laid-open (slice a b s) (drop (r .end) s) (R .values) h
+
+      pub laid-out : {m : limits.Limits} → 0 < r .count → LimitedBy (drop (r .end) s) m
+          → LaidOut s places (record { left = record { from = a; to = b }; rights = r .count; limits = m })
+      laid-out h k =
           record {
             left-starts = l .starts;
             left-ends = l .ends;
-            right-starts = r .starts;
-            right-ends = r .ends;
-            limits = h .limits;
-            is = h .is;
-            lines = rw (l .parts "left=" refl) (rw (r .parts "right=" refl) (rw (h .lines)));
+            rights = R .values;
+            some-rights = h;
+            counted = R .counted;
+            placed = R .placed;
+            limits = k .limits;
+            is = k .is;
+            lines = layouts-read ∙ laid-some (slice a b s) (drop (r .end) s) (R .values) (k .limits) (omega (arith, h, R .counted)) (k .lines);
           }

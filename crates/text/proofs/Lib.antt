@@ -6,8 +6,11 @@ pub mod Numbers
 pub mod Lines
 pub mod Reading
 pub mod Sides
+pub mod RightLines
 pub mod Layouts
+pub mod Rights
 pub mod Accepts
+pub mod Jobs
 -- writing
 pub mod Overlay
 pub mod Decimal
@@ -24,4 +27,7 @@ pub mod Renaming
 pub mod Entries
 pub mod Outcomes
 pub mod Answering
+pub mod Starting
+pub mod Blocks
+pub mod Finding
 pub mod Walks

@@ -29,10 +29,10 @@ fitting-none room text h = rw (lt-leb (length text) room h)
 
 module _ {text o : List ℕ} {n : ℕ} (out : List ℕ) (measured : Put text [] 0 n o) where
   -- the output's front of no bytes, in front of the rest, is the output
-  pub stays : o ++ out ≡ out
+  stays : o ++ out ≡ out
   stays = ap (λ (l : List ℕ). l ++ out) (measured .bytes ∙ overlay-empty 0 text)
 
-  pub fits : {m : ℕ} {out′ : List ℕ} → n ≤ length out → Put text out 0 m out′ → Call (fitting (length out) text) out (100 + n) out′
+  fits : {m : ℕ} {out′ : List ℕ} → n ≤ length out → Put text out 0 m out′ → Call (fitting (length out) text) out (100 + n) out′
   fits {m} {out′} h p =
       let s : n ≡ length text = omega (arith, measured .next, p .room) in
       let f : length text ≤ length out = omega arith in

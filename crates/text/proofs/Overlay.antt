@@ -1,6 +1,6 @@
 -- Texts put one after the other.
 use mathlib.Core.Path.{_≡_, refl, sym, ap, subst, _∙_}
-use mathlib.Core.List.{List, [], _∷_, _++_, append-nil}
+use mathlib.Core.List.{List, [], _∷_, _++_, append-nil, append-assoc, flatMap}
 use Prim.Native.Nat.{ℕ, suc, _+_, _≤_, _<_, min}
 use native.Mathlib.Nat.{add-zero, add-suc, suc-add}
 use native.Mathlib.Numerals.{add-one}
@@ -120,3 +120,14 @@ put-three-each x y z p q r = then (then p q) r
 pub put-more : {o o₁ o₂ : List ℕ} {a p q : ℕ} (ys : List ℕ) (i : ℕ) → i < length ys
     → Put (take i ys) o a p o₁ → Put (getD ys i 0 ∷ []) o₁ p q o₂ → Put (take (i + 1) ys) o a q o₂
 put-more ys i h p q = put-as (rw (add-one, take-suc ys i 0)) (then p q)
+
+-- the texts of several things, and one more
+flatMap-behind : {A : Type 0} (f : A → List ℕ) (xs : List A) (y : A) → flatMap f (xs ++ (y ∷ [])) ≡ flatMap f xs ++ f y
+unfolding flatMap
+flatMap-behind f [] y = append-nil (f y)
+flatMap-behind f (x ∷ xs) y = ap (λ l. f x ++ l) (flatMap-behind f xs y) ∙ sym (append-assoc (f x) (flatMap f xs) (f y))
+
+pub put-each-more : {A : Type 0} (f : A → List ℕ) (d : A) (xs : List A) (i : ℕ) {o o₁ o₂ : List ℕ} {a b c : ℕ} → i < length xs
+    → Put (flatMap f (take i xs)) o a b o₁ → Put (f (getD xs i d)) o₁ b c o₂ → Put (flatMap f (take (i + 1) xs)) o a c o₂
+put-each-more f d xs i h p q =
+    put-as (sym (ap (flatMap f) (rw add-one (take-suc xs i d h)) ∙ flatMap-behind f (take i xs) (getD xs i d))) (then p q)

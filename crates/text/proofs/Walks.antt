@@ -5,7 +5,7 @@ use native.Mathlib.Omega.{arith}
 use native.Mathlib.Numerals.{add-one}
 use mathlib.Core.Path.{_≡_, refl, sym, ap, subst, _∙_}
 use mathlib.Core.Bool.{Bool, true, false}
-use mathlib.Core.List.{List, [], _∷_, _++_, append-nil, append-assoc, flatMap}
+use mathlib.Core.List.{List, [], _∷_, _++_, append-nil, flatMap}
 use lib.Dec.{eqb}
 use lib.ListN.{length, take, drop, getD, length-append, drop-of-length-le}
 use lib.Seq.{take-suc, take-all, drop-cons}
@@ -34,7 +34,7 @@ use Rattle.text.specs.StepText.{law-name, step-value}
 use Rattle.text.specs.Find.{step, used, uses}
 use Rattle.text.specs.Walk.{Walk}
 use Rattle.text.specs.Put.{Put, top}
-use Rattle.text.proofs.Overlay.{then, put-as, put-none}
+use Rattle.text.proofs.Overlay.{then, put-as, put-none, put-each-more}
 use Rattle.text.proofs.Items.{parted-more}
 
 -- ---- what a slot comes from
@@ -94,16 +94,10 @@ pub steps-start : (ws ks o : List ℕ) (a : ℕ) → length o < top → a ≤ to
 unfolding flatMap
 steps-start ws ks o a h k s xs W = put-none o a h k
 
-flatMap-behind : (xs : List Line) (y : Line) → flatMap step (xs ++ (y ∷ [])) ≡ flatMap step xs ++ step y
-unfolding flatMap
-flatMap-behind [] y = append-nil (step y)
-flatMap-behind (x ∷ xs) y = ap (λ l. step x ++ l) (flatMap-behind xs y) ∙ sym (append-assoc (step x) (flatMap step xs) (step y))
-
 pub steps-more : {ws ks o o₁ o₂ : List ℕ} {a b c : ℕ} (i : ℕ) → i < length ks → PutsSteps ws ks i o a b o₁ → PutsStep ws (getD ks i 0) o₁ b c o₂ → PutsSteps ws ks (i + 1) o a c o₂
 steps-more {ws} {ks} i h P Q s xs W =
-    let n : i < length xs = omega (arith, traced-length (W .lines)) in
-    put-as (sym (ap (flatMap step) (rw add-one (take-suc xs i _ n)) ∙ flatMap-behind (take i xs) (line-at xs i)))
-    (then (P s xs W) (Q (W .noted) (getD (0 ∷ ks) i 0) (line-at xs i) (W .slots) (traced-at (W .lines) i h)))
+    put-each-more step _ xs i (omega (arith, traced-length (W .lines))) (P s xs W)
+    (Q (W .noted) (getD (0 ∷ ks) i 0) (line-at xs i) (W .slots) (traced-at (W .lines) i h))
 
 pub steps-all : {ws ks o o₁ : List ℕ} {a b : ℕ} (i : ℕ) → length ks ≤ i → PutsSteps ws ks i o a b o₁
     → (s : Term) (xs : List Line) → Walk ws ks s xs → Put (flatMap step xs) o a b o₁

@@ -1,10 +1,10 @@
--- What is claimed of every text that FIND answers (demand 3), and of every call of FIND.
+-- What is claimed of every text that FIND answers, block by block (demand 3), and of every call of an entry.
 use Prim.Native.Nat.{ℕ, _-_, _≤_, _<_}
 use Prim.Native.String.{String}
 use mathlib.Core.Path.{_≡_}
 use mathlib.Core.Logic.{_↔_}
 use mathlib.Core.Option.{some}
-use mathlib.Core.List.{List, [], _∷_, _++_, map}
+use mathlib.Core.List.{List, [], _∷_, _++_, map, flatMap}
 use lib.ListN.{length, take, drop}
 use Rattle.terms.specs.Lists.{_∈_}
 use Rattle.terms.specs.Compare.{lt}
@@ -17,10 +17,12 @@ use Rattle.search.specs.Searched.{slots-of}
 use Rattle.search.specs.Claims.{Claims}
 use Rattle.text.specs.Bytes.{ascii, read-number}
 use Rattle.text.specs.TermText.{read-term}
-use Rattle.text.specs.Answer.{Answer, refused, accepted, values}
-use Rattle.text.specs.Job.{Job, read-job}
+use Rattle.text.specs.Answer.{Answer, refused, accepted, printed, values}
+use Rattle.text.specs.Job.{Job}
+use Rattle.text.specs.FindJob.{read-find}
 use Rattle.text.specs.StepText.{read-steps}
-use Rattle.text.specs.Find.{outcome-text, searched, find}
+use Rattle.text.specs.Find.{outcome-text, searched, block, find}
+use Rattle.text.specs.Entry.{before-search}
 
 -- the text has one line with this key, and the number in it is n
 abbrev pub Reports : List ℕ → String → ℕ → Type 0
@@ -35,18 +37,16 @@ abbrev pub verdict : Outcome → List ℕ
 verdict (proved xs e n) = ascii "proved"
 verdict (unproved e n) = ascii "none"
 
-pub record Answered (job : List ℕ) (slots room : ℕ) (t : List ℕ) : Type 0 where
-  pub read : Job
-  pub accepted : read-job job ≡ accepted read
+-- of a text that answers the job of one equation
+pub record Answered (read : Job) (slots : ℕ) (t : List ℕ) : Type 0 where
   -- the left side is the smaller
   pub oriented : order (read .left) (read .right) ≡ lt
   -- the answer is that of the search
   pub outcome : Outcome
   pub searched : outcome ≡ searched read
   pub printed : t ≡ outcome-text semiring read outcome
-  -- the terms noted have slots, and the text has room
+  -- the terms noted have slots
   pub enough : noted outcome ≤ slots
-  pub fits : length t ≤ room
   -- the number of lines that a proved answer reports is that of its path
   pub steps : (xs : List Line) (e n : ℕ) → outcome ≡ proved xs e n → Reports t "steps=" (length xs)
   -- every answer, proved or none, reports the number opened
@@ -59,6 +59,22 @@ pub record Answered (job : List ℕ) (slots room : ℕ) (t : List ℕ) : Type 0 
   -- path, ends, fewest lines, number opened, and when a path is returned
   pub claims : Claims semiring (List Word) words (read .limits) (read .left) (read .right)
 
+-- a block is the answer to its job alone, or says that this job would note more terms than there are slots
+pub data Block (slots : ℕ) (j : Job) (t : List ℕ) : Type 0 where
+  answers : Answered j slots t → Block slots j t
+  refuses : slots < noted (searched j) → t ≡ printed (refused 7) → Block slots j t
+
+-- of every text that FIND answers
+pub record FindAnswered (job : List ℕ) (slots room : ℕ) (t : List ℕ) : Type 0 where
+  pub jobs : List Job
+  pub accepted : read-find job ≡ accepted jobs
+  -- the blocks in job order
+  pub blocks : t ≡ flatMap (block slots) jobs
+  pub each : (j : Job) → j ∈ jobs → Block slots j (block slots j)
+  -- one right side has an answer, never a block that says 7
+  pub single : (j : Job) → jobs ≡ j ∷ [] → Answered j slots t
+  pub fits : length t ≤ room
+
 -- of a call that gives an answer, or a refusal by one of the numbers ns, returns r and leaves out′ where out was
 pub record CallClaims (ns : List ℕ) (answer : Answer (List ℕ)) (out : List ℕ) (r : ℕ) (out′ : List ℕ) : Type 0 where
   -- a number below 100 is that of a refusal, and a refusal's is below 100
@@ -70,17 +86,19 @@ pub record CallClaims (ns : List ℕ) (answer : Answer (List ℕ)) (out : List �
   pub text : 100 ≤ r → answer ≡ accepted (take (r - 100) out′)
   pub kept : 100 ≤ r → drop (r - 100) out′ ≡ drop (r - 100) out
 
--- the numbers by which a job is refused before anything is answered; WORDS and RENAME have 8 beside them, FIND 7 and 8
+-- the numbers by which a job with one right side is refused before anything is answered
 abbrev pub job-numbers : List ℕ
 job-numbers = 1 ∷ 2 ∷ 3 ∷ 4 ∷ 5 ∷ 6 ∷ []
 
+-- those of WORDS and RENAME
 abbrev pub list-numbers : List ℕ
 list-numbers = job-numbers ++ (8 ∷ [])
 
+-- those of FIND
 abbrev pub find-numbers : List ℕ
-find-numbers = job-numbers ++ (7 ∷ 8 ∷ [])
+find-numbers = before-search ++ (7 ∷ 8 ∷ [])
 
--- of a call of FIND, whatever the buffers held before: all is claimed of an answer not refused that demand 3 claims of a text
+-- of a call of FIND, whatever the buffers held before: an answer not refused is a text of which demand 3 holds
 pub record FindClaims (job out work : List ℕ) (r : ℕ) (out′ : List ℕ) : Type 0 where
   pub call : CallClaims find-numbers (find job (slots-of (length work)) (length out)) out r out′
-  pub answered : 100 ≤ r → Answered job (slots-of (length work)) (length out) (take (r - 100) out′)
+  pub answered : 100 ≤ r → FindAnswered job (slots-of (length work)) (length out) (take (r - 100) out′)

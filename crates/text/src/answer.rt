@@ -3,7 +3,8 @@ ghost use mathlib.Core.List.{_∷_, [], _++_};
 ghost use Rattle.text.specs.Answer.{yes-no};
 ghost use Rattle.text.specs.Put.{Put};
 
-// FIND's answer, and the text of an outcome.
+// FIND's answer, its blocks, and the text of an outcome.
+pub mod block;
 pub mod find;
 pub mod outcome;
 

@@ -8,7 +8,9 @@ use crate::answer::find::answer_find;
 use crate::answer::lists::answer_words;
 use crate::answer::rename::answer_rename;
 use crate::job::accept::Reading;
+use crate::job::accept::read_find;
 use crate::job::accept::read_job;
+use search::slots::run_of;
 use words::normal_form::front;
 
 // FIND. The workspace holds the noted terms, 40 numbers to a slot.
@@ -16,15 +18,15 @@ pub fn find(job: &[u8], output: &mut [u8], workspace: &mut [u32]) -> usize
     ensures { λ r. ⌜ FindCall (now (job .entry)) (now (output .entry)) (now (workspace .entry)) r (now (output .exit)) (now (workspace .exit)) ⌝ }
 {
     let mut left = [0u32; 31];
-    let mut right = [0u32; 31];
-    match read_job(job, &mut left, &mut right) {
+    let mut rights = [0u32; 640];
+    match read_find(job, &mut left, &mut rights) {
         Reading::Refused(n) => n,
         Reading::Accepted(j) => {
             let m = j.left;
-            let n = j.right;
             answer_find(
                 front(&left, m),
-                front(&right, n),
+                &rights,
+                j.rights,
                 j.limits,
                 output,
                 workspace,
@@ -38,13 +40,12 @@ pub fn words(job: &[u8], output: &mut [u8]) -> usize
     ensures { λ r. ⌜ Call (words-entry (now (job .entry)) (length (now (output .entry)))) (now (output .entry)) r (now (output .exit)) ⌝ }
 {
     let mut left = [0u32; 31];
-    let mut right = [0u32; 31];
-    match read_job(job, &mut left, &mut right) {
+    let mut rights = [0u32; 40];
+    match read_job(job, &mut left, &mut rights) {
         Reading::Refused(n) => n,
         Reading::Accepted(j) => {
             let m = j.left;
-            let n = j.right;
-            answer_words(front(&left, m), front(&right, n), output)
+            answer_words(front(&left, m), run_of(&rights, 0), output)
         }
     }
 }
@@ -54,13 +55,12 @@ pub fn rename(job: &[u8], output: &mut [u8]) -> usize
     ensures { λ r. ⌜ Call (rename-entry (now (job .entry)) (length (now (output .entry)))) (now (output .entry)) r (now (output .exit)) ⌝ }
 {
     let mut left = [0u32; 31];
-    let mut right = [0u32; 31];
-    match read_job(job, &mut left, &mut right) {
+    let mut rights = [0u32; 40];
+    match read_job(job, &mut left, &mut rights) {
         Reading::Refused(n) => n,
         Reading::Accepted(j) => {
             let m = j.left;
-            let n = j.right;
-            answer_rename(front(&left, m), front(&right, n), output)
+            answer_rename(front(&left, m), run_of(&rights, 0), output)
         }
     }
 }

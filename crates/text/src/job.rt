@@ -15,10 +15,13 @@ use terms::term::ZERO;
 // A job accepted or refused.
 pub mod accept;
 
-// The six lines of a job.
+// The lines of a job.
 pub mod lines;
 
-// The sides of the equation.
+// Its right sides.
+pub mod rights;
+
+// A side of an equation.
 pub mod side;
 
 // The signs of a term.

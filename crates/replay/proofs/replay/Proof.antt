@@ -1,5 +1,5 @@
--- `replay` is safe and ends: each call leaves less of the list.
-use Prim.Native.Nat.{_-_}
+-- `replay` meets its contract: each call leaves less of the part.
+use Prim.Native.Nat.{_-_, _≤_}
 use mathlib.Core.Path.{_≡_}
 use lib.ListN.{length}
 use borrow.Author.Needs.{needs}
@@ -7,18 +7,16 @@ use Rattle.replay.proofs.replay.Statement.{statement}
 use Rattle.replay.proofs.replay.Tie as tie
 
 abbrev Inv-loop : tie.InvT-loop
-Inv-loop s output₀ workspace₀ former₀ counts₀ first₀ at₀ output workspace former counts first at =
+Inv-loop s upto output₀ workspace₀ former₀ counts₀ first₀ at₀ output workspace former counts first at =
     (length output ≡ length output₀)
     × (length workspace ≡ length workspace₀)
     × (length former ≡ length former₀)
     × (length counts ≡ length counts₀)
+    × (at ≤ length s)
 
 abbrev μ-loop : tie.MeasureT-loop
-μ-loop s output₀ workspace₀ former₀ counts₀ first₀ at₀ output workspace former counts first at =
+μ-loop s upto output₀ workspace₀ former₀ counts₀ first₀ at₀ output workspace former counts first at =
     length s - at
-
-fill-numbers-requires : tie.Need-fill-numbers-requires Inv-loop μ-loop
-fill-numbers-requires c κs = search needs
 
 loop-holds : tie.Need-loop-holds Inv-loop μ-loop
 loop-holds c = search needs
@@ -56,7 +54,6 @@ replay-spec =
     (tie.spec
     Inv-loop
     μ-loop
-    fill-numbers-requires
     loop-holds
     replay-one-requires
     wrapping-add-u8-requires

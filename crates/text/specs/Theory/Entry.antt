@@ -1,7 +1,7 @@
 -- The claims hold of every call of an entry.
 use Prim.Native.Nat.{ℕ, _-_, _<_}
 use native.Mathlib.Omega.{arith}
-use mathlib.Core.Path.{_≡_, refl, sym, ap, _∙_}
+use mathlib.Core.Path.{_≡_, refl, sym, ap, subst, _∙_}
 use mathlib.Core.Bool.{Bool, true, false, not, _&&_}
 use mathlib.Core.Option.{Option, none, some}
 use mathlib.Core.Logic.{⊎-elim}
@@ -11,22 +11,22 @@ use lib.ListN.{length, drop}
 use lib.Seq.{take-append-seam, drop-append-seam}
 use Rattle.terms.specs.Lists.{_∈_, here, there, not-in-nil, cons-cases, in-left}
 use Rattle.terms.specs.Term.{size, same}
-use Rattle.terms.specs.Letters.{letters, rising}
+use Rattle.terms.specs.Letters.{letters}
 use Rattle.words.specs.Words.{words}
 use Rattle.words.specs.Rename.{canonical-terms}
-use Rattle.search.specs.Law.{semiring}
 use Rattle.search.specs.Search.{noted}
 use Rattle.search.specs.Searched.{slots-of}
 use Rattle.text.specs.TermText.{read-term}
 use Rattle.text.specs.Layout.{layout}
 use Rattle.text.specs.Answer.{Answer, refused, accepted, _>>=_, require, or-refuse, fitting}
-use Rattle.text.specs.Job.{Job, in-range, accept, read-job}
-use Rattle.text.specs.Find.{outcome-text, searched, find}
+use Rattle.text.specs.Job.{Job, in-range, few, accept, read-job}
+use Rattle.text.specs.FindJob.{layouts, read-terms, every, in-place, all-small, accept-each, read-find}
+use Rattle.text.specs.Find.{searched, alone, together, find}
 use Rattle.text.specs.Words.{words-text, words-entry}
 use Rattle.text.specs.Rename.{term-lines, renamed-words, rename-entry}
-use Rattle.text.specs.Entry.{returned, output-after, Call, FindCall}
+use Rattle.text.specs.Entry.{returned, output-after, Call, before-search, FindCall}
 use Rattle.text.specs.Claims.{job-numbers, list-numbers, find-numbers, CallClaims, FindClaims}
-use Rattle.text.specs.Theory.Answers as answers
+use Rattle.text.specs.Theory.Blocks.{answered}
 
 -- what finds a number in a list
 pub ruleset among = (here, there)
@@ -67,30 +67,60 @@ read-numbered bs =
     numbered-or ns 2 (read-term (j .left)) _ (search among) λ s.
     numbered-or ns 2 (read-term (j .right)) _ (search among) λ t.
     numbered-require ns 3 (leb (size s) 31 && leb (size t) 31) _ (search among)
-    (numbered-require ns 4 (leb (length (rising (letters s ++ letters t))) 6) _ (search among)
+    (numbered-require ns 4 (few (letters s ++ letters t)) _ (search among)
     (numbered-require ns 5 (in-range (j .limits)) _ (search among depth 9)
     (numbered-require ns 6 (not (same s t)) _ (search among depth 9) tt))))
   where
     ns : List ℕ
     ns = job-numbers
 
--- what passes 1 to 6 is refused by the numbers that follow
-module _ {A : Type 0} (ns : List ℕ) (bs : List ℕ) (f : Job → Answer A) where
-  pub job-numbered : ((j : Job) → Numbered (job-numbers ++ ns) (f j)) → Numbered (job-numbers ++ ns) (_>>=_ (read-job bs) f)
-  job-numbered =
-      numbered-then (job-numbers ++ ns) (read-job bs) f
-      (numbered-among (job-numbers ++ ns) job-numbers (read-job bs) (λ n i. in-left ns i) (read-numbered bs))
+pub read-find-numbered : (bs : List ℕ) → Numbered before-search (read-find bs)
+unfolding read-find accept-each
+read-find-numbered bs =
+    numbered-require ns 1 (leb (length bs) 4096) _ (search among)
+    (numbered-or ns 1 (layouts bs) _ (search among) λ j.
+    numbered-require ns 9 (leb (length (j .rights)) 16) _ (search among)
+    (numbered-or ns 2 (read-term (j .left)) _ (search among) λ s.
+    numbered-or ns 2 (read-terms (j .rights)) _ (search among) λ ts.
+    numbered-require ns 3 (leb (size s) 31 && all-small ts) _ (search among)
+    (numbered-require ns 4 (every (λ t. few (letters s ++ letters t)) ts) _ (search among depth 9)
+    (numbered-require ns 5 (in-range (j .limits)) _ (search among depth 9)
+    (numbered-require ns 6 (every (λ t. not (same s t)) ts) _ (search among depth 9)
+    (numbered-require ns 10 (in-place s ts) _ (search among depth 9) tt))))))
+  where
+    ns : List ℕ
+    ns = before-search
+
+-- what is read is refused by the numbers that follow
+module _ {A B : Type 0} (ms ns : List ℕ) where
+  pub numbered-first : (a : Answer A) (f : A → Answer B) → Numbered ms a → ((x : A) → Numbered (ms ++ ns) (f x)) → Numbered (ms ++ ns) (_>>=_ a f)
+  numbered-first a f h = numbered-then (ms ++ ns) a f (numbered-among (ms ++ ns) ms a (λ n i. in-left ns i) h)
+
+pub job-numbered : {A : Type 0} (ns bs : List ℕ) (f : Job → Answer A) → ((j : Job) → Numbered (job-numbers ++ ns) (f j))
+    → Numbered (job-numbers ++ ns) (_>>=_ (read-job bs) f)
+job-numbered ns bs f = numbered-first job-numbers ns (read-job bs) f (read-numbered bs)
 
 pub fitting-numbered : (ns : List ℕ) (room : ℕ) (t : List ℕ) → 8 ∈ ns → Numbered ns (fitting room t)
 unfolding fitting
 fitting-numbered ns room t i = numbered-require ns 8 (leb (length t) room) _ i tt
 
+-- what follows the reading of FIND's text
+module _ (ns : List ℕ) (seven : 7 ∈ ns) (eight : 8 ∈ ns) where
+  together-numbered : (slots : ℕ) (js : List Job) → Numbered ns (together slots js)
+  unfolding together alone
+  together-numbered slots [] = tt
+  together-numbered slots (j ∷ []) = numbered-require ns 7 (leb (noted (searched j)) slots) _ seven tt
+  together-numbered slots (j ∷ k ∷ ks) = tt
+
+  pub searched-numbered : (slots room : ℕ) (js : List Job) → Numbered ns (_>>=_ (together slots js) (fitting room))
+  searched-numbered slots room js =
+      numbered-then ns (together slots js) (fitting room) (together-numbered slots js) λ t. fitting-numbered ns room t eight
+
 find-numbered : (bs : List ℕ) (slots room : ℕ) → Numbered find-numbers (find bs slots room)
 unfolding find
 find-numbered bs slots room =
-    job-numbered (7 ∷ 8 ∷ []) bs _ λ j.
-    numbered-require find-numbers 7 (leb (noted (searched j)) slots) _ (search among depth 9)
-    (fitting-numbered find-numbers room (outcome-text semiring j (searched j)) (search among depth 9))
+    numbered-first before-search (7 ∷ 8 ∷ []) (read-find bs) _ (read-find-numbered bs)
+    (searched-numbered find-numbers (search among depth 11) (search among depth 11) slots room)
 
 words-numbered : (bs : List ℕ) (room : ℕ) → Numbered list-numbers (words-entry bs room)
 unfolding words-entry
@@ -104,19 +134,23 @@ rename-numbered bs room =
     fitting-numbered list-numbers room (term-lines (canonical-terms (j .left) (j .right)) ++ renamed-words (words (j .left)) (words (j .right)))
     (search among depth 9)
 
--- each number is below 100
-abbrev pub Low : List ℕ → Type 0
-Low [] = Unit {0}
-Low (n ∷ ns) = (n < 100) × Low ns
+-- what holds of each number of a list
+module _ (P : ℕ → Type 0) where
+  abbrev pub Each : List ℕ → Type 0
+  Each [] = Unit {0}
+  Each (n ∷ ns) = P n × Each ns
 
-low-in : (ns : List ℕ) → Low ns → {n : ℕ} → n ∈ ns → n < 100
-low-in [] h i = absurd (not-in-nil i)
-low-in (m ∷ ns) (h, k) i = ⊎-elim (λ e. omega arith) (λ j. low-in ns k j) (cons-cases i)
+  pub each-in : (ns : List ℕ) → Each ns → {n : ℕ} → n ∈ ns → P n
+  each-in [] h i = absurd (not-in-nil i)
+  each-in (m ∷ ns) (h, k) i = ⊎-elim (λ e. subst P (sym e) h) (λ j. each-in ns k j) (cons-cases i)
+
+abbrev pub Low : List ℕ → Type 0
+Low = Each (λ n. n < 100)
 
 module _ {ns : List ℕ} {given : Answer (List ℕ)} {out : List ℕ} {r : ℕ} {out′ : List ℕ} where
   by-answer : (a : Answer (List ℕ)) → given ≡ a → Low ns → Numbered ns a → r ≡ returned a → out′ ≡ output-after out a → CallClaims ns given out r out′
   by-answer (refused n) e low i number output =
-      let small = low-in ns low i in
+      let small = each-in (λ n. n < 100) ns low i in
       record {
         refusal = (λ h. e ∙ ap refused (sym number), λ h. omega arith);
         numbered = λ h. rw number i;
@@ -149,4 +183,4 @@ module _ (job out : List ℕ) {r : ℕ} {out′ : List ℕ} where
   pub find-claims : {work work′ : List ℕ} → FindCall job out work r out′ work′ → FindClaims job out work r out′
   find-claims {work} c =
       let call = call-claims (search arith depth 12) (find-numbered job (slots-of (length work)) (length out)) (c .call) in
-      record { call = call; answered = λ h. answers.answered job (slots-of (length work)) (length out) _ (call .text h) }
+      record { call = call; answered = λ h. answered job (slots-of (length work)) (length out) _ (call .text h) }

@@ -16,22 +16,7 @@ use Rattle.text.specs.StepText.{law-name, direction, sides, place, step-
 use Rattle.text.specs.StepText.{read-law, read-direction, read-side, read-sides, read-place, read-pieces, read-step}
 use Rattle.text.specs.Theory.Pieces.{parted-behind, parted-pieces}
 use Rattle.text.specs.Theory.Readable.{read-spells}
-
-after-only : (k bs : List ℕ) {v : List ℕ} → after k bs ≡ some v → bs ≡ k ++ v
-unfolding after
-after-only [] bs e = cc
-after-only (b ∷ k) [] e = absurd (Option·none-ne-some _ e)
-after-only (b ∷ k) (c ∷ bs) {v} e = go (eqb b c) (eqb-reflects b c) e (λ h. after-only k bs h)
-  where
-    go : (t : Bool) → Reflects (b ≡ c) t → elim t [ true ↦ after k bs | false ↦ none ] ≡ some v
-        → (after k bs ≡ some v → bs ≡ k ++ v) → c ∷ bs ≡ b ∷ (k ++ v)
-    go true h e rest = let q = rest e in cc
-    go false h e rest = absurd (Option·none-ne-some _ e)
-
-end-only : {A : Type 0} (x : A) (bs : List ℕ) {y : A} → end x bs ≡ some y → (bs ≡ []) × (x ≡ y)
-unfolding end
-end-only x [] e = (refl, cc)
-end-only x (b ∷ bs) e = absurd (Option·none-ne-some _ e)
+use Rattle.text.specs.Theory.Keyed.{some-then, after-only, end-only}
 
 which-only : {A : Type 0} (text : A → List ℕ) (xs : List A) (bs : List ℕ) {x : A} → which text xs bs ≡ some x → bs ≡ text x
 unfolding which
@@ -94,9 +79,6 @@ line-text n d p to ts x law way at result =
     rw (law, way, at)
     (ap (λ l. law-name (x .law) ++ (code " " ∷ (direction (x .direction) ++ (code " " ∷ ((ascii "at=" ++ place (x .place)) ++ (code " " ∷ l))))))
     (parted-behind (code " ") (ascii "to=") to ts ∙ ap (λ l. ascii "to=" ++ parted (code " ") l) result))
-
-some-then : {A B : Type 0} {P : Type 0} (o : Option A) (g : A → Option B) {x : B} → bind o g ≡ some x → ((y : A) → o ≡ some y → g y ≡ some x → P) → P
-some-then o g e h = let (y, f, k) = bind-eq-some-iff o g .0 e in h y f k
 
 pieces-only : (ws : List Law) (ps : List (List ℕ)) {x : Line} → read-pieces ws ps ≡ some x → parted (code " ") ps ≡ step-value x
 unfolding read-pieces

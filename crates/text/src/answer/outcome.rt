@@ -9,6 +9,7 @@ ghost use Rattle.terms.specs.Letters.{letters, rising};
 ghost use Rattle.search.specs.Law.{semiring};
 ghost use Rattle.search.specs.Line.{Line};
 ghost use Rattle.search.specs.Search.{proved, unproved};
+ghost use Rattle.text.specs.Answer.{refused, printed};
 ghost use Rattle.text.specs.Job.{Job};
 ghost use Rattle.text.specs.Find.{outcome-text};
 ghost use Rattle.text.specs.Printing.{figures, proof-line};
@@ -39,6 +40,14 @@ pub fn put_none(
     let p = write_term_line(out, p, b"right=", right);
     let p = write_number_line(out, p, b"expanded=", expanded);
     put_yes_no_line(out, p, b"cut=", cut)
+}
+
+// What a program prints of a refusal.
+pub fn put_refused(out: &mut [u8], at: usize, number: usize) -> usize
+    ensures { λ r. ⌜ Put (printed (refused number)) (now (out .entry)) at r (now (out .exit)) ⌝ }
+{
+    let p = write_line(out, at, b"answer=", b"refused");
+    write_number_line(out, p, b"number=", number)
 }
 
 // How many lines a path has, how many terms were opened, and the laws used.

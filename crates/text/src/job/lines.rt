@@ -1,7 +1,7 @@
-// The six lines of a job: where the sides stand, and the limits.
+// The lines of a job: where the sides stand, and the limits.
 ghost use Prim.Native.Nat.{_≤_};
 ghost use lib.ListN.{length, drop};
-ghost use Rattle.text.specs.LayoutRead.{LimitIn, LimitsIn, LaysOut};
+ghost use Rattle.text.specs.LayoutRead.{KeepsPlace, RightsIn, LimitIn, LimitsIn, LaysOut};
 use super::Number;
 use super::Value;
 use super::keyed;
@@ -32,11 +32,17 @@ pub struct Part {
     pub to: usize,
 }
 
-// Where the sides are written, and the limits.
+// Where left is written, how many right sides there are, and the limits.
 pub struct Written {
     pub left: Part,
-    pub right: Part,
+    pub rights: usize,
     pub limits: Limits,
+}
+
+// How many `right=` lines there are one after the other, and where the next line starts.
+struct Rights {
+    count: usize,
+    end: usize,
 }
 
 // A job's lines, where they are well formed.
@@ -89,28 +95,54 @@ fn limit_lines(s: &[u8], from: usize) -> Limited
     })
 }
 
-// Where the sides stand in the six lines, and the limits.
-pub fn layout_of(s: &[u8]) -> Laid
-    ensures { λ r. ⌜ LaysOut (now (s .entry)) r ⌝ }
+// Keeps where the value of right line `k` starts and ends, if there is room.
+fn keep_place(places: &mut [u32], k: usize, from: usize, to: usize)
+    requires { ⌜ (from ≤ 4096) × (to ≤ 4096) × (k ≤ 4096) ⌝ }
+    ensures { λ _. ⌜ KeepsPlace (now (places .entry)) k from to (now (places .exit)) ⌝ }
 {
-    let Value::Between(left_from, left_to) = keyed(s, 0, b"left=") else {
+    let at = 2 * k;
+    if places.len() <= at + 1 {
+        return;
+    }
+    places[at] = from as u32;
+    places[at + 1] = to as u32;
+}
+
+// The `right=` lines from a position on: the places of their values are kept, two numbers to each, as far as there is room.
+fn right_lines(s: &[u8], from: usize, places: &mut [u32]) -> Rights
+    requires { ⌜ (from ≤ length (now s)) × (length (now s) ≤ 4096) ⌝ }
+    ensures { λ r. ⌜ RightsIn (now (s .entry)) from (now (places .entry)) (now (places .exit)) r ⌝ }
+{
+    let mut count = 0;
+    let mut at = from;
+    loop {
+        let Value::Between(start, end) = keyed(s, at, b"right=") else {
+            return Rights { count, end: at };
+        };
+        keep_place(places, count, start, end);
+        count += 1;
+        at = end + 1;
+    }
+}
+
+// Where the sides stand in the lines of a job, and the limits.
+pub fn layout_of(s: &[u8], places: &mut [u32]) -> Laid
+    requires { ⌜ length (now s) ≤ 4096 ⌝ }
+    ensures { λ r. ⌜ LaysOut (now (s .entry)) (now (places .entry)) (now (places .exit)) r ⌝ }
+{
+    let Value::Between(from, to) = keyed(s, 0, b"left=") else {
         return Laid::Malformed;
     };
-    let Value::Between(right_from, right_to) = keyed(s, left_to + 1, b"right=") else {
+    let rights = right_lines(s, to + 1, places);
+    if rights.count == 0 {
         return Laid::Malformed;
-    };
-    let Limited::By(limits) = limit_lines(s, right_to + 1) else {
+    }
+    let Limited::By(limits) = limit_lines(s, rights.end) else {
         return Laid::Malformed;
     };
     Laid::Lines(Written {
-        left: Part {
-            from: left_from,
-            to: left_to,
-        },
-        right: Part {
-            from: right_from,
-            to: right_to,
-        },
+        left: Part { from, to },
+        rights: rights.count,
         limits,
     })
 }

@@ -4,28 +4,30 @@ use Prim.Native.Nat.{_≤_, _<_, _-_, _/_}
 use native.Mathlib.Omega.{arith}
 use mathlib.Core.Path.{_≡_, refl, sym, ap, _∙_}
 use lib.ListN.{length}
+use Rattle.search.specs.Law.{semiring}
 use Rattle.search.specs.Resulted.{most-nodes}
-use Rattle.search.specs.declared.bounded_search.Outcome.the-variants.{Unproved}
-use Rattle.search.proofs.Searching.{Standing, Opened, Progress, starts, ends, ends-limit, ends-far, opened, progress-noted, ends-proved, ends-full, all-taken}
+use Rattle.search.specs.declared.bounded_search.Stop.the-variants.{Over}
+use Rattle.search.proofs.Standing.{Standing, Opened, Progress, starts}
+use Rattle.search.proofs.Searching.{ends, ends-limit, ends-far, opened, progress-noted, ends-all, ends-full, all-taken}
 use borrow.Author.Needs.{needs}
 use Rattle.search.proofs.bounded_search.explore.Statement.{statement}
 use Rattle.search.proofs.bounded_search.explore.Tie as tie
 
 abbrev Inv-loop : tie.InvT-loop
-Inv-loop right limits ws₀ slots res order noted₀ i distance count j₀ ws noted j =
-    (j ≤ count) × (i < noted) × (noted ≤ slots) × (length ws ≡ length ws₀)
-    × Progress right limits i distance res order count ws₀ noted₀ ws noted j
+Inv-loop rights replies waiting limits ws₀ slots res order stop₀ opened missing₀ noted₀ i distance count j₀ ws stop missing noted j =
+    (j ≤ count) × (i < noted) × (noted ≤ slots) × (length ws ≡ length ws₀) × (stop ≡ stop₀)
+    × Progress semiring limits slots rights replies i distance res order count ws₀ missing₀ noted₀ ws missing noted j
 
 abbrev μ-loop : tie.MeasureT-loop
-μ-loop right limits ws₀ slots res order noted₀ i distance count j₀ ws noted j = count - j
+μ-loop rights replies waiting limits ws₀ slots res order stop₀ opened missing₀ noted₀ i distance count j₀ ws stop missing noted j = count - j
 
 abbrev Inv-outer : tie.InvT-outer
-Inv-outer right limits ws₀ slots res₀ order₀ outcome₀ noted₀ i₀ ws res order outcome noted i =
-    (i ≤ noted) × (noted ≤ slots) × (length ws ≡ length ws₀) × (length res ≡ length res₀) × (length order ≡ length order₀) × (outcome ≡ Unproved i)
-    × Standing right limits (most-nodes order₀) ws₀ ws noted i
+Inv-outer rights replies waiting limits ws₀ slots res₀ order₀ stop₀ opened₀ missing₀ noted₀ i₀ ws res order stop opened missing noted i =
+    (i ≤ noted) × (noted ≤ slots) × (length ws ≡ length ws₀) × (length res ≡ length res₀) × (length order ≡ length order₀) × (stop ≡ Over) × (opened ≡ i)
+    × Standing semiring limits slots rights replies waiting (most-nodes order₀) ws₀ ws missing noted i
 
 abbrev μ-outer : tie.MeasureT-outer
-μ-outer right limits ws₀ slots res₀ order₀ outcome₀ noted₀ i₀ ws res order outcome noted i = slots - i
+μ-outer rights replies waiting limits ws₀ slots res₀ order₀ stop₀ opened₀ missing₀ noted₀ i₀ ws res order stop opened missing noted i = slots - i
 
 -- at the inner loop: the term that is open, and the room that its results have
 module _ (c : tie.At-loop Inv-loop μ-loop Inv-outer μ-outer) where
@@ -33,10 +35,11 @@ module _ (c : tie.At-loop Inv-loop μ-loop Inv-outer μ-outer) where
       let s = c .before .before .before .before .before in
       let v = s .before .before .before .before .before .before in
       let b = v .before .before .before .before .before in
-      let a = b .before .before .before .before .before .args in
+      let a = b .before .before .before .before .before .before .args in
       let e = s .open-slot in
       let o = b .outer in
-      Opened (a .right .now) (a .limits) (most-nodes (a .order .now)) (a .ws .now) (o .ws) (o .noted) (o .i) (v .value-of .result) (e .last .1 .1 .1 .1 .0) (e .last .1 .1 .1 .1 .1 .0) (e .result)
+      Opened semiring (a .limits) (a .slots) (a .rights .now) (a .replies .now) (a .waiting) (most-nodes (a .order .now)) (a .ws .now) (o .ws) (o .missing) (o .noted) (o .i)
+      (v .value-of .result) (e .last .1 .1 .1 .1 .0) (e .last .1 .1 .1 .1 .1 .0) (e .result)
   opened-here =
       let s = c .before .before .before .before .before in
       let far = s .before .before .before .before in
@@ -45,14 +48,19 @@ module _ (c : tie.At-loop Inv-loop μ-loop Inv-outer μ-outer) where
       let b = limit .before .before in
       let o = b .before .outer in
       let e = s .open-slot in
-      let p = b .before .before .before .before .before .before .pre in
-      opened (o .inv .6) (o .inv .1) (b .outer-test .taken) (v .value-of .ensures) (omega (arith, limit .if1 .left)) (omega (arith, far .if2 .left))
+      let p = b .before .before .before .before .before .before .before .pre in
+      opened (o .inv .7) (o .inv .1) (b .outer-test .taken) (v .value-of .ensures) (omega (arith, limit .if1 .left)) (omega (arith, far .if2 .left))
       (omega (arith, p .4))
       (ap (λ n. n / 20) (sym (e .kept .1 .1 .1 .1 .1 .0 ∙ o .inv .4)))
       (e .ensures)
 
   room : let e = c .before .before .before .before .before .open-slot in e .result ≤ length (e .last .1 .1 .1 .1 .1 .0)
   room = c .before .before .before .before .before .open-slot .ensures .few
+
+  few : c .loop .noted ≤ 65535
+  few =
+      let o = c .before .before .before .before .before .before .before .before .before .before .before .before .before .before .before .before in
+      omega (arith, c .loop .inv .2, o .before .before .before .before .before .before .pre .1)
 
 outer-holds : tie.Need-outer-holds Inv-loop μ-loop Inv-outer μ-outer
 outer-holds c = search (starts, needs)
@@ -69,6 +77,9 @@ value-of-requires c κs = search needs
 open-slot-requires : tie.Need-open-slot-requires Inv-loop μ-loop Inv-outer μ-outer
 open-slot-requires c κs = search needs
 
+add-opened : tie.Need-add-opened Inv-loop μ-loop Inv-outer μ-outer
+add-opened c = search needs
+
 loop-holds : tie.Need-loop-holds Inv-loop μ-loop Inv-outer μ-outer
 loop-holds c = search needs
 
@@ -84,39 +95,35 @@ add-j c = search needs
 take-result-requires : tie.Need-take-result-requires Inv-loop μ-loop Inv-outer μ-outer
 take-result-requires c κs = search needs
 
-enum-told : tie.Need-enum-told Inv-loop μ-loop Inv-outer μ-outer
-enum-told c = search needs
+enum-known-struck : tie.Need-enum-known-struck Inv-loop μ-loop Inv-outer μ-outer
+enum-known-struck c = search needs
 
 add-noted : tie.Need-add-noted Inv-loop μ-loop Inv-outer μ-outer
-add-noted c = search needs
+add-noted c = omega (arith, few (c .before .before .before .before .before .before .before .before .before .before))
+
+sub-missing : tie.Need-sub-missing Inv-loop μ-loop Inv-outer μ-outer
+sub-missing c = search needs
 
 loop-less : tie.Need-loop-less Inv-loop μ-loop Inv-outer μ-outer
 loop-less c = search needs
 
 loop-again : tie.Need-loop-again Inv-loop μ-loop Inv-outer μ-outer
 loop-again c =
-    let f = c .before .before .before .before in
+    let e = c .before .before in
+    let f = e .before .before .before .before in
     let h = f .before .before .before .before in
     let l = h .before in
     let v = l .loop in (
       omega (arith, h .loop-test .taken),
       omega (arith, v .inv .1),
-      omega (arith, (rw (c .enum-told .given .1) at (f .take-result .ensures)) .room),
+      omega (arith, (rw (e .struck .given .1) at (f .take-result .ensures)) .room),
       f .take-result .kept .0 ∙ v .inv .3,
-      progress-noted (v .inv .1) (h .loop-test .taken) (room l) (f .take-result .ensures) (v .inv .4) (c .enum-told .given .1),
+      v .inv .4,
+      progress-noted (v .inv .1) (h .loop-test .taken) (room l) (f .take-result .ensures) (v .inv .5) (e .struck .given .1) (omega (arith, c .if3 .left)),
     )
 
-enum-told-2 : tie.Need-enum-told-2 Inv-loop μ-loop Inv-outer μ-outer
-enum-told-2 c = search needs
-
-add-t34 : tie.Need-add-t34 Inv-loop μ-loop Inv-outer μ-outer
-add-t34 c = search needs
-
-add-t35 : tie.Need-add-t35 Inv-loop μ-loop Inv-outer μ-outer
-add-t35 c = search needs
-
-enum-told-3 : tie.Need-enum-told-3 Inv-loop μ-loop Inv-outer μ-outer
-enum-told-3 c = search needs
+enum-told : tie.Need-enum-told Inv-loop μ-loop Inv-outer μ-outer
+enum-told c = search needs
 
 add-i : tie.Need-add-i Inv-loop μ-loop Inv-outer μ-outer
 add-i c = search needs
@@ -136,8 +143,9 @@ outer-again c =
       v .inv .3 ∙ o .inv .2,
       e .kept .1 .1 .1 .1 .0 ∙ o .inv .3,
       e .kept .1 .1 .1 .1 .1 .0 ∙ o .inv .4,
+      v .inv .4 ∙ o .inv .5,
       refl,
-      all-taken (v .inv .4) (opened-here l) (omega (arith, c .loop-test .left)) (room l),
+      all-taken (v .inv .5) (opened-here l) (omega (arith, c .loop-test .left)) (room l),
     )
 
 same-length : tie.Need-same-length Inv-loop μ-loop Inv-outer μ-outer
@@ -150,7 +158,7 @@ same-length-3 : tie.Need-same-length-3 Inv-loop μ-loop Inv-outer μ-outer
 same-length-3 c = search needs
 
 returns : tie.Need-returns Inv-loop μ-loop Inv-outer μ-outer
-returns c = let o = c .before .outer in rw (o .inv .5) (ends (o .inv .6) (o .inv .1) (omega arith))
+returns c = let o = c .before .outer in rw (o .inv .5, o .inv .6) (ends (o .inv .7) (o .inv .1) (omega arith))
 
 same-length-4 : tie.Need-same-length-4 Inv-loop μ-loop Inv-outer μ-outer
 same-length-4 c = search needs
@@ -162,7 +170,7 @@ same-length-6 : tie.Need-same-length-6 Inv-loop μ-loop Inv-outer μ-outer
 same-length-6 c = search needs
 
 returns-2 : tie.Need-returns-2 Inv-loop μ-loop Inv-outer μ-outer
-returns-2 c = let o = c .before .before .before .outer in rw (o .inv .5) (ends-limit (o .inv .6) (o .inv .1) (omega arith))
+returns-2 c = let o = c .before .before .before .outer in rw (o .inv .5, o .inv .6) (ends-limit (o .inv .7) (o .inv .1) (omega arith))
 
 same-length-7 : tie.Need-same-length-7 Inv-loop μ-loop Inv-outer μ-outer
 same-length-7 c = search needs
@@ -177,7 +185,7 @@ returns-3 : tie.Need-returns-3 Inv-loop μ-loop Inv-outer μ-outer
 returns-3 c =
     let v = c .before .before in
     let o = v .before .before .before .before .before .outer in
-    rw (o .inv .5) (ends-far (o .inv .6) (o .inv .1) (omega arith) (v .value-of .ensures) (omega arith))
+    rw (o .inv .5, o .inv .6) (ends-far (o .inv .7) (o .inv .1) (omega arith) (v .value-of .ensures) (omega arith))
 
 same-length-10 : tie.Need-same-length-10 Inv-loop μ-loop Inv-outer μ-outer
 same-length-10 c = search needs
@@ -190,11 +198,12 @@ same-length-12 c = search needs
 
 returns-4 : tie.Need-returns-4 Inv-loop μ-loop Inv-outer μ-outer
 returns-4 c =
-    let f = c .before .before .before .before in
+    let e = c .before .before in
+    let f = e .before .before .before .before in
     let h = f .before .before .before .before in
     let l = h .before in
     let v = l .loop in
-    ends-proved (v .inv .1) (h .loop-test .taken) (room l) (f .take-result .ensures) (v .inv .4) (opened-here l) (c .enum-told2 .given .1)
+    ends-all (v .inv .1) (h .loop-test .taken) (room l) (f .take-result .ensures) (v .inv .5) (opened-here l) (e .struck .given .1) (omega (arith, c .if3 .taken))
 
 same-length-13 : tie.Need-same-length-13 Inv-loop μ-loop Inv-outer μ-outer
 same-length-13 c = search needs
@@ -211,7 +220,7 @@ returns-5 c =
     let h = f .before .before .before .before in
     let l = h .before in
     let v = l .loop in
-    ends-full (v .inv .1) (h .loop-test .taken) (room l) (f .take-result .ensures) (v .inv .4) (opened-here l) (c .enum-told3 .given .1)
+    ends-full (v .inv .1) (h .loop-test .taken) (room l) (f .take-result .ensures) (v .inv .5) (opened-here l) (v .inv .2) (c .enum-told .given .1)
 
 pub explore-spec : {M : Type 1} → statement M
 explore-spec =
@@ -226,19 +235,18 @@ explore-spec =
     cast-value-of
     value-of-requires
     open-slot-requires
+    add-opened
     loop-holds
     mul-k
     slice-read-k
     add-j
     take-result-requires
-    enum-told
+    enum-known-struck
     add-noted
+    sub-missing
     loop-less
     loop-again
-    enum-told-2
-    add-t34
-    add-t35
-    enum-told-3
+    enum-told
     add-i
     outer-less
     outer-again

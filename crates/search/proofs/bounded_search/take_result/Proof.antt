@@ -1,5 +1,5 @@
 -- `take_result` meets its contract: a law for each way out.
-use Rattle.search.proofs.Taking.{takes-full, takes-long, takes-start, takes-right, takes-noted}
+use Rattle.search.proofs.Taking.{takes-full, takes-long, takes-start, takes-noted}
 use borrow.Author.Needs.{needs}
 use Rattle.search.proofs.bounded_search.take_result.Statement.{statement}
 use Rattle.search.proofs.bounded_search.take_result.Tie as tie
@@ -31,20 +31,26 @@ add-note c = search needs
 note-requires : tie.Need-note-requires
 note-requires c κs = search needs
 
-equal-requires : tie.Need-equal-requires
-equal-requires c κs = search needs
+mul-h : tie.Need-mul-h
+mul-h c = search needs
+
+add-h : tie.Need-add-h
+add-h c = search needs
+
+mul-h-2 : tie.Need-mul-h-2
+mul-h-2 c = search needs
+
+slice-read-h : tie.Need-slice-read-h
+slice-read-h c = search needs
+
+count-equal-requires : tie.Need-count-equal-requires
+count-equal-requires c κs = search needs
 
 same-length : tie.Need-same-length
 same-length c = search needs
 
 returns-4 : tie.Need-returns-4
-returns-4 c = search (takes-right, needs)
-
-same-length-2 : tie.Need-same-length-2
-same-length-2 c = search needs
-
-returns-5 : tie.Need-returns-5
-returns-5 c = search (takes-noted, needs)
+returns-4 c = search (takes-noted, needs)
 
 pub take-result-spec : {M : Type 1} → statement M
 take-result-spec =
@@ -59,8 +65,10 @@ take-result-spec =
     returns-3
     add-note
     note-requires
-    equal-requires
+    mul-h
+    add-h
+    mul-h-2
+    slice-read-h
+    count-equal-requires
     same-length
-    returns-4
-    same-length-2
-    returns-5)
+    returns-4)

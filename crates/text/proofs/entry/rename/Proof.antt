@@ -25,18 +25,17 @@ slice-aggregate-front c = search needs
 front-requires : tie.Need-front-requires
 front-requires c κs = search needs
 
-slice-aggregate-front-2 : tie.Need-slice-aggregate-front-2
-slice-aggregate-front-2 c = search needs
+slice-aggregate-run-of : tie.Need-slice-aggregate-run-of
+slice-aggregate-run-of c = search needs
 
-front-requires-2 : tie.Need-front-requires-2
-front-requires-2 c κs = search needs
+run-of-requires : tie.Need-run-of-requires
+run-of-requires c κs = search needs
 
 answer-rename-requires : tie.Need-answer-rename-requires
 answer-rename-requires c κs = search needs
 
 returns : tie.Need-returns
-returns c =
-    let j = c .before .before .before .before .before in
+returns c = let j = c .before .before .before .before .before in
     let a = j .before .before .before .before .before .args in
     rename-refused (a .job .now) (a .output .now) (rw (c .before .n .given .1) at (j .read-job .ensures))
 
@@ -44,12 +43,12 @@ same-length : tie.Need-same-length
 same-length c = search needs
 
 returns-2 : tie.Need-returns-2
-returns-2 c =
-    let f = c .before .before .before .before .before .before in
+returns-2 c = let s = c .before .before .before .before in
+    let f = s .before .before in
     let told = f .before .before .before in
     let j = told .before .before .before .before in
     let a = j .before .before .before .before .before .args in
-    rename-answered (a .job .now) (rw (told .j .given .1) at (j .read-job .ensures)) (f .front .ensures) (c .before .before .before .before .front2 .ensures) (a .output .now)
+    rename-answered (a .job .now) (rw (told .j .given .1) at (j .read-job .ensures)) (f .front .ensures) (s .run-of .ensures) (a .output .now)
     (c .before .before .answer-rename .ensures)
 
 pub rename-spec : {M : Type 1} → statement M
@@ -63,8 +62,8 @@ rename-spec =
     enum-known-j
     slice-aggregate-front
     front-requires
-    slice-aggregate-front-2
-    front-requires-2
+    slice-aggregate-run-of
+    run-of-requires
     answer-rename-requires
     returns
     same-length

@@ -1,0 +1,104 @@
+-- A line that was read with its key is the key, the value and byte 10, and it is read so again whatever follows it.
+use Prim.Native.Nat.{ℕ}
+use Prim.Native.String.{String}
+use mathlib.Core.Path.{_≡_, refl, _∙_, ap}
+use mathlib.Core.Bool.{Bool, true, false}
+use mathlib.Core.Option.{Option, none, some, bind, bind-eq-some-iff, Option·none-ne-some}
+use mathlib.Core.List.{List, [], _∷_, _++_, append-assoc}
+use lib.Dec.{eqb}
+use Rattle.terms.specs.Theory.Reflects.{Reflects, eqb-reflects}
+use Rattle.text.specs.Bytes.{ascii, after, end, Split, line}
+use Rattle.text.specs.Layout.{keyed}
+use Rattle.text.specs.Answer.{field}
+
+-- of what is read in two steps, each gives something
+pub some-then : {A B : Type 0} {P : Type 0} (o : Option A) (g : A → Option B) {x : B} → bind o g ≡ some x → ((y : A) → o ≡ some y → g y ≡ some x → P) → P
+some-then o g e h = let (y, f, k) = bind-eq-some-iff o g .0 e in h y f k
+
+pub after-only : (k bs : List ℕ) {v : List ℕ} → after k bs ≡ some v → bs ≡ k ++ v
+unfolding after
+after-only [] bs e = cc
+after-only (b ∷ k) [] e = absurd (Option·none-ne-some _ e)
+after-only (b ∷ k) (c ∷ bs) {v} e = go (eqb b c) (eqb-reflects b c) e (λ h. after-only k bs h)
+  where
+    go : (t : Bool) → Reflects (b ≡ c) t → elim t [ true ↦ after k bs | false ↦ none ] ≡ some v
+        → (after k bs ≡ some v → bs ≡ k ++ v) → c ∷ bs ≡ b ∷ (k ++ v)
+    go true h e rest = let q = rest e in cc
+    go false h e rest = absurd (Option·none-ne-some _ e)
+
+pub after-key : (k bs : List ℕ) → after k (k ++ bs) ≡ some bs
+unfolding after
+after-key [] bs = refl
+after-key (b ∷ k) bs = go (eqb b b) (eqb-reflects b b) (after-key k bs)
+  where
+    go : (t : Bool) → Reflects (b ≡ b) t → after k (k ++ bs) ≡ some bs → elim t [ true ↦ after k (k ++ bs) | false ↦ none ] ≡ some bs
+    go true h e = e
+    go false h e = absurd (h refl)
+
+pub end-only : {A : Type 0} (x : A) (bs : List ℕ) {y : A} → end x bs ≡ some y → (bs ≡ []) × (x ≡ y)
+unfolding end
+end-only x [] e = (refl, cc)
+end-only x (b ∷ bs) e = absurd (Option·none-ne-some _ e)
+
+-- a value, and what follows its line
+abbrev parts-of : List ℕ → List ℕ → Option Split
+parts-of v rest = some (record { front = v; rest = rest })
+
+-- a line was read
+pub record LineParts (bs : List ℕ) (c : Split) : Type 0 where
+  pub parts : bs ≡ c .front ++ (10 ∷ c .rest)
+  pub again : (rest : List ℕ) → line (c .front ++ (10 ∷ rest)) ≡ parts-of (c .front) rest
+
+-- the parts with a byte more in front
+abbrev one-more : ℕ → List ℕ → Bool → Option Split → Option Split
+one-more b bs t o =
+    elim t [
+      | true ↦ parts-of [] bs
+      | false ↦ elim o [ none ↦ none | some c ↦ parts-of (b ∷ c .front) (c .rest) ]
+    ]
+
+line-more : (b : ℕ) (v rest : List ℕ) → (b ≡ 10 → ⊥) → line (v ++ (10 ∷ rest)) ≡ parts-of v rest → line (b ∷ (v ++ (10 ∷ rest))) ≡ parts-of (b ∷ v) rest
+unfolding line
+line-more b v rest h e = go (eqb b 10) (eqb-reflects b 10)
+  where
+    go : (t : Bool) → Reflects (b ≡ 10) t → one-more b (v ++ (10 ∷ rest)) t (line (v ++ (10 ∷ rest))) ≡ parts-of (b ∷ v) rest
+    go true k = absurd (h k)
+    go false k = rw e
+
+pub line-parts : (bs : List ℕ) {c : Split} → line bs ≡ some c → LineParts bs c
+unfolding line
+line-parts [] {c} e = absurd (Option·none-ne-some c e)
+line-parts (b ∷ bs) {c} e = go (eqb b 10) (eqb-reflects b 10) (line bs) (λ d h. line-parts bs {c = d} h) e
+  where
+    go : (t : Bool) → Reflects (b ≡ 10) t → (o : Option Split) → ((d : Split) → o ≡ some d → LineParts bs d) → one-more b bs t o ≡ some c → LineParts (b ∷ bs) c
+    go true k o h e =
+        let f : _≡_ {A = Split} (record { front = []; rest = bs }) c = cc in
+        rw (← f) (record { parts = ap (λ n. n ∷ bs) k; again = λ rest. refl })
+    go false k none h e = absurd (Option·none-ne-some c e)
+    go false k (some d) h e =
+        let f : _≡_ {A = Split} (record { front = b ∷ d .front; rest = d .rest }) c = cc in
+        let p = h d refl in
+        rw (← f) (record { parts = ap (λ l. b ∷ l) (p .parts); again = λ rest. line-more b (d .front) rest k (p .again rest) })
+
+-- a value that is read in its line, whatever follows
+abbrev pub Read : String → List ℕ → Type 0
+Read key v = (rest : List ℕ) → keyed key (field key v ++ rest) ≡ parts-of v rest
+
+-- a line was read with its key
+pub record KeyedParts (key : String) (bs : List ℕ) (c : Split) : Type 0 where
+  pub parts : bs ≡ field key (c .front) ++ c .rest
+  pub again : Read key (c .front)
+
+field-before : (key : String) (v rest : List ℕ) → field key v ++ rest ≡ ascii key ++ (v ++ (10 ∷ rest))
+unfolding field
+field-before key v rest = simp append-assoc
+
+pub keyed-parts : (key : String) (bs : List ℕ) {c : Split} → keyed key bs ≡ some c → KeyedParts key bs c
+unfolding keyed bind
+keyed-parts key bs {c} e =
+    some-then (after (ascii key) bs) line e λ rest behind e.
+    let p = line-parts rest e in
+    record {
+      parts = after-only (ascii key) bs behind ∙ ap (λ l. ascii key ++ l) (p .parts) ∙ rw (field-before key (c .front) (c .rest));
+      again = λ more. rw (field-before key (c .front) more, after-key (ascii key) (c .front ++ (10 ∷ more))) (p .again more);
+    }
