@@ -1,18 +1,20 @@
-//! Document 01's cases, each with the answer that is due.
+//! The documents' cases, each with the answer that is due.
+
+mod many;
 
 use crate::plain::job;
-use crate::{Call, Entry, Given, PROGRAM_ROOM, PROGRAM_SLOTS, checked};
+use crate::{Call, Entry, Given, PROGRAM_ROOM, PROGRAM_SLOTS, Rights, checked};
 
 pub struct Case {
     pub name: &'static str,
     pub call: Call,
-    pub due: Result<&'static str, u8>,
+    pub due: Result<String, u8>,
 }
 
 impl Case {
     /// What is due.
     pub fn given(&self) -> Given {
-        self.due.map(|text| text.as_bytes().to_vec())
+        self.due.clone().map(String::into_bytes)
     }
 
     /// Nothing if the case holds, else what came instead.
@@ -47,6 +49,7 @@ fn call(entry: Entry, sides: [&str; 2], limits: Limits) -> Call {
 }
 
 fn case(name: &'static str, call: Call, due: Due) -> Case {
+    let due = due.map(str::to_owned);
     Case { name, call, due }
 }
 
@@ -104,12 +107,20 @@ macro_rules! none {
     };
 }
 
-/// The cases of document 01 and the examples of its table of refusals.
-pub fn cases() -> Vec<Case> {
-    let mut all = searched();
-    all.extend(listed());
-    all.extend(refused());
-    all.extend(bounds());
+use none;
+
+/// The cases of document 01 with the examples of its table of refusals, and those for several right sides.
+pub fn cases(rights: Option<Rights>) -> Vec<Case> {
+    let mut all = Vec::new();
+    if rights != Some(Rights::Many) {
+        all.extend(searched());
+        all.extend(listed());
+        all.extend(refused());
+        all.extend(bounds());
+    }
+    if rights != Some(Rights::One) {
+        all.extend(many::cases());
+    }
     all
 }
 

@@ -1,8 +1,8 @@
-//! The plain answer, compared with the Rust's on every job that passes 1 to 6.
+//! The plain answer, compared with the Rust's on every job that passes the refusals before the search.
 
 use std::fmt;
 
-use crate::plain::{self, MOST_SLOTS, within};
+use crate::plain::{self, Block, MOST_SLOTS, joined};
 use crate::{Call, Given, rust};
 
 /// A call on which two answers differ.
@@ -23,39 +23,42 @@ pub fn answer(call: &Call) -> Result<Given, Box<Difference>> {
         room,
         ref job,
     } = call;
-    let (whole, noted) = match plain::whole(entry, job) {
-        Ok((text, noted)) => (Ok(text), noted),
-        Err(number) => (Err(number), 0),
-    };
+    let blocks = plain::blocks(entry, job, usize::MAX);
+    let whole = blocks.clone();
+    let whole = whole.and_then(|blocks| joined(&blocks, usize::MAX));
     let rusts = rust::answer(entry, job, usize::MAX);
-    let whole = same(call, "plain and Rust, slots and room enough", whole, rusts)?;
-    let due = whole.and_then(|text| match noted > slots.min(MOST_SLOTS) {
-        true => Err(7),
-        false => within(room, text),
-    });
-    let given = plain::answer(entry, job, slots, room);
     same(
         call,
-        "plain and what is due with these slots and this room",
-        given,
-        due,
-    )
+        "plain and Rust, slots and room enough",
+        &whole,
+        &rusts,
+    )?;
+
+    let is_held = |block: &Block| block.noted <= slots.min(MOST_SLOTS);
+    let due = blocks.and_then(|blocks| {
+        let held = blocks.into_iter().map(|block| block.filter(is_held));
+        joined(&held.collect::<Vec<_>>(), room)
+    });
+    let given = plain::answer(entry, job, slots, room);
+    let what = "plain and what is due with these slots and this room";
+    same(call, what, &given, &due)?;
+    Ok(given)
 }
 
 fn same(
     call: &Call,
     what: &'static str,
-    plain: Given,
-    other: Given,
-) -> Result<Given, Box<Difference>> {
+    plain: &Given,
+    other: &Given,
+) -> Result<(), Box<Difference>> {
     if plain == other {
-        return Ok(plain);
+        return Ok(());
     }
     Err(Box::new(Difference {
         call: call.clone(),
         what,
-        plain: show(&plain),
-        other: show(&other),
+        plain: show(plain),
+        other: show(other),
     }))
 }
 

@@ -1,4 +1,4 @@
-//! The oracle: what document 01 and the Rust answer to a job.
+//! The oracle: what documents 01 and 02 and the Rust answer to a job.
 
 pub mod cases;
 pub mod checked;
@@ -27,6 +27,13 @@ impl Entry {
     pub fn named(name: &str) -> Option<Entry> {
         Entry::ALL.into_iter().find(|entry| entry.name() == name)
     }
+}
+
+/// Whether a job is about one right side or about several, some of which may be wrong.
+#[derive(Clone, Copy, Debug, Eq, PartialEq)]
+pub enum Rights {
+    One,
+    Many,
 }
 
 /// What a call gives: the answer's bytes, or the number of the refusal.

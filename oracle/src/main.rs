@@ -4,18 +4,19 @@ use std::io::{self, BufWriter, Read, Write};
 use std::process::ExitCode;
 use std::time::Instant;
 
+use oracle::cases::{Case, cases};
 use oracle::generate::{KINDS, Plan};
 use oracle::options::{self, Failure, unknown, value};
 use oracle::tally::Tally;
-use oracle::{Call, Entry, PROGRAM_ROOM, PROGRAM_SLOTS, cases::cases, checked, list};
+use oracle::{Call, Entry, PROGRAM_ROOM, PROGRAM_SLOTS, Rights, checked, list};
 
 const HELP: &str = "\
 oracle answer ENTRY [--slots N] [--room N] [--number]
     Reads one job on standard input and prints what the call gives, or the refusal.
     ENTRY is find, words or rename. 400 slots and 32768 bytes of room unless said.
     --number prints the number that the call returns instead.
-oracle cases [--list]
-    Runs document 01's cases; or writes them as `oracle list` does.
+oracle cases [--one | --many] [--list]
+    Runs the documents' cases; or writes them as `oracle list` does.
 oracle generate OPTIONS
     Writes calls: a line `entry slots room job_length`, then the job's bytes.
 oracle list OPTIONS
@@ -25,11 +26,11 @@ oracle check OPTIONS
     Makes the same calls, compares both implementations and prints counts.
 
 OPTIONS: --seed S (default 1), --count N (default 1000), --kind K (default all, mixed),
-    --light (no heavy calls), --max-slots N, --max-room N (larger buffers are drawn as this),
-    --max-job N (longer texts are cut).
+    --one (kinds for one right side only), --many (for several only), --light (no heavy calls),
+    --max-slots N, --max-room N (larger buffers are drawn as this), --max-job N (longer texts are cut).
 Entries in records: 1 find, 2 words, 3 rename. Number: 0, or the refusal's.
 
-Kinds, with their share in a thousand:
+Kinds, with their share in 1,500:
 ";
 
 fn main() -> ExitCode {
@@ -49,8 +50,7 @@ fn run(words: &[String]) -> Result<bool, Failure> {
     let words: Vec<&str> = words.iter().map(String::as_str).collect();
     match words[..] {
         ["answer", entry, ref options @ ..] => answer(entry, options),
-        ["cases"] => Ok(run_cases()),
-        ["cases", "--list"] => list_cases(),
+        ["cases", ref options @ ..] => cases_command(options),
         ["generate", ref options @ ..] => generate(&plan(options)?),
         ["list", ref options @ ..] => write_list(&plan(options)?),
         ["check", ref options @ ..] => check(&plan(options)?),
@@ -63,9 +63,16 @@ fn run(words: &[String]) -> Result<bool, Failure> {
 }
 
 fn help() -> String {
-    let kinds = KINDS
-        .iter()
-        .map(|kind| format!("    {:8} {:4}  {}\n", kind.name, kind.share, kind.what));
+    let kinds = KINDS.iter().map(|kind| {
+        let rights = match kind.rights {
+            Rights::One => "one ",
+            Rights::Many => "many",
+        };
+        format!(
+            "    {rights} {:11} {:4}  {}\n",
+            kind.name, kind.share, kind.what
+        )
+    });
     HELP.to_owned() + &kinds.collect::<String>()
 }
 
@@ -103,10 +110,27 @@ fn answer(entry: &str, words: &[&str]) -> Result<bool, Failure> {
     Ok(true)
 }
 
-fn run_cases() -> bool {
-    let all = cases();
+fn cases_command(words: &[&str]) -> Result<bool, Failure> {
+    let mut rights = None;
+    let mut is_list = false;
+    for &option in words {
+        match option {
+            "--one" | "--many" => rights = options::rights(option),
+            "--list" => is_list = true,
+            _ => return Err(unknown(option)),
+        }
+    }
+    let all = cases(rights);
+    if is_list {
+        list_cases(&all)
+    } else {
+        Ok(run_cases(&all))
+    }
+}
+
+fn run_cases(all: &[Case]) -> bool {
     let mut failed = 0;
-    for case in &all {
+    for case in all {
         if let Some(fault) = case.fault() {
             failed += 1;
             println!("case {}\n{fault}", case.name);
@@ -116,9 +140,9 @@ fn run_cases() -> bool {
     failed == 0
 }
 
-fn list_cases() -> Result<bool, Failure> {
+fn list_cases(all: &[Case]) -> Result<bool, Failure> {
     let mut out = BufWriter::new(io::stdout().lock());
-    for case in cases() {
+    for case in all {
         list::write_record(&mut out, &case.call, &case.given())?;
     }
     out.flush()?;

@@ -3,6 +3,7 @@
 use std::slice::Iter;
 use std::str::FromStr;
 
+use crate::Rights;
 use crate::generate::{KINDS, Plan};
 
 pub type Failure = Box<dyn std::error::Error>;
@@ -13,6 +14,7 @@ pub fn take(plan: &mut Plan, option: &str, rest: &mut Iter<&str>) -> Result<bool
         "--seed" => plan.seed = value(option, rest)?,
         "--count" => plan.count = value(option, rest)?,
         "--light" => plan.light = true,
+        "--one" | "--many" => plan.rights = rights(option),
         "--max-job" => plan.most_bytes = value(option, rest)?,
         "--max-slots" => plan.most_slots = value(option, rest)?,
         "--max-room" => plan.most_room = value(option, rest)?,
@@ -24,6 +26,15 @@ pub fn take(plan: &mut Plan, option: &str, rest: &mut Iter<&str>) -> Result<bool
         _ => return Ok(false),
     }
     Ok(true)
+}
+
+/// Which right sides `--one` or `--many` asks for.
+pub fn rights(option: &str) -> Option<Rights> {
+    match option {
+        "--one" => Some(Rights::One),
+        "--many" => Some(Rights::Many),
+        _ => None,
+    }
 }
 
 /// The value that follows an option.

@@ -14,6 +14,8 @@ pub struct Tally {
     calls: usize,
     kinds: BTreeMap<usize, Counts>,
     entries: BTreeMap<&'static str, Counts>,
+    /// The blocks of answers that have several.
+    blocks: Counts,
     paths: BTreeMap<usize, usize>,
 }
 
@@ -26,7 +28,15 @@ impl Tally {
         for counts in [entry, kind] {
             *counts.entry(outcome.clone()).or_default() += 1;
         }
-        if let Some(steps) = given.as_ref().ok().and_then(|text| steps(text)) {
+        let Ok(text) = given else { return };
+        let blocks = outcomes(text);
+        if blocks.len() > 1 {
+            for block in blocks {
+                *self.blocks.entry(block).or_default() += 1;
+            }
+        }
+        for steps in values(text, "steps=") {
+            let steps = steps.parse().expect("a number of lines");
             *self.paths.entry(steps).or_default() += 1;
         }
     }
@@ -40,6 +50,7 @@ impl Tally {
         for (entry, counts) in other.entries {
             add(self.entries.entry(entry).or_default(), counts);
         }
+        add(&mut self.blocks, other.blocks);
         add(&mut self.paths, other.paths);
     }
 }
@@ -50,38 +61,45 @@ fn add<K: Ord>(counts: &mut BTreeMap<K, usize>, others: BTreeMap<K, usize>) {
     }
 }
 
-/// `refused N`, `proved`, `none`, or `answered` for WORDS and RENAME.
+/// `refused N`, `proved`, `none`, `several` for several blocks, or `answered` for WORDS and RENAME.
 fn outcome(given: &Given) -> String {
     match given {
         Err(number) => format!("refused {number}"),
-        Ok(text) if text.starts_with(b"answer=proved\n") => "proved".to_owned(),
-        Ok(text) if text.starts_with(b"answer=none\n") => "none".to_owned(),
-        Ok(_) => "answered".to_owned(),
+        Ok(text) => match &outcomes(text)[..] {
+            [] => "answered".to_owned(),
+            [only] => only.clone(),
+            _ => "several".to_owned(),
+        },
     }
 }
 
-/// The number of lines in a proved answer's path.
-fn steps(text: &[u8]) -> Option<usize> {
-    let text = std::str::from_utf8(text).ok()?;
-    let value = text.lines().find_map(|line| line.strip_prefix("steps="))?;
-    value.parse().ok()
+/// What each block of FIND's answer says first.
+fn outcomes(text: &[u8]) -> Vec<String> {
+    values(text, "answer=").map(str::to_owned).collect()
+}
+
+/// What stands in the lines with this key.
+fn values<'a>(text: &'a [u8], key: &'a str) -> impl Iterator<Item = &'a str> {
+    let text = std::str::from_utf8(text).expect("answers are ASCII");
+    text.lines().filter_map(move |line| line.strip_prefix(key))
 }
 
 impl fmt::Display for Tally {
     fn fmt(&self, out: &mut fmt::Formatter<'_>) -> fmt::Result {
         for (&kind, counts) in &self.kinds {
-            writeln!(out, "{:8} {}", KINDS[kind].name, show(counts))?;
+            writeln!(out, "{:11} {}", KINDS[kind].name, show(counts))?;
         }
         for (entry, counts) in &self.entries {
-            writeln!(out, "{entry:8} {}", show(counts))?;
+            writeln!(out, "{entry:11} {}", show(counts))?;
         }
+        writeln!(out, "blocks      {}", show(&self.blocks))?;
         let paths = self.paths.iter();
         let paths: Vec<String> = paths
             .map(|(steps, count)| format!("{steps}: {count}"))
             .collect();
         writeln!(
             out,
-            "lines in the path of a proved answer: {}",
+            "lines in the path of a proved answer or block: {}",
             paths.join(", ")
         )?;
         write!(out, "{} calls", self.calls)

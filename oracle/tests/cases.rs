@@ -1,10 +1,10 @@
-//! Document 01's cases hold.
+//! The documents' cases hold.
 
 use oracle::cases::cases;
 
 #[test]
 fn cases_hold() {
-    for case in cases() {
+    for case in cases(None) {
         if let Some(fault) = case.fault() {
             panic!("case {}\n{fault}", case.name);
         }

@@ -2,8 +2,8 @@
 
 use std::collections::BTreeSet;
 
-use oracle::generate::{HEAVY, KINDS, Plan};
-use oracle::{Entry, Given, checked, list};
+use oracle::generate::{KINDS, Plan};
+use oracle::{Call, Entry, Given, Rights, checked, list, plain};
 
 /// The calls of a plan with what they give.
 fn answers(plan: &Plan) -> Vec<(Entry, Given)> {
@@ -34,7 +34,7 @@ fn numbers(name: &str) -> BTreeSet<u8> {
 
 #[test]
 fn every_light_kind_agrees() {
-    for kind in KINDS.iter().filter(|kind| kind.name != HEAVY) {
+    for kind in KINDS.iter().filter(|kind| !kind.is_heavy()) {
         answers(&of_kind(kind.name, 200));
     }
 }
@@ -50,6 +50,62 @@ fn refusals_come_from_their_kinds() {
     assert!(numbers("several").is_superset(&BTreeSet::from([1, 2, 3, 4, 5, 6])));
     assert!(numbers("slots").is_superset(&BTreeSet::from([0, 7])));
     assert!(numbers("room").is_superset(&BTreeSet::from([0, 8])));
+}
+
+#[test]
+fn refusals_of_several_right_sides_come_from_their_kinds() {
+    assert_eq!(numbers("plan-slots"), BTreeSet::from([0]));
+    assert_eq!(numbers("plan-room"), BTreeSet::from([0, 8]));
+    assert!(numbers("right-count").is_superset(&BTreeSet::from([0, 1, 2, 9])));
+    assert!(numbers("one-wrong").is_superset(&BTreeSet::from([1, 2, 3, 4, 5, 6, 10])));
+    assert!(numbers("each-six").is_superset(&BTreeSet::from([0, 4])));
+    assert!(numbers("plan-faults").is_superset(&BTreeSet::from([1, 2, 3, 4, 5, 6, 9, 10])));
+    assert!(numbers("lengths").is_superset(&BTreeSet::from([0, 1, 3, 9])));
+    assert!(numbers("right-lines").is_superset(&BTreeSet::from([0, 1])));
+}
+
+/// The jobs with each right line by itself.
+fn single_jobs(job: &[u8]) -> Vec<Vec<u8>> {
+    let lines: Vec<&[u8]> = job.split_inclusive(|&byte| byte == b'\n').collect();
+    let (sides, limits) = lines.split_at(lines.len() - 4);
+    let rights = sides[1..].iter();
+    rights
+        .map(|right| [sides[0], right, &limits.concat()].concat())
+        .collect()
+}
+
+/// What a block says of such a job.
+fn block(job: &[u8], slots: usize) -> String {
+    let call = Call {
+        entry: Entry::Find,
+        slots,
+        room: usize::MAX,
+        job: job.to_vec(),
+    };
+    let given = checked::answer(&call).unwrap_or_else(|found| panic!("{found}"));
+    assert!(matches!(given, Ok(_) | Err(7)));
+    checked::show(&given)
+}
+
+#[test]
+fn blocks_are_what_single_jobs_are_answered() {
+    let mut both = 0;
+    for (_, call) in of_kind("plan-slots", 300).calls() {
+        let jobs = single_jobs(&call.job);
+        let blocks: Vec<String> = jobs.iter().map(|job| block(job, call.slots)).collect();
+        let given = plain::answer(call.entry, &call.job, call.slots, usize::MAX);
+        assert_eq!(given, Ok(blocks.concat().into_bytes()));
+        let refused = blocks.iter().filter(|block| block.contains("=refused\n"));
+        both += usize::from((1..blocks.len()).contains(&refused.count()));
+    }
+    assert!(both > 30, "{both} calls with answers and blocks of 7");
+}
+
+#[test]
+fn mixed_lists_have_two_thirds_of_one_right_side() {
+    let shares = |rights| KINDS.iter().filter(move |kind| kind.rights == rights);
+    let sum = |rights| shares(rights).map(|kind| kind.share).sum::<usize>();
+    assert_eq!([Rights::One, Rights::Many].map(sum), [1_000, 500]);
 }
 
 #[test]

@@ -23,8 +23,8 @@ fn with(line: usize, value: &str) -> Option<u8> {
     given(Entry::Find, values).err()
 }
 
-fn refused(text: &[u8]) -> Option<u8> {
-    plain::answer(Entry::Find, text, PROGRAM_SLOTS, PROGRAM_ROOM).err()
+fn refused(entry: Entry, text: &[u8]) -> Option<u8> {
+    plain::answer(entry, text, PROGRAM_SLOTS, PROGRAM_ROOM).err()
 }
 
 #[test]
@@ -81,34 +81,50 @@ fn sides_are_terms() {
 
 #[test]
 fn lines_stand_alone_and_in_order() {
-    let good = job::write(&GOOD);
-    assert_eq!(refused(&good), None);
-    let lines: Vec<&[u8]> = good.split_inclusive(|&byte| byte == b'\n').collect();
-    for at in 0..6 {
-        let mut doubled = lines.clone();
-        doubled.insert(at, lines[at]);
-        assert_eq!(refused(&doubled.concat()), Some(1));
-        let mut missing = lines.clone();
-        missing.remove(at);
-        assert_eq!(refused(&missing.concat()), Some(1));
-        let mut exchanged = lines.clone();
-        exchanged.swap(at, (at + 1) % 6);
-        assert_eq!(refused(&exchanged.concat()), Some(1));
-    }
-    assert_eq!(refused(&good[..good.len() - 1]), Some(1));
-    for more in [&b"\n"[..], b" ", b"\0", b"x"] {
-        assert_eq!(refused(&[&good[..], more].concat()), Some(1));
-        assert_eq!(refused(&[more, &good[..]].concat()), Some(1));
+    for entry in Entry::ALL {
+        let refused = |text: &[u8]| refused(entry, text);
+        let good = job::write(&GOOD);
+        assert_eq!(refused(&good), None);
+        let lines: Vec<&[u8]> = good.split_inclusive(|&byte| byte == b'\n').collect();
+        for at in 0..6 {
+            let mut doubled = lines.clone();
+            doubled.insert(at, lines[at]);
+            let may_repeat = entry == Entry::Find && at == 1;
+            let due = (!may_repeat).then_some(1);
+            assert_eq!(refused(&doubled.concat()), due);
+            let mut missing = lines.clone();
+            missing.remove(at);
+            assert_eq!(refused(&missing.concat()), Some(1));
+            let mut exchanged = lines.clone();
+            exchanged.swap(at, (at + 1) % 6);
+            assert_eq!(refused(&exchanged.concat()), Some(1));
+        }
+        assert_eq!(refused(&good[..good.len() - 1]), Some(1));
+        for more in [&b"\n"[..], b" ", b"\0", b"x"] {
+            assert_eq!(refused(&[&good[..], more].concat()), Some(1));
+            assert_eq!(refused(&[more, &good[..]].concat()), Some(1));
+        }
     }
 }
 
 #[test]
 fn length_counts_the_whole_text() {
-    let left = |count| "0".repeat(count);
     let bytes = job::write(&GOOD).len() - GOOD[0].len();
-    assert_eq!(with(0, &left(1024 - bytes)), Some(2));
-    assert_eq!(with(0, &left(1025 - bytes)), Some(1));
-    assert_eq!(with(0, &left(70_000)), Some(1));
+    for (entry, most) in [
+        (Entry::Find, 4_096),
+        (Entry::Words, 1_024),
+        (Entry::Rename, 1_024),
+    ] {
+        let of_length = |length: usize| {
+            let left = "0".repeat(length - bytes);
+            let mut values = GOOD;
+            values[0] = &left;
+            given(entry, values).err()
+        };
+        assert_eq!(of_length(most), Some(2));
+        assert_eq!(of_length(most + 1), Some(1));
+        assert_eq!(of_length(70_000), Some(1));
+    }
 }
 
 #[test]

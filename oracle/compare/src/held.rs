@@ -132,7 +132,7 @@ impl Buffers {
             ),
             (
                 !is_early(due) || self.workspace.part() == self.former,
-                "the workspace is changed by a refusal from 1 to 6",
+                "the workspace is changed by a refusal before the search",
             ),
         ];
         let (_, what) = checks.into_iter().find(|(holds, _)| !holds)?;
@@ -140,9 +140,9 @@ impl Buffers {
     }
 }
 
-/// Whether the workspace has to stay as it is.
+/// Whether the workspace has to stay as it is: after a refusal that comes before any search.
 fn is_early(due: &Given) -> bool {
-    matches!(due, Err(1..=6))
+    matches!(due, Err(1..=6 | 9 | 10))
 }
 
 /// Any 32-bit number, and often one that a slot may hold.

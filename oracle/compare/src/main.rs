@@ -12,17 +12,18 @@ use oracle::cases::cases;
 use oracle::generate::{KINDS, Plan, Random};
 use oracle::options::{self, Failure, unknown, value};
 use oracle::tally::Tally;
-use oracle::{Call, Given, checked, plain};
+use oracle::{Call, Given, Rights, checked, plain};
 
 use held::Buffers;
 
 const HELP: &str = "\
 compare OPTIONS
-    Makes document 01's cases and then generated calls, and holds the static library to the oracle.
+    Makes the documents' cases and then generated calls, and holds the static library to the oracle.
 
 OPTIONS: --seed S (default 1), --count N (default 1000), --first N (default 0, the first call's
-    index), --kind K, --light, --max-job N, --max-slots N, --max-room N as `oracle check` takes them,
-    --threads N (default 1), --plain (what is due comes from plain alone, without the Rust).
+    index), --kind K, --one, --many, --light, --max-job N, --max-slots N, --max-room N as
+    `oracle check` takes them, --threads N (default 1), --plain (what is due comes from plain
+    alone, without the Rust).
 ";
 
 /// A thread's stack: the Rust and plain call themselves, and the library has arrays on it.
@@ -75,10 +76,11 @@ fn read(words: &[&str]) -> Result<Run, Failure> {
 
 fn compare(run: &Run) -> ExitCode {
     let start = Instant::now();
-    let outcome = run_cases().and_then(|cases| run_generated(run).map(|tally| (cases, tally)));
+    let outcome =
+        run_cases(run.plan.rights).and_then(|cases| run_generated(run).map(|tally| (cases, tally)));
     match outcome {
         Ok((cases, tally)) => {
-            println!("{cases} cases of document 01");
+            println!("{cases} cases");
             println!("{tally}, no difference, {} s", start.elapsed().as_secs());
             ExitCode::SUCCESS
         }
@@ -89,11 +91,11 @@ fn compare(run: &Run) -> ExitCode {
     }
 }
 
-/// Document 01's cases; says how many there are.
-fn run_cases() -> Result<usize, String> {
+/// The documents' cases; says how many there are.
+fn run_cases(rights: Option<Rights>) -> Result<usize, String> {
     let mut random = Random::new(0, 0);
     let mut buffers = Buffers::new(&mut random);
-    let all = cases();
+    let all = cases(rights);
     for case in &all {
         if let Some(fault) = buffers.fault(&case.call, &case.given(), &mut random) {
             return Err(format!("case {}\n{}", case.name, show(&case.call, &fault)));

@@ -4,7 +4,7 @@ use super::draft::{Draft, any};
 use super::random::Random;
 use super::searched;
 use crate::Call;
-use crate::plain::job::{KEYS, MOST_BYTES};
+use crate::plain::job::{MOST_BYTES, key};
 
 /// Digits of a limit that are malformed.
 const NO_NUMBERS: [&[u8]; 15] = [
@@ -15,33 +15,31 @@ const NO_NUMBERS: [&[u8]; 15] = [
 /// One fault of the lines, the keys or a limit's digits.
 pub fn lines(random: &mut Random) -> Call {
     let draft = searched::draft(random);
-    let text = match random.below(5) {
+    let text = malformed(random, draft);
+    any(random, text)
+}
+
+/// The job with one such fault.
+pub fn malformed(random: &mut Random, draft: Draft) -> Vec<u8> {
+    match random.below(5) {
         0 => bad_digits(random, draft),
         1 => bad_key(random, &draft),
         2 => bad_length(random, draft),
         3 => bad_ends(random, &draft),
         _ => bad_order(random, &draft),
-    };
-    any(random, text)
+    }
 }
 
 fn bad_digits(random: &mut Random, mut draft: Draft) -> Vec<u8> {
-    draft.0[random.between(2, 5)] = random.pick(&NO_NUMBERS).to_vec();
+    *draft.limit(random.below(4)) = random.pick(&NO_NUMBERS).to_vec();
     draft.bytes()
 }
 
-/// The lines, each with its end.
-fn split(draft: &Draft) -> Vec<Vec<u8>> {
-    let text = draft.bytes();
-    text.split_inclusive(|&byte| byte == b'\n')
-        .map(<[u8]>::to_vec)
-        .collect()
-}
-
 fn bad_key(random: &mut Random, draft: &Draft) -> Vec<u8> {
-    let mut lines = split(draft);
-    let at = random.below(6);
-    let in_key = random.below(KEYS[at].len());
+    let mut lines = draft.lines();
+    let at = random.below(lines.len());
+    let key_length = key(at, lines.len()).len();
+    let in_key = random.below(key_length);
     let line = &mut lines[at];
     match random.below(6) {
         0 => line[in_key] ^= 0x20,
@@ -50,8 +48,8 @@ fn bad_key(random: &mut Random, draft: &Draft) -> Vec<u8> {
         }
         2 => line.insert(0, b' '),
         3 => line.splice(..0, *b"\xef\xbb\xbf").for_each(drop),
-        4 => line.insert(KEYS[at].len() - 1, b' '),
-        _ => line.insert(KEYS[at].len(), b' '),
+        4 => line.insert(key_length - 1, b' '),
+        _ => line.insert(key_length, b' '),
     }
     lines.concat()
 }
@@ -64,7 +62,7 @@ fn bad_length(random: &mut Random, mut draft: Draft) -> Vec<u8> {
         1 => missing + random.below(200),
         _ => random.around(missing),
     };
-    let at = random.below(6);
+    let at = random.below(draft.0.len());
     let filling = random.pick(&[&b" v0"[..], b"0", b"+ ", b"9"]);
     let filled = filling.iter().cycle().take(added);
     draft.0[at].extend(filled);
@@ -90,8 +88,8 @@ fn bad_ends(random: &mut Random, draft: &Draft) -> Vec<u8> {
 }
 
 fn bad_order(random: &mut Random, draft: &Draft) -> Vec<u8> {
-    let mut lines = split(draft);
-    let (one, other) = (random.below(6), random.below(6));
+    let mut lines = draft.lines();
+    let (one, other) = (random.below(lines.len()), random.below(lines.len()));
     match random.below(4) {
         0 | 1 => lines.swap(one, other),
         2 => lines.insert(other, lines[one].clone()),
@@ -102,17 +100,22 @@ fn bad_order(random: &mut Random, draft: &Draft) -> Vec<u8> {
     lines.concat()
 }
 
-/// One to three bytes or stretches of a good text changed.
+/// A good text damaged.
 pub fn damaged(random: &mut Random) -> Call {
     let mut text = searched::draft(random).bytes();
+    damage_some(random, &mut text);
+    any(random, text)
+}
+
+/// One to three bytes or stretches changed.
+pub fn damage_some(random: &mut Random, text: &mut Vec<u8>) {
     for _ in 0..random.pick(&[1, 1, 2, 3]) {
         if random.percent(40) {
-            exchange_digit(random, &mut text);
+            exchange_digit(random, text);
         } else {
-            damage(random, &mut text);
+            damage(random, text);
         }
     }
-    any(random, text)
 }
 
 /// Another digit where a digit stands, which often leaves a good text.

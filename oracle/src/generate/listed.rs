@@ -10,7 +10,7 @@ const LIMITS: [usize; 4] = [3, 7, 3, 100];
 
 fn listed(random: &mut Random, left: &Term, right: &Term) -> Call {
     let entry = random.pick(&[Entry::Words, Entry::Words, Entry::Rename]);
-    let job = Draft::new(left, right, LIMITS).bytes();
+    let job = Draft::new(left, [right], LIMITS).bytes();
     call(random, entry, job)
 }
 
@@ -61,7 +61,7 @@ pub fn renames(random: &mut Random) -> Call {
     if left == right {
         return renames(random);
     }
-    let job = Draft::new(&left, &right, LIMITS).bytes();
+    let job = Draft::new(&left, [&right], LIMITS).bytes();
     call(random, Entry::Rename, job)
 }
 

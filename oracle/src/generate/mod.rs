@@ -3,59 +3,86 @@
 mod broken;
 mod draft;
 mod listed;
+mod plans;
 mod random;
 mod refused;
 mod searched;
+mod spoilt;
 mod terms;
 
-use crate::Call;
+use crate::{Call, Rights};
 pub use random::Random;
 
-/// A kind of call, its share in a thousand of a mixed list, and what it is.
+/// A kind of call, its share in a mixed list, and what it is.
 pub struct Kind {
     pub name: &'static str,
+    pub rights: Rights,
     pub share: usize,
     pub what: &'static str,
-    make: fn(&mut Random) -> Call,
+    make: Make,
 }
 
-const fn kind(
-    name: &'static str,
-    share: usize,
-    what: &'static str,
-    make: fn(&mut Random) -> Call,
-) -> Kind {
+impl Kind {
+    /// Whether its calls take seconds.
+    pub fn is_heavy(&self) -> bool {
+        HEAVY.contains(&self.name)
+    }
+}
+
+const HEAVY: [&str; 2] = ["heavy", "plan-heavy"];
+
+type Make = fn(&mut Random) -> Call;
+
+const fn one(name: &'static str, share: usize, what: &'static str, make: Make) -> Kind {
     Kind {
         name,
+        rights: Rights::One,
         share,
         what,
         make,
     }
 }
 
-#[rustfmt::skip]
-pub const KINDS: [Kind; 17] = [
-    kind("lines", 60, "malformed lines, keys, digits and lengths", broken::lines),
-    kind("sides", 80, "a side that is no term", refused::sides),
-    kind("nodes", 40, "sides of 29 nodes and more", refused::nodes),
-    kind("letters", 40, "five to eight letters", refused::many_letters),
-    kind("limits", 80, "limits at 0, 1 and about their bounds", refused::limits),
-    kind("equal", 20, "equal sides", refused::equal),
-    kind("several", 50, "several reasons to refuse", refused::several),
-    kind("damaged", 110, "good texts with damaged bytes", broken::damaged),
-    kind("laws", 60, "both sides of one law", searched::laws),
-    kind("paths", 150, "ends of a chain of 1 to 4 lines", searched::paths),
-    kind("pairs", 80, "two random terms", searched::pairs),
-    kind("edges", 60, "a limit about what the search takes", searched::edges),
-    kind("slots", 50, "slots about the number needed", searched::slots),
-    kind("room", 50, "room about the answer's length", searched::room),
-    kind("words", 40, "up to 324 words a side", listed::words),
-    kind("renames", 29, "up to six letters to rename", listed::renames),
-    kind(HEAVY, 1, "the largest limits, seconds each", searched::heavy),
-];
+const fn many(name: &'static str, share: usize, what: &'static str, make: Make) -> Kind {
+    Kind {
+        rights: Rights::Many,
+        ..one(name, share, what, make)
+    }
+}
 
-/// The kind that takes seconds.
-pub const HEAVY: &str = "heavy";
+/// The kinds; the shares of those with one right side make a thousand, of the others five hundred.
+#[rustfmt::skip]
+pub const KINDS: [Kind; 29] = [
+    one("lines", 60, "malformed lines, keys, digits and lengths", broken::lines),
+    one("sides", 80, "a side that is no term", refused::sides),
+    one("nodes", 40, "sides of 29 nodes and more", refused::nodes),
+    one("letters", 40, "five to eight letters", refused::many_letters),
+    one("limits", 80, "limits at 0, 1 and about their bounds", refused::limits),
+    one("equal", 20, "equal sides", refused::equal),
+    one("several", 50, "several reasons to refuse", refused::several),
+    one("damaged", 110, "good texts with damaged bytes", broken::damaged),
+    one("laws", 60, "both sides of one law", searched::laws),
+    one("paths", 150, "ends of a chain of 1 to 4 lines", searched::paths),
+    one("pairs", 80, "two random terms", searched::pairs),
+    one("edges", 60, "a limit about what the search takes", searched::edges),
+    one("slots", 50, "slots about the number needed", searched::slots),
+    one("room", 50, "room about the answer's length", searched::room),
+    one("words", 40, "up to 324 words a side", listed::words),
+    one("renames", 29, "up to six letters to rename", listed::renames),
+    one("heavy", 1, "the largest limits, seconds each", searched::heavy),
+    many("plans", 120, "2 to 16 right sides, near and far", plans::plans),
+    many("plan-edges", 35, "a limit about what one right side takes", plans::edges),
+    many("plan-slots", 70, "slots about what one right side needs", plans::slots),
+    many("plan-room", 45, "room about all blocks, or the first ones", plans::room),
+    many("right-count", 30, "15 right lines and more", spoilt::right_count),
+    many("one-wrong", 60, "one right side that refuses the job", spoilt::one_wrong),
+    many("each-six", 20, "six letters, or seven, in each equation", spoilt::each_six),
+    many("plan-faults", 40, "several reasons to refuse", spoilt::faults),
+    many("lengths", 30, "texts of about 1,024 and 4,096 bytes", spoilt::lengths),
+    many("right-lines", 29, "right lines out of place, malformed lines", spoilt::right_lines),
+    many("plan-damage", 20, "good texts with damaged bytes", spoilt::damaged),
+    many("plan-heavy", 1, "the largest limits, some ten seconds for each right side", plans::heavy),
+];
 
 /// Which calls to make.
 #[derive(Clone, Debug)]
@@ -64,6 +91,8 @@ pub struct Plan {
     pub count: u64,
     /// One kind, or all by their shares.
     pub kind: Option<usize>,
+    /// Which kinds are among the mixed; all, if not said.
+    pub rights: Option<Rights>,
     /// No heavy calls among the mixed.
     pub light: bool,
     pub most_bytes: usize,
@@ -77,6 +106,7 @@ impl Default for Plan {
             seed: 1,
             count: 1_000,
             kind: None,
+            rights: None,
             light: false,
             most_bytes: usize::MAX,
             most_slots: usize::MAX,
@@ -105,8 +135,9 @@ impl Plan {
     /// A kind, each as likely as its share says.
     fn by_share(&self, random: &mut Random) -> usize {
         let share = |kind: &Kind| {
-            let left_out = self.light && kind.name == HEAVY;
-            if left_out { 0 } else { kind.share }
+            let is_light = !(self.light && kind.is_heavy());
+            let is_meant = self.rights.is_none_or(|rights| rights == kind.rights);
+            if is_light && is_meant { kind.share } else { 0 }
         };
         let mut drawn = random.below(KINDS.iter().map(share).sum());
         let mut kind = 0;

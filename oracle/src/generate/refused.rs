@@ -40,7 +40,8 @@ pub fn sides(random: &mut Random) -> Call {
     draft.any(random)
 }
 
-fn spoil_side(random: &mut Random, draft: &mut Draft, side: usize) {
+/// Makes a side no term.
+pub fn spoil_side(random: &mut Random, draft: &mut Draft, side: usize) {
     let value = &mut draft.0[side];
     let mut items: Vec<Vec<u8>> = value
         .split(|&byte| byte == b' ')
@@ -67,7 +68,7 @@ pub fn nodes(random: &mut Random) -> Call {
     let pool = letters(random, 3);
     let sizes = [(); 2].map(|()| random.pick(&[1, 29, 31, 31, 33, 35, 63]));
     let [left, right] = sizes.map(|size| term(random, size, &pool));
-    let mut draft = Draft::new(&left, &right, [1, 7, 3, 10]);
+    let mut draft = Draft::new(&left, [&right], [1, 7, 3, 10]);
     if random.percent(30) {
         let side = random.below(2);
         let value = draft.0[side].clone();
@@ -88,7 +89,7 @@ pub fn many_letters(random: &mut Random) -> Call {
     let overlap = random.below(cut + 1).min(random.below(3));
     let left = holding(random, &pool[..cut]);
     let right = holding(random, &pool[cut - overlap..]);
-    Draft::new(&left, &right, [1, 9, 5, 10]).any(random)
+    Draft::new(&left, [&right], [1, 9, 5, 10]).any(random)
 }
 
 /// Limits at 0, 1, and about their bounds, the others small.
@@ -106,10 +107,11 @@ pub fn limits(random: &mut Random) -> Call {
     draft.any(random)
 }
 
-fn bound(random: &mut Random, draft: &mut Draft, limit: usize) {
+/// Sets a limit at 0, at 1 or about its bound.
+pub fn bound(random: &mut Random, draft: &mut Draft, limit: usize) {
     let most = BOUNDS[limit] as usize;
     match random.below(6) {
-        0 => draft.0[2 + limit] = random.pick(&TOO_LARGE).into(),
+        0 => *draft.limit(limit) = random.pick(&TOO_LARGE).into(),
         1 => draft.set_limit(limit, random.below(2)),
         _ => draft.set_limit(limit, random.around(most)),
     }
@@ -130,24 +132,29 @@ pub fn equal(random: &mut Random) -> Call {
 pub fn several(random: &mut Random) -> Call {
     let mut draft = searched::draft(random);
     for _ in 0..random.between(2, 3) {
-        let side = random.below(2);
-        match random.below(6) {
-            0 => {
-                draft.0[random.between(2, 5)] =
-                    random.pick(&[&b""[..], b"03", b"3 ", b"x"]).to_vec()
-            }
-            1 => spoil_side(random, &mut draft, side),
-            2 => {
-                let pool = letters(random, 3);
-                draft.0[side] = term(random, 33, &pool).show().into_bytes();
-            }
-            3 => {
-                let pool = letters(random, 7);
-                draft.0[side] = holding(random, &pool).show().into_bytes();
-            }
-            4 => draft.0[random.between(2, 5)] = random.pick(&TOO_LARGE).into(),
-            _ => draft.0[side] = draft.0[1 - side].clone(),
-        }
+        add_reason(random, &mut draft);
     }
     draft.any(random)
+}
+
+/// Gives one of refusals 1 to 6 a reason.
+pub fn add_reason(random: &mut Random, draft: &mut Draft) {
+    let side = random.below(draft.sides());
+    match random.below(6) {
+        0 => *draft.limit(random.below(4)) = random.pick(&[&b""[..], b"03", b"3 ", b"x"]).to_vec(),
+        1 => spoil_side(random, draft, side),
+        2 => {
+            let pool = letters(random, 3);
+            draft.0[side] = term(random, 33, &pool).show().into_bytes();
+        }
+        3 => {
+            let pool = letters(random, 7);
+            draft.0[side] = holding(random, &pool).show().into_bytes();
+        }
+        4 => *draft.limit(random.below(4)) = random.pick(&TOO_LARGE).into(),
+        _ => {
+            let other = if side == 0 { 1 } else { 0 };
+            draft.0[side] = draft.0[other].clone();
+        }
+    }
 }

@@ -1,4 +1,4 @@
-//! Jobs that pass 1 to 6, for the search: provable and random equations, edges, slots and room.
+//! Jobs with one right side that pass 1 to 6, for the search: provable and random equations, edges, slots and room.
 
 use std::collections::BTreeSet;
 
@@ -106,7 +106,7 @@ fn chain(random: &mut Random) -> Equation {
     // left itself is never tested, unless the search starts at the other end
     let (mut size, mut depth) = random.pick(&[(0, 0), (left.size(), left.depth())]);
     for _ in 0..count {
-        right = rewritten(random, &right);
+        right = rewritten(random, &right, LARGEST);
         size = size.max(right.size());
         depth = depth.max(right.depth());
     }
@@ -123,11 +123,14 @@ fn chain(random: &mut Random) -> Equation {
     }
 }
 
-/// The term after one line of a random law, if one of that law keeps 31 nodes.
-fn rewritten(random: &mut Random, term: &Term) -> Term {
+/// The largest size and depth.
+pub const LARGEST: (usize, usize) = (BOUNDS[1] as usize, BOUNDS[2] as usize);
+
+/// The term after one line of a random law, if there is one that keeps this size and depth.
+pub fn rewritten(random: &mut Random, term: &Term, (size, depth): (usize, usize)) -> Term {
     let found: Vec<(Line, Term)> = lines(term)
         .into_iter()
-        .filter(|(_, result)| result.size() <= 31 && result.depth() <= 15)
+        .filter(|(_, result)| result.size() <= size && result.depth() <= depth)
         .collect();
     if found.is_empty() {
         return term.clone();
@@ -152,21 +155,33 @@ fn limited(random: &mut Random, equation: Equation) -> Draft {
         70..95 => 100_000,
         _ => 1_000_000,
     };
-    let nodes = random.between(1, (budget / (size * size)).clamp(2, 4_096));
+    let nodes = node_limit(random, budget, size);
     let limits = [steps.min(16), size, depth.min(15), nodes];
     let (left, right) = (&equation.left, &equation.right);
     if random.percent(50) {
-        Draft::new(left, right, limits)
+        Draft::new(left, [right], limits)
     } else {
-        Draft::new(right, left, limits)
+        Draft::new(right, [left], limits)
     }
+}
+
+/// A node limit, the smaller, the more it costs to open terms of up to this size.
+pub fn node_limit(random: &mut Random, budget: usize, size: usize) -> usize {
+    let most = (budget / (size * size)).clamp(2, BOUNDS[3] as usize);
+    random.between(1, most)
 }
 
 /// One limit just below, at or just above what the search takes.
 pub fn edges(random: &mut Random) -> Call {
     let mut draft = draft(random);
-    let job = Job::read(&draft.bytes()).expect("a good job");
-    let (left, right) = job.oriented();
+    set_edge(random, &mut draft, 0);
+    draft.find(random)
+}
+
+/// Sets one limit just below, at or just above what the search for this right side takes.
+pub fn set_edge(random: &mut Random, draft: &mut Draft, right: usize) {
+    let job = Job::read(Entry::Find, &draft.bytes()).expect("a good job");
+    let (left, right) = job.equations[right].oriented();
     let outcome = search(left, right, &job.limits, usize::MAX).expect("slots enough");
     let limit = match &outcome.path {
         None => 3,
@@ -183,7 +198,6 @@ pub fn edges(random: &mut Random) -> Call {
     };
     let value = random.around(taken).min(BOUNDS[limit] as usize);
     draft.set_limit(limit, value);
-    draft.find(random)
 }
 
 /// About as many slots as the search needs, or as count at all.
@@ -227,7 +241,7 @@ pub fn heavy(random: &mut Random) -> Call {
     let left = term(random, size, &pool);
     let mut right = left.clone();
     for _ in 0..random.between(3, 12) {
-        right = rewritten(random, &right);
+        right = rewritten(random, &right, LARGEST);
     }
     if left == right {
         return heavy(random);
@@ -238,6 +252,6 @@ pub fn heavy(random: &mut Random) -> Call {
     Call {
         slots,
         room: 131_072,
-        ..Draft::new(&left, &right, limits).find(random)
+        ..Draft::new(&left, [&right], limits).find(random)
     }
 }

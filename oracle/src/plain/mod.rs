@@ -1,4 +1,4 @@
-//! A plain implementation of the whole of document 01: jobs, refusals, search and answers.
+//! A plain implementation of documents 01 and 02: jobs, refusals, search and answers.
 
 pub mod job;
 pub mod law;
@@ -10,23 +10,55 @@ pub mod term;
 pub mod words;
 
 use crate::{Entry, Given};
-use job::Job;
+use job::{Equation, Job, Limits};
 use proof::Prover;
 use search::{Outcome, Step, search};
 use term::{Term, letters_of};
 
 pub const MOST_SLOTS: usize = 65_535;
 
-/// What a call gives.
-pub fn answer(entry: Entry, job: &[u8], slots: usize, room: usize) -> Given {
-    let job = Job::read(job)?;
-    let (text, _) = text(entry, &job, slots.min(MOST_SLOTS)).ok_or(7)?;
-    within(room, text)
+/// A block that lacks slots.
+const OUT_OF_SLOTS: &[u8] = b"answer=refused\nnumber=7\n";
+
+/// What one equation is answered, and the number of terms noted for it.
+#[derive(Clone, Debug)]
+pub struct Block {
+    pub text: Vec<u8>,
+    pub noted: usize,
 }
 
-/// The answer with any number of slots and any room, and the number of terms noted.
+/// What a call gives.
+pub fn answer(entry: Entry, job: &[u8], slots: usize, room: usize) -> Given {
+    let blocks = blocks(entry, job, slots.min(MOST_SLOTS))?;
+    joined(&blocks, room)
+}
+
+/// The answer with any number of slots and any room, and the number of slots that it takes.
 pub fn whole(entry: Entry, job: &[u8]) -> Result<(Vec<u8>, usize), u8> {
-    text(entry, &Job::read(job)?, usize::MAX).ok_or(7)
+    let blocks = blocks(entry, job, usize::MAX)?;
+    let noted = blocks.iter().flatten().map(|block| block.noted).max();
+    Ok((joined(&blocks, usize::MAX)?, noted.unwrap_or(0)))
+}
+
+/// What each equation is answered by itself; none where more terms would be noted than there are slots.
+pub fn blocks(entry: Entry, job: &[u8], slots: usize) -> Result<Vec<Option<Block>>, u8> {
+    let job = Job::read(entry, job)?;
+    let equations = job.equations.iter();
+    Ok(equations
+        .map(|equation| block(entry, equation, &job.limits, slots))
+        .collect())
+}
+
+/// The blocks one after the other. One that lacks slots says so; by itself it refuses the job.
+pub fn joined(blocks: &[Option<Block>], room: usize) -> Given {
+    if let [None] = blocks {
+        return Err(7);
+    }
+    let texts = blocks.iter().map(|block| match block {
+        Some(block) => &block.text[..],
+        None => OUT_OF_SLOTS,
+    });
+    within(room, texts.collect::<Vec<_>>().concat())
 }
 
 /// The answer if the output holds it.
@@ -34,26 +66,25 @@ pub fn within(room: usize, text: Vec<u8>) -> Given {
     if text.len() > room { Err(8) } else { Ok(text) }
 }
 
-/// The answer's text and the number of terms noted; none if that is above the slots.
-fn text(entry: Entry, job: &Job, slots: usize) -> Option<(Vec<u8>, usize)> {
+fn block(entry: Entry, equation: &Equation, limits: &Limits, slots: usize) -> Option<Block> {
     let (text, noted) = match entry {
-        Entry::Words => (words::words_text(job), 0),
-        Entry::Rename => (rename::rename_text(job), 0),
+        Entry::Words => (words::words_text(equation), 0),
+        Entry::Rename => (rename::rename_text(equation), 0),
         Entry::Find => {
-            let (left, right) = job.oriented();
-            let outcome = search(left, right, &job.limits, slots)?;
-            (find_text(job, &outcome), outcome.noted)
+            let (left, right) = equation.oriented();
+            let outcome = search(left, right, limits, slots)?;
+            (find_text(left, right, limits, &outcome), outcome.noted)
         }
     };
-    Some((text.into_bytes(), noted))
+    let text = text.into_bytes();
+    Some(Block { text, noted })
 }
 
-/// The answer of FIND.
-fn find_text(job: &Job, outcome: &Outcome) -> String {
-    let (left, right) = job.oriented();
+/// The answer of FIND to one equation.
+fn find_text(left: &Term, right: &Term, limits: &Limits, outcome: &Outcome) -> String {
     match &outcome.path {
         Some(path) => proved(left, right, path, outcome.expanded),
-        None => none(left, right, outcome.expanded, job.limits.nodes),
+        None => none(left, right, outcome.expanded, limits.nodes),
     }
 }
 

@@ -1,19 +1,19 @@
 //! The least equation over all renamings, and the answer of RENAME.
 
-use super::job::Job;
+use super::job::Equation;
 use super::term::{Term, is_letter, letters_of};
 use super::words::{Word, oriented, show_words, word_lists};
 
 /// The answer of RENAME.
-pub fn rename_text(job: &Job) -> String {
-    let letters = letters_of(&job.left, &job.right);
+pub fn rename_text(equation: &Equation) -> String {
+    let letters = letters_of(&equation.left, &equation.right);
     let (left, right) = least(letters, |renaming| {
         (
-            renamed_term(&job.left, renaming),
-            renamed_term(&job.right, renaming),
+            renamed_term(&equation.left, renaming),
+            renamed_term(&equation.right, renaming),
         )
     });
-    let (wleft, wright) = renamed_lists(job);
+    let (wleft, wright) = renamed_lists(equation);
     format!(
         "left={}\nright={}\nwleft={wleft}\nwright={wright}\n",
         left.show(),
@@ -22,8 +22,8 @@ pub fn rename_text(job: &Job) -> String {
 }
 
 /// Both word lists renamed by themselves, or `-` twice if they agree.
-fn renamed_lists(job: &Job) -> (String, String) {
-    let (left, right) = word_lists(job);
+fn renamed_lists(equation: &Equation) -> (String, String) {
+    let (left, right) = word_lists(equation);
     if left == right {
         return ("-".to_owned(), "-".to_owned());
     }

@@ -1,6 +1,6 @@
 //! The words of a term, and the answer of WORDS.
 
-use super::job::Job;
+use super::job::Equation;
 use super::term::{ONE, PRODUCT, SUM, Term, ZERO, part};
 
 pub type Word = Vec<u16>;
@@ -33,8 +33,8 @@ fn multiplied_out(run: &[u16]) -> Vec<Word> {
 }
 
 /// The word lists of both sides, the smaller first.
-pub fn word_lists(job: &Job) -> (Vec<Word>, Vec<Word>) {
-    oriented(words(&job.left), words(&job.right))
+pub fn word_lists(equation: &Equation) -> (Vec<Word>, Vec<Word>) {
+    oriented(words(&equation.left), words(&equation.right))
 }
 
 pub fn oriented<T: Ord>(one: T, other: T) -> (T, T) {
@@ -63,8 +63,8 @@ fn show_word(word: &[u16]) -> String {
 }
 
 /// The answer of WORDS.
-pub fn words_text(job: &Job) -> String {
-    let (left, right) = word_lists(job);
+pub fn words_text(equation: &Equation) -> String {
+    let (left, right) = word_lists(equation);
     let same = if left == right { "yes" } else { "no" };
     let (left, right) = (show_words(&left), show_words(&right));
     format!("same={same}\nleft={left}\nright={right}\n")

@@ -1,4 +1,4 @@
-//! Answers made from the Rust sources, for jobs that pass refusals 1 to 6.
+//! Answers made from the Rust sources, for jobs that pass every refusal before the search.
 
 mod readback;
 
@@ -8,23 +8,30 @@ use upstream::{
 };
 
 use crate::plain::{
-    job::{Job, Limits},
+    job::{Equation, Job, Limits},
     term::{ONE, PRODUCT, SUM, ZERO, part},
     within,
 };
 use crate::{Entry, Given};
 
-/// The Rust's answer in document 01's text. It has no slots; refusals 1 to 6 and 8 are not its own.
+/// The Rust's answer in document 01's text, to each equation by itself. It has no slots; the refusals
+/// are not its own.
 pub fn answer(entry: Entry, job: &[u8], room: usize) -> Given {
-    let job = Job::read(job)?;
-    let equation = EquationCandidate::new(tree(job.left.run()), tree(job.right.run()))
-        .expect("a job's sides differ");
-    let text = match entry {
-        Entry::Find => find_text(&equation, &job.limits),
+    let job = Job::read(entry, job)?;
+    let blocks = job.equations.iter();
+    let blocks = blocks.map(|equation| block(entry, equation, &job.limits));
+    within(room, blocks.collect::<String>().into_bytes())
+}
+
+fn block(entry: Entry, equation: &Equation, limits: &Limits) -> String {
+    let Equation { left, right } = equation;
+    let equation = EquationCandidate::new(tree(left.run()), tree(right.run()));
+    let equation = equation.expect("the sides differ");
+    match entry {
+        Entry::Find => find_text(&equation, limits),
         Entry::Words => words_text(&equation),
         Entry::Rename => rename_text(&equation),
-    };
-    within(room, text.into_bytes())
+    }
 }
 
 fn find_text(equation: &EquationCandidate, limits: &Limits) -> String {
