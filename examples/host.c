@@ -9,8 +9,8 @@
 
 #include "puvainy.h"
 
-/* A job has at most 1,024 bytes: one more is read, so that a longer one is seen to be too long. */
-enum { JOB = 1025, SLOTS = 400, ROOM = 32768 };
+/* One byte more than any job may have is read, so that a longer one is seen to be too long. */
+enum { JOB = PUVAINY_MOST_FIND_JOB + 1, SLOTS = 400, ROOM = 32768 };
 enum entry { FIND, WORDS, RENAME, NONE };
 
 static uint8_t job[JOB], output[ROOM];

@@ -8,12 +8,12 @@ use std::fs::File;
 use std::io::{Error, Read, Write, stdin, stdout};
 use std::process::ExitCode;
 
-use puvainy::{Asked, Buffers, Entry, Room};
+use puvainy::{Asked, Buffers, Entry, MOST_FIND_JOB, Room};
 
 const SLOTS: usize = 400;
 const ROOM: usize = 32_768;
-/// One byte more than a job may have, so that a longer one is seen to be too long.
-const READ: u64 = 1025;
+/// One byte more than any job may have, so that a longer one is seen to be too long.
+const READ: u64 = MOST_FIND_JOB as u64 + 1;
 
 /// The job, or why there is none.
 fn read(name: &OsStr) -> Result<Vec<u8>, String> {

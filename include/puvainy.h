@@ -20,25 +20,37 @@
  *
  * A TERM is written operator first, items parted by one space: +, *, 0, 1, or v and a number 0 to 999.
  *
- * An entry returns 100 plus the length of its answer, or the number of a refusal, the lowest that
- * applies:
+ * A job of puvainy_find may have up to 16 `right=` lines, one after the other, and at most 4,096 bytes in
+ * all. With one right side the smaller side is taken as left, whichever it is. With several left stays
+ * left, and one search serves all. The answer is then one block for each right side, in the job's order,
+ * and nothing between them: each block is what the job with this right side alone answers with as many
+ * slots. Where that job would be refused by 7, the block is the two lines `answer=refused` and `number=7`;
+ * the call still answers. A block begins with its line `answer=..`, and no other line begins so.
  *
- *     1  over 1,024 bytes, or lines, keys or a limit's digits malformed
- *     2  a side is no term
- *     3  a side has over 31 nodes
- *     4  over six different letters in both sides
- *     5  a limit is over its bound
- *     6  both sides are the same term
- *     7  the search would note more terms than there are slots (puvainy_find alone)
- *     8  the answer is longer than the output
+ * An entry returns 100 plus the length of its answer, or the number of a refusal. Of those that apply the
+ * one that stands first here is given; 7, 9 and 10 are puvainy_find's alone:
+ *
+ *     1   the job has too many bytes, or lines, keys or a limit's digits are malformed
+ *     9   over 16 `right=` lines
+ *     2   a side is no term
+ *     3   a side has over 31 nodes
+ *     4   left and one right side have over six different letters together
+ *     5   a limit is over its bound
+ *     6   a right side is the same term as left
+ *     10  there are several right sides, and one comes before left in the order of terms
+ *     7   the search would note more terms than there are slots, where there is one right side
+ *     8   the answer, of all blocks together, is longer than the output
+ *
+ * The order of terms: letters by number, then 0, 1, sums, products; two sums or two products by their
+ * left parts, then by their right parts.
  *
  * What is left in the buffers:
  *
  *     job        is not written to.
  *     output     An answer fills the front, and the rest keeps its bytes. It is text, each line ended
  *                by byte 10, with no byte 0 behind it. A refusal leaves the output untouched.
- *     workspace  1 to 6 leave it untouched. After any other return its contents are free, and no
- *                later answer depends on them: it need not be cleared.
+ *     workspace  1 to 6, 9 and 10 leave it untouched. After any other return its contents are free,
+ *                and no later answer depends on them: it need not be cleared.
  *
  *                A memory checker such as valgrind reports reads of a workspace that was never
  *                written. They are harmless: FIND reads the heads of its index before it has
@@ -66,6 +78,12 @@ extern "C" {
 #define PUVAINY_SLOT 40
 #define PUVAINY_MOST_SLOTS 65535
 
+/* The most bytes of a job, and of one of puvainy_find; the most right sides of the latter. A host that
+ * reads one byte more than a job may have, and hands it over, sees a longer one refused. */
+#define PUVAINY_MOST_JOB 1024
+#define PUVAINY_MOST_FIND_JOB 4096
+#define PUVAINY_MOST_RIGHTS 16
+
 /* What an answer's length is added to. */
 #define PUVAINY_ANSWER 100
 
@@ -75,7 +93,7 @@ extern "C" {
 #define PUVAINY_RENAME_STACK 190000
 
 /* A shortest chain of lines from the smaller side to the larger, with its proof text, or that there
- * is none within the limits. */
+ * is none within the limits; of several right sides this for each. */
 size_t puvainy_find(const uint8_t *job, size_t job_len,
                     uint8_t *output, size_t output_len,
                     uint32_t *workspace, size_t workspace_len);

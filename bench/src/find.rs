@@ -10,8 +10,8 @@ use crate::job::Job;
 use crate::ours::Workspace;
 use crate::table::{head, row};
 
-const PROGRAM: [usize; 4] = [3, 7, 3, 1_000];
-const LARGEST: [usize; 4] = [16, 31, 15, 4_096];
+pub const PROGRAM: [usize; 4] = [3, 7, 3, 1_000];
+pub const LARGEST: [usize; 4] = [16, 31, 15, 4_096];
 
 /// What, left, right.
 type Case = (&'static str, &'static str, &'static str);
@@ -38,7 +38,8 @@ const SUM: &str = "+ v0 + v1 + v2 + v3 + v4 + v5 + v0 + v1 + v2 + v3 + v4 + v5 +
 const PRODUCT: &str =
     "* v0 * v1 * v2 * v3 * v4 * v5 * v0 * v1 * v2 * v3 * v4 * v5 * v0 * v1 * v2 v3";
 
-const BALANCED: &str = "+ + + + v0 v1 + v2 v3 + + v4 v5 + v0 v1 + + + v2 v3 + v4 v5 + + v0 v1 v2";
+pub const BALANCED: &str =
+    "+ + + + v0 v1 + v2 v3 + + v4 v5 + v0 v1 + + + v2 v3 + v4 v5 + + v0 v1 v2";
 
 /// At the largest limits. Of the last the Rust notes more terms than there are slots, and we refuse.
 const LARGE: [Case; 7] = [

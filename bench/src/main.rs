@@ -1,12 +1,13 @@
 //! The three entries beside the Rust, in one process, on the same jobs. Each pair's answers are compared first.
 //!
-//! With an argument, one part alone: `find`, `lists`, `noted`, or `ours`, the search at the largest limits on our side, for a profiler.
+//! With an argument, one part alone: `find`, `many`, `lists`, `noted`, or `ours`, the search at the largest limits on our side, for a profiler.
 //! `beside LIBRARY` times our entries beside those of an earlier release.
 
 mod beside;
 mod find;
 mod job;
 mod lists;
+mod many;
 mod noted;
 mod ours;
 mod table;
@@ -17,17 +18,19 @@ fn main() {
     match words.next().as_deref() {
         None => {
             find::rows(&mut workspace);
+            many::rows(&mut workspace);
             lists::rows(&mut workspace);
             noted::rows(&mut workspace);
         }
         Some("find") => find::rows(&mut workspace),
+        Some("many") => many::rows(&mut workspace),
         Some("lists") => lists::rows(&mut workspace),
         Some("noted") => noted::rows(&mut workspace),
         Some("ours") => find::ours_alone(&mut workspace),
         Some("beside") => beside::rows(words.next().as_deref(), &mut workspace),
         Some(other) => {
             eprintln!(
-                "bench: no part is called {other}: find, lists, noted, ours or beside LIBRARY"
+                "bench: no part is called {other}: find, many, lists, noted, ours or beside LIBRARY"
             );
             std::process::exit(2);
         }

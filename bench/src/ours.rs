@@ -4,7 +4,7 @@ use oracle::{Entry, Given};
 use puvainy::{ANSWER, MOST_SLOTS, SLOT, entries};
 
 /// Room for any answer of the bench.
-const ROOM: usize = 1 << 20;
+pub const ROOM: usize = 1 << 20;
 
 /// The slots and the output that every call shares: each leaves them as it likes for the next.
 pub struct Workspace {

@@ -32,9 +32,21 @@ pub fn row<R, O>(
 
 /// The best of several rounds of one call, in seconds.
 pub fn best<T>(rounds: usize, mut call: impl FnMut() -> T) -> f64 {
-    let many = batch(&mut call);
-    let least = (0..rounds).map(|_| time(many, &mut call)).min();
-    least.expect("there is a round").as_secs_f64() / f64::from(many)
+    bests(rounds, 1, |_| call())[0]
+}
+
+/// The best of several rounds of each of so many calls, turn by turn, in seconds.
+pub fn bests<T>(rounds: usize, calls: usize, mut call: impl FnMut(usize) -> T) -> Vec<f64> {
+    let batches: Vec<u32> = (0..calls).map(|place| batch(&mut || call(place))).collect();
+    let mut least = vec![Duration::MAX; calls];
+    for _ in 0..rounds {
+        for (place, (least, &many)) in least.iter_mut().zip(&batches).enumerate() {
+            *least = time(many, &mut || call(place)).min(*least);
+        }
+    }
+    let each = least.into_iter().zip(batches);
+    each.map(|(least, many)| least.as_secs_f64() / f64::from(many))
+        .collect()
 }
 
 /// How many calls take about half a millisecond, so that reading the clock counts for nothing.

@@ -14,8 +14,9 @@ pub enum Room {
     Bytes(usize),
 }
 
-/// Where a growing output begins.
+/// Where a growing output begins, and how many times longer it becomes: each time the whole call is made again, so it grows twice at most.
 const FIRST_ROOM: usize = 1 << 15;
+const GROWTH: usize = 1 << 5;
 
 /// The refusal of an answer that is longer than the output.
 const TOO_LONG: usize = 8;
@@ -52,11 +53,11 @@ impl Buffers {
         }
     }
 
-    /// Makes the output twice as long, if it may grow; says whether it did.
+    /// Makes the output longer, if it may grow; says whether it did.
     fn grow(&mut self) -> bool {
         let grows = self.room == Room::Grows && self.output.len() < MOST_ROOM;
         if grows {
-            self.output.resize(2 * self.output.len(), 0);
+            self.output.resize(GROWTH * self.output.len(), 0);
         }
         grows
     }
@@ -103,6 +104,32 @@ mod tests {
         assert_eq!(answer.len(), LONG_LENGTH);
         assert!(answer.starts_with(b"answer=proved\n"));
         assert!(answer.ends_with(b"\n"));
+    }
+
+    #[test]
+    fn a_growing_output_ends_at_the_most() {
+        let mut buffers = Buffers::new(0, Room::Grows);
+        while buffers.grow() {}
+        assert_eq!(buffers.output.len(), MOST_ROOM);
+    }
+
+    /// The blocks of all right sides count together.
+    #[test]
+    fn an_output_grows_until_all_blocks_fit() {
+        let right = str::from_utf8(LONG).unwrap().lines().nth(1).unwrap();
+        let job = str::from_utf8(LONG).unwrap();
+        let job = job.replacen(right, &[right; 16].join("\n"), 1);
+        let ask = |room| {
+            let mut buffers = Buffers::new(MOST_SLOTS, room);
+            buffers.ask(Entry::Find, job.as_bytes()).map(<[u8]>::to_vec)
+        };
+        let one = Buffers::new(MOST_SLOTS, Room::Grows)
+            .ask(Entry::Find, LONG)
+            .map(<[u8]>::to_vec);
+        let all = one.unwrap().repeat(16);
+        assert!(ask(Room::Grows).unwrap() == all);
+        assert!(ask(Room::Bytes(all.len())).unwrap() == all);
+        assert!(ask(Room::Bytes(all.len() - 1)) == Err(TOO_LONG));
     }
 
     #[test]

@@ -11,6 +11,13 @@ pub const SLOT: usize = 40;
 /// The most slots that are used.
 pub const MOST_SLOTS: usize = 65_535;
 
+/// The most bytes of a job, and of one of FIND.
+pub const MOST_JOB: usize = 1024;
+pub const MOST_FIND_JOB: usize = 4096;
+
+/// The most right sides of a job of FIND.
+pub const MOST_RIGHTS: usize = 16;
+
 /// The most bytes of room that are given: more than any answer has.
 pub const MOST_ROOM: usize = 1 << 25;
 
@@ -40,6 +47,22 @@ impl Entry {
         Entry::ALL.into_iter().find(|entry| entry.name() == name)
     }
 
+    /// The most bytes of a job that the entry takes.
+    pub fn most_job(self) -> usize {
+        match self {
+            Entry::Find => MOST_FIND_JOB,
+            Entry::Words | Entry::Rename => MOST_JOB,
+        }
+    }
+
+    /// The most right sides of such a job.
+    pub fn most_rights(self) -> usize {
+        match self {
+            Entry::Find => MOST_RIGHTS,
+            Entry::Words | Entry::Rename => 1,
+        }
+    }
+
     /// Calls the entry over lent buffers: what it returns. FIND alone takes the workspace.
     pub fn call(self, job: &[u8], output: &mut [u8], workspace: &mut [u32]) -> usize {
         match self {
@@ -63,6 +86,9 @@ mod tests {
         let numbers = [
             ("SLOT", SLOT),
             ("MOST_SLOTS", MOST_SLOTS),
+            ("MOST_JOB", MOST_JOB),
+            ("MOST_FIND_JOB", MOST_FIND_JOB),
+            ("MOST_RIGHTS", MOST_RIGHTS),
             ("ANSWER", ANSWER),
         ];
         for (name, number) in numbers {

@@ -8,9 +8,11 @@ pub enum Fault {
     Windows,
     Missing,
     Key,
+    Second,
     End,
     More,
     Digits,
+    Rights,
     Empty,
     Space,
     Item,
@@ -20,6 +22,8 @@ pub enum Fault {
     Letters,
     Bound,
     Same,
+    SameRight,
+    Before,
     Slots,
     Room,
 }
@@ -29,9 +33,11 @@ pub enum Fault {
 pub struct Found {
     pub fault: Fault,
     pub place: String,
+    /// The side that it is in, where it is in one: 0 is left, K right side K.
+    pub side: Option<usize>,
 }
 
-/// A row of the table. Back quotes are for the guide.
+/// A row of the table, in which the numbers stand in the order in which they are looked at. Back quotes are for the guide.
 pub struct Row {
     pub number: usize,
     pub fault: Fault,
@@ -50,12 +56,12 @@ const fn row(number: usize, fault: Fault, wrong: &'static str, to_do: &'static s
 
 const SHARED: &str = "give a part that both plans share a letter of its own";
 
-pub const ROWS: [Row; 19] = [
+pub const ROWS: [Row; 23] = [
     row(
         1,
         Fault::Long,
-        "the job has over 1,024 bytes",
-        "write nothing but the six lines, and no space or 0 that is not needed",
+        "the job has over 4,096 bytes, or of WORDS or RENAME over 1,024",
+        "write nothing but the job's lines, and no space or 0 that is not needed",
     ),
     row(
         1,
@@ -73,13 +79,19 @@ pub const ROWS: [Row; 19] = [
         1,
         Fault::Missing,
         "the line is missing",
-        "write all six lines: left, right, steps, size, depth, nodes",
+        "write all the lines: left, right, steps, size, depth, nodes",
     ),
     row(
         1,
         Fault::Key,
         "the line does not begin with its name",
-        "write the six lines in their order, each name in small letters with = behind it",
+        "write the lines in their order, each name in small letters with = behind it",
+    ),
+    row(
+        1,
+        Fault::Second,
+        "WORDS and RENAME take one right line",
+        "ask each right side in a job of its own",
     ),
     row(
         1,
@@ -98,6 +110,12 @@ pub const ROWS: [Row; 19] = [
         Fault::Digits,
         "the limit is no plain number",
         "write digits alone, with no needless 0 in front",
+    ),
+    row(
+        9,
+        Fault::Rights,
+        "the job has over 16 right lines",
+        "ask for the rest in another job",
     ),
     row(2, Fault::Empty, "the side is empty", "write a term"),
     row(
@@ -144,6 +162,18 @@ pub const ROWS: [Row; 19] = [
         "do nothing: there is nothing to derive",
     ),
     row(
+        6,
+        Fault::SameRight,
+        "of several right sides this one is the same term as left",
+        "leave its line out: there is nothing to derive",
+    ),
+    row(
+        10,
+        Fault::Before,
+        "of several right sides this one comes before left in the order of terms",
+        "ask for it in a job of its own, where the smaller plan becomes left by itself",
+    ),
+    row(
         7,
         Fault::Slots,
         "FIND would note more terms than there are slots",
@@ -153,7 +183,7 @@ pub const ROWS: [Row; 19] = [
         8,
         Fault::Room,
         "the answer is longer than the output room",
-        "give more room; or, with FIND, go by a plan in between, with a job for each half",
+        "give more room; or, with FIND, ask for fewer right sides at a time, or go by a plan in between, with a job for each half",
     ),
 ];
 

@@ -46,9 +46,40 @@ pub fn is_letter(item: &str) -> bool {
     plain && matches!(digits.len(), 1..=3) && (digits == "0" || !digits.starts_with('0'))
 }
 
+/// The ranks of a term's items, by which terms are ordered: letters by number, then 0, 1, sums and products.
+pub fn ranks(term: &str) -> Vec<usize> {
+    let rank = |item: &str| match item {
+        "0" => 1000,
+        "1" => 1001,
+        "+" => 1002,
+        "*" => 1003,
+        letter => letter.trim_start_matches('v').parse().unwrap_or(0),
+    };
+    term.split(' ').map(rank).collect()
+}
+
 #[cfg(test)]
 mod tests {
     use super::*;
+
+    #[test]
+    fn terms_are_ordered_by_the_ranks_of_their_items() {
+        let rising = [
+            "v0",
+            "v2",
+            "v10",
+            "v999",
+            "0",
+            "1",
+            "+ v0 v1",
+            "+ v0 * v0 v0",
+            "+ 0 v0",
+            "+ + v0 v0 v0",
+            "* v0 v1",
+            "* v1 v0",
+        ];
+        assert!(rising.is_sorted_by(|one, next| ranks(one) < ranks(next)));
+    }
 
     #[test]
     fn a_term_is_read_whole_or_not_at_all() {

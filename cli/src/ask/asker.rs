@@ -2,10 +2,11 @@
 
 use std::sync::Arc;
 
-use puvainy::{Buffers, Entry, MOST_SLOTS, Room};
+use puvainy::{Buffers, Entry, Room};
 
 use super::Asking;
-use super::none;
+use super::advice;
+use super::blocks::{Block, blocks};
 use crate::failure::{Failure, Status};
 use crate::job::Job;
 use crate::refusals::{self, Fault, Found};
@@ -75,41 +76,53 @@ impl Asker {
             Err(Failure(why)) => return Told::failed(why),
         };
         let asking = &*self.asking;
+        let job = Job::new(asking.entry, &bytes);
         match self.buffers.ask(asking.entry, &bytes) {
-            Ok(answer) => Told {
-                status: Status::Answered,
-                said: none::sentences(&source.name(), &Job::new(&bytes), answer, &asking.names),
-                printed: answer.to_vec(),
-            },
+            Ok(answer) => {
+                let blocks = blocks(answer);
+                Told {
+                    status: status(&blocks),
+                    said: advice::sentences(&source.name(), &job, &blocks, asking),
+                    printed: answer.to_vec(),
+                }
+            }
             Err(number) => Told {
                 status: Status::Refused,
-                said: refused(&source.name(), number, &bytes, asking),
+                said: refused(&source.name(), number, &job, asking),
                 printed: format!("answer=refused\nnumber={number}\n").into_bytes(),
             },
         }
     }
 }
 
-/// What is said of a refused job.
-fn refused(name: &str, number: usize, bytes: &[u8], asking: &Asking) -> Vec<String> {
-    let job = Job::new(bytes);
+/// The status of an answer: as of several jobs, one for each block.
+fn status(blocks: &[Block]) -> Status {
+    match blocks.iter().any(Block::is_refused) {
+        true => Status::Refused,
+        false => Status::Answered,
+    }
+}
+
+/// What is said of a refused job. Of several right sides only the one at fault is shown, if there is one.
+fn refused(name: &str, number: usize, job: &Job, asking: &Asking) -> Vec<String> {
     let found = job.fault(number).or_else(|| lacking(number, asking));
+    let at = found.as_ref().and_then(|found| found.side);
     let mut said = vec![format!("{name}: {}", refusals::sentence(number, found))];
-    for (key, side) in job.sides() {
-        said.extend(asking.names.side(key, side));
+    for (key, side) in job.sides(|right| at.is_none_or(|at| at == right)) {
+        said.extend(asking.names.side(&key, side));
     }
     said
 }
 
 /// What the job was given too little of.
 fn lacking(number: usize, asking: &Asking) -> Option<Found> {
-    let (fault, place) = match (number, asking.room) {
-        (7, _) if asking.slots == MOST_SLOTS => {
-            (Fault::Slots, format!("with all {MOST_SLOTS} slots"))
-        }
-        (7, _) => (Fault::Slots, format!("with --slots {}", asking.slots)),
-        (8, Room::Bytes(bytes)) => (Fault::Room, format!("with --room {bytes}")),
-        _ => return None,
-    };
-    Some(Found { fault, place })
+    match (number, asking.room) {
+        (7, _) => Some(advice::too_few(asking.slots)),
+        (8, Room::Bytes(bytes)) => Some(Found {
+            fault: Fault::Room,
+            place: format!("with --room {bytes}"),
+            side: None,
+        }),
+        _ => None,
+    }
 }

@@ -10,7 +10,7 @@ use std::time::Duration;
 use crate::failure::Failure;
 
 /// How many jobs may be begun that are not taken yet.
-const AHEAD: usize = 256;
+const AHEAD: usize = 64;
 
 /// A thread's stack: more than any entry takes (include/puvainy.h).
 const STACK: usize = 1 << 20;

@@ -1,8 +1,9 @@
 //! Jobs put to an entry, over all cores, and their answers printed in the order of the jobs.
 
+mod advice;
 mod asker;
+mod blocks;
 mod crew;
-mod none;
 mod printer;
 mod progress;
 

@@ -1,84 +1,131 @@
 //! Where a refused job is at fault. That it is refused, and by which number, is for the entry alone to say; this finds the line for people.
 
+mod side;
+
 use std::collections::BTreeSet;
 
-use crate::failure::brief;
-use crate::refusals::{Fault, Found};
-use crate::term::{MOST_NODES, is_atom, is_letter};
+use puvainy::{Entry, MOST_RIGHTS};
 
-/// The most bytes of a job, and the most letters of its sides.
-const MOST_BYTES: usize = 1024;
+use crate::refusals::{Fault, Found};
+use crate::term::{is_letter, ranks};
+
+/// The most letters of two sides.
 const MOST_LETTERS: usize = 6;
 
-/// The lines of a job, in order: the sides, then the limits with their bounds.
-const SIDES: [&str; 2] = ["left", "right"];
+/// The lines behind the sides, in order: the limits with their bounds.
 const LIMITS: [(&str, usize); 4] = [("steps", 16), ("size", 31), ("depth", 15), ("nodes", 4096)];
 
 /// The marks that editors put before a text to tell its encoding.
 const MARKS: [&[u8]; 3] = [b"\xef\xbb\xbf", b"\xff\xfe", b"\xfe\xff"];
 
-/// A job's text, cut after each line feed.
+/// A job's text for an entry, cut after each line feed. Line 0 is left's, line K that of right side K, and the limits follow.
 pub struct Job<'a> {
+    entry: Entry,
     bytes: &'a [u8],
     lines: Vec<&'a [u8]>,
+    /// How many lines are right sides': one at least, and one alone where the entry takes no more.
+    rights: usize,
 }
 
 impl<'a> Job<'a> {
-    pub fn new(bytes: &'a [u8]) -> Job<'a> {
+    pub fn new(entry: Entry, bytes: &'a [u8]) -> Job<'a> {
+        let lines: Vec<_> = bytes.split_inclusive(|&byte| byte == b'\n').collect();
+        let rights = lines.iter().skip(1);
+        let rights = rights.take_while(|line| line.starts_with(b"right="));
+        let rights = match entry.most_rights() {
+            1 => 1,
+            _ => rights.count().max(1),
+        };
         Job {
+            entry,
             bytes,
-            lines: bytes.split_inclusive(|&byte| byte == b'\n').collect(),
+            lines,
+            rights,
         }
     }
 
-    /// The sides that can be shown as text, with their keys; none of a text that is too long.
-    pub fn sides(&self) -> Vec<(&'static str, &'a str)> {
-        if self.bytes.len() > MOST_BYTES {
+    /// Whether it has several right sides.
+    pub fn has_several(&self) -> bool {
+        self.rights > 1
+    }
+
+    /// Left, and of several right sides the wanted ones, each with its name, where they can be shown as text; none of a text that is
+    /// too long.
+    pub fn sides(&self, is_wanted: impl Fn(usize) -> bool) -> Vec<(String, &'a str)> {
+        if self.bytes.len() > self.entry.most_job() {
             return Vec::new();
         }
         let text =
             |value: &'a [u8]| str::from_utf8(value.strip_suffix(b"\r").unwrap_or(value)).ok();
-        let shown = |(line, key)| Some((key, text(self.value(line, key)?)?));
-        SIDES.into_iter().enumerate().filter_map(shown).collect()
+        let lines = (0..=self.rights.min(MOST_RIGHTS + 1))
+            .filter(|&line| line == 0 || !self.has_several() || is_wanted(line));
+        let shown = |line| Some((self.name(line), text(self.value(line)?)?));
+        lines.filter_map(shown).collect()
     }
 
     /// Its limits with their bounds, where they are numbers.
     pub fn limits(&self) -> Vec<(&'static str, usize, usize)> {
-        let limit = |(index, (key, most))| {
-            let digits = str::from_utf8(self.value(SIDES.len() + index, key)?).ok()?;
+        let limit = |(line, (key, most))| {
+            let digits = str::from_utf8(self.value(line)?).ok()?;
             Some((key, digits.parse().ok()?, most))
         };
-        LIMITS.into_iter().enumerate().filter_map(limit).collect()
+        self.limit_lines().filter_map(limit).collect()
     }
 
-    /// What stands behind the key in that line, if the line has it; the first line is 0.
-    fn value(&self, line: usize, key: &str) -> Option<&'a [u8]> {
-        let line = self.lines.get(line)?;
-        let line = line.strip_suffix(b"\n").unwrap_or(line);
-        line.strip_prefix(key.as_bytes())?.strip_prefix(b"=")
+    /// The lines of the limits.
+    fn limit_lines(&self) -> impl Iterator<Item = (usize, (&'static str, usize))> {
+        (1 + self.rights..).zip(LIMITS)
+    }
+
+    /// The key that a line of a job has.
+    fn key(&self, line: usize) -> &'static str {
+        match line.checked_sub(1 + self.rights) {
+            Some(limit) => LIMITS[limit].0,
+            None if line == 0 => "left",
+            None => "right",
+        }
+    }
+
+    /// The line's name for people: of several right sides each has its number.
+    fn name(&self, line: usize) -> String {
+        match self.key(line) {
+            "right" if self.has_several() => format!("right {line}"),
+            key => key.to_owned(),
+        }
+    }
+
+    /// What stands behind the key in that line, if the line has it.
+    fn value(&self, line: usize) -> Option<&'a [u8]> {
+        let text = self.lines.get(line)?;
+        let text = text.strip_suffix(b"\n").unwrap_or(text);
+        text.strip_prefix(self.key(line).as_bytes())?
+            .strip_prefix(b"=")
     }
 
     /// The first fault that the number stands for, if it is one that can be placed.
     pub fn fault(&self, number: usize) -> Option<Found> {
         match number {
             1 => self.in_text().or_else(|| self.in_lines()),
-            2 => self.in_sides(in_term),
-            3 => self.in_sides(in_size),
+            2 => self.in_sides(side::in_term),
+            3 => self.in_sides(side::in_size),
             4 => self.in_letters(),
             5 => self.in_bounds(),
-            6 => Some(found(Fault::Same, BOTH.to_owned())),
+            6 => self.in_same(),
+            9 => self.in_count(),
+            10 => self.in_order(),
             _ => None,
         }
     }
 
     /// A fault of the text as a whole.
     fn in_text(&self) -> Option<Found> {
-        if self.bytes.len() > MOST_BYTES {
-            return Some(found(Fault::Long, "the whole text".to_owned()));
+        let whole = |fault| Some(found(fault, "the whole text".to_owned(), None));
+        if self.bytes.len() > self.entry.most_job() {
+            return whole(Fault::Long);
         }
         let is_marked = MARKS.iter().any(|mark| self.bytes.starts_with(mark));
         if is_marked || self.bytes.contains(&0) {
-            return Some(found(Fault::Mark, "the whole text".to_owned()));
+            return whole(Fault::Mark);
         }
         let returned = self.lines.iter().position(|line| line.ends_with(b"\r\n"));
         returned.map(|line| at(Fault::Windows, line))
@@ -86,103 +133,113 @@ impl<'a> Job<'a> {
 
     /// A line that is missing, is another one, lacks its end or holds no number; or a line too many.
     fn in_lines(&self) -> Option<Found> {
-        let keys = SIDES.into_iter().chain(LIMITS.map(|(key, _)| key));
-        for (line, key) in keys.enumerate() {
-            let fault = match (self.lines.get(line), self.value(line, key)) {
+        let count = 1 + self.rights + LIMITS.len();
+        for line in 0..count {
+            let fault = match (self.lines.get(line), self.value(line)) {
                 (None, _) => Fault::Missing,
-                (_, None) => Fault::Key,
+                (Some(text), None) => return Some(self.in_key(line, text)),
                 (Some(text), _) if !text.ends_with(b"\n") => Fault::End,
-                (_, Some(digits)) if line >= SIDES.len() && !is_number(digits) => Fault::Digits,
+                (_, Some(digits)) if line > self.rights && !is_number(digits) => Fault::Digits,
                 _ => continue,
             };
-            return Some(in_line(fault, line, key));
+            return Some(self.in_line(fault, line));
         }
-        let lines = SIDES.len() + LIMITS.len();
-        (self.lines.len() > lines).then(|| at(Fault::More, lines))
+        (self.lines.len() > count).then(|| at(Fault::More, count))
+    }
+
+    /// A line with another key than is due. Behind the right sides of FIND one more could stand.
+    fn in_key(&self, line: usize, text: &[u8]) -> Found {
+        let is_behind = line == 1 + self.rights;
+        if is_behind && text.starts_with(b"right=") {
+            return at(Fault::Second, line);
+        }
+        if is_behind && self.entry.most_rights() > 1 {
+            let place = format!("line {} (right or steps)", line + 1);
+            return found(Fault::Key, place, None);
+        }
+        self.in_line(Fault::Key, line)
+    }
+
+    /// The first right side that is one too many.
+    fn in_count(&self) -> Option<Found> {
+        let is_over = self.rights > MOST_RIGHTS;
+        is_over.then(|| self.in_line(Fault::Rights, MOST_RIGHTS + 1))
     }
 
     /// The first side with a fault, and what is told of its place.
     fn in_sides(&self, find: fn(&[u8]) -> Option<(Fault, String)>) -> Option<Found> {
-        SIDES.into_iter().enumerate().find_map(|(line, key)| {
-            let (fault, place) = find(self.value(line, key)?)?;
-            Some(found(fault, format!("line {} ({key}){place}", line + 1)))
+        (0..=self.rights).find_map(|line| {
+            let (fault, place) = find(self.value(line)?)?;
+            let Found { place: begin, .. } = self.in_line(fault, line);
+            Some(found(fault, begin + &place, Some(line)))
         })
     }
 
+    /// The first right side that has too many letters together with left.
     fn in_letters(&self) -> Option<Found> {
-        let items = self
-            .sides()
-            .into_iter()
-            .flat_map(|(_, side)| side.split(' '));
-        let letters: BTreeSet<_> = items.filter(|item| is_letter(item)).collect();
-        let place = format!("{BOTH}, {} letters", letters.len());
-        (letters.len() > MOST_LETTERS).then(|| found(Fault::Letters, place))
+        self.in_rights(|left, right| {
+            let items = left.split(' ').chain(right.split(' '));
+            let letters: BTreeSet<_> = items.filter(|item| is_letter(item)).collect();
+            let more = format!(", {} letters", letters.len());
+            (letters.len() > MOST_LETTERS).then_some((Fault::Letters, more))
+        })
     }
 
     fn in_bounds(&self) -> Option<Found> {
-        LIMITS
-            .into_iter()
-            .enumerate()
-            .find_map(|(index, (key, most))| {
-                let line = SIDES.len() + index;
-                let digits = str::from_utf8(self.value(line, key)?).ok()?;
-                // More digits than a number of the machine holds are over any bound.
-                let is_over = digits.parse().map_or(true, |limit: usize| limit > most);
-                is_over.then(|| in_line(Fault::Bound, line, key))
-            })
+        self.limit_lines().find_map(|(line, (_, most))| {
+            let digits = str::from_utf8(self.value(line)?).ok()?;
+            // More digits than a number of the machine holds are over any bound.
+            let is_over = digits.parse().map_or(true, |limit: usize| limit > most);
+            is_over.then(|| self.in_line(Fault::Bound, line))
+        })
+    }
+
+    /// The first right side that is left's term. A term has one text.
+    fn in_same(&self) -> Option<Found> {
+        let fault = match self.has_several() {
+            true => Fault::SameRight,
+            false => Fault::Same,
+        };
+        self.in_rights(|left, right| (left == right).then_some((fault, String::new())))
+    }
+
+    /// The first right side that comes before left.
+    fn in_order(&self) -> Option<Found> {
+        self.in_rights(|left, right| {
+            (ranks(right) < ranks(left)).then_some((Fault::Before, String::new()))
+        })
+    }
+
+    /// The first right side with a fault beside left, and what is told of its place.
+    fn in_rights(&self, find: impl Fn(&str, &str) -> Option<(Fault, String)>) -> Option<Found> {
+        let text = |line| str::from_utf8(self.value(line)?).ok();
+        let left = text(0)?;
+        (1..=self.rights).find_map(|line| {
+            let (fault, more) = find(left, text(line)?)?;
+            let place = format!("lines 1 and {}{more}", line + 1);
+            Some(found(fault, place, Some(line)))
+        })
+    }
+
+    /// A fault of that line, with the line's name.
+    fn in_line(&self, fault: Fault, line: usize) -> Found {
+        let place = format!("line {} ({})", line + 1, self.name(line));
+        found(fault, place, (line <= self.rights).then_some(line))
     }
 }
 
-const BOTH: &str = "lines 1 and 2";
-
-fn found(fault: Fault, place: String) -> Found {
-    Found { fault, place }
+fn found(fault: Fault, place: String, side: Option<usize>) -> Found {
+    Found { fault, place, side }
 }
 
 /// A fault of that line; the first is 0.
 fn at(fault: Fault, line: usize) -> Found {
-    found(fault, format!("line {}", line + 1))
-}
-
-/// Likewise, with the line's name.
-fn in_line(fault: Fault, line: usize, key: &str) -> Found {
-    found(fault, format!("line {} ({key})", line + 1))
+    found(fault, format!("line {}", line + 1), None)
 }
 
 fn is_number(digits: &[u8]) -> bool {
     let is_plain = !digits.is_empty() && digits.iter().all(u8::is_ascii_digit);
     is_plain && (digits == b"0" || digits[0] != b'0')
-}
-
-/// Why a side is no term, and at which of its items.
-fn in_term(side: &[u8]) -> Option<(Fault, String)> {
-    let side = String::from_utf8_lossy(side);
-    if side.is_empty() {
-        return Some((Fault::Empty, String::new()));
-    }
-    let items: Vec<_> = side.split(' ').collect();
-    let place = |index: usize| format!(", item {}", index + 1);
-    if let Some(index) = items.iter().position(|item| item.is_empty()) {
-        return Some((Fault::Space, place(index)));
-    }
-    // How many parts are still to come.
-    let mut parts = 1;
-    for (index, &item) in items.iter().enumerate() {
-        let is_sign = item == "+" || item == "*";
-        if !is_sign && !is_atom(item) {
-            return Some((Fault::Item, format!("{} ({})", place(index), brief(item))));
-        }
-        if parts == 0 {
-            return Some((Fault::Left, place(index)));
-        }
-        parts = if is_sign { parts + 1 } else { parts - 1 };
-    }
-    (parts > 0).then(|| (Fault::Part, format!(", behind item {}", items.len())))
-}
-
-fn in_size(side: &[u8]) -> Option<(Fault, String)> {
-    let nodes = side.split(|&byte| byte == b' ').count();
-    (nodes > MOST_NODES).then(|| (Fault::Nodes, format!(", {nodes} nodes")))
 }
 
 #[cfg(test)]

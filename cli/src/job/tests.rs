@@ -1,11 +1,11 @@
 //! Held to the entries: the fault that is found is one of the number that they give.
 
-use puvainy::{Buffers, Entry, Room};
+use puvainy::{Buffers, Room};
 
 use super::*;
 use crate::refusals::ROWS;
 
-/// A job that is accepted, and three that a small damage makes one of too many letters, of equal sides, or over a bound.
+/// A job that every entry accepts, and three that a small damage makes one of too many letters, of equal sides, or over a bound.
 const JOB: &str = "left=+ * v0 v1 0\nright=* v0 v1\nsteps=3\nsize=9\ndepth=4\nnodes=1000\n";
 const JOBS: [&str; 4] = [
     JOB,
@@ -14,8 +14,14 @@ const JOBS: [&str; 4] = [
     "left=v0\nright=1\nsteps=16\nsize=31\ndepth=15\nnodes=4096\n",
 ];
 
-/// A fault, what is put in the place of what in `JOB` to make it, and where it is told.
-const FAULTS: [(Fault, &str, &str, &str); 20] = [
+/// A job with three right sides, which FIND alone accepts.
+const THREE: &str = "left=+ v1 0\nright=+ 0 v1\nright=* v0 v1\nright=+ * v0 v1 0\nsteps=3\nsize=9\ndepth=4\nnodes=1000\n";
+
+/// A fault, what is put in the place of what in a job to make it, and where it is told.
+type Case = (Fault, &'static str, &'static str, &'static str);
+
+/// Of `JOB`, by every entry.
+const FAULTS: [Case; 20] = [
     (Fault::Mark, "left", "\u{feff}left", "the whole text"),
     (Fault::Mark, "left", "l\0e\0f\0t\0", "the whole text"),
     (Fault::Windows, "3\n", "3\r\n", "line 3"),
@@ -56,24 +62,111 @@ const WIDE: &str =
     "right=+ v1 + v1 + v1 + v1 + v1 + v1 + v1 + v1 + v1 + v1 + v1 + v1 + v1 + v1 + v1 + v1 v1";
 const MANY: &str = "left=+ v6 + v5 + v4 + v3 + v2 ";
 
-/// The fault for which WORDS refuses the job.
-fn fault(job: &str) -> Found {
+/// Of `THREE`, by FIND.
+const OF_THREE: [Case; 15] = [
+    (Fault::Windows, "3\n", "3\r\n", "line 5"),
+    (Fault::Missing, "nodes=1000\n", "", "line 8 (nodes)"),
+    (
+        Fault::Key,
+        "right=* ",
+        "Right=* ",
+        "line 3 (right or steps)",
+    ),
+    (Fault::Key, "steps", "Steps", "line 5 (right or steps)"),
+    (Fault::Key, "size", "right", "line 6 (size)"),
+    (Fault::End, "1000\n", "1000", "line 8 (nodes)"),
+    (Fault::More, "1000\n", "1000\nright=0\n", "line 9"),
+    (Fault::Digits, "depth=4", "depth=04", "line 7 (depth)"),
+    (Fault::Empty, "=* v0 v1", "=", "line 3 (right 2)"),
+    (
+        Fault::Part,
+        "=* v0 v1",
+        "=* v0",
+        "line 3 (right 2), behind item 2",
+    ),
+    (
+        Fault::Nodes,
+        "right=* v0 v1",
+        WIDE,
+        "line 3 (right 2), 33 nodes",
+    ),
+    (
+        Fault::Letters,
+        "=* v0 v1",
+        "=* v0 * v6 * v2 * v3 * v4 v5",
+        "lines 1 and 3, 7 letters",
+    ),
+    (Fault::Bound, "size=9", "size=32", "line 6 (size)"),
+    (Fault::SameRight, "* v0 v1\n", "+ v1 0\n", "lines 1 and 3"),
+    (Fault::Before, "* v0 v1\n", "+ v1 v0\n", "lines 1 and 3"),
+];
+
+/// The fault for which the entry refuses the job.
+fn fault(entry: Entry, job: &str) -> Found {
     let mut buffers = Buffers::new(0, Room::Grows);
-    let number = buffers.ask(Entry::Words, job.as_bytes()).unwrap_err();
-    Job::new(job.as_bytes()).fault(number).unwrap()
+    let number = buffers.ask(entry, job.as_bytes()).unwrap_err();
+    let found = Job::new(entry, job.as_bytes()).fault(number).unwrap();
+    let row = ROWS.iter().find(|row| row.fault == found.fault);
+    assert_eq!(row.unwrap().number, number, "{job}");
+    found
+}
+
+/// What is told of the fault.
+fn told(entry: Entry, job: &str) -> (Fault, String) {
+    let Found { fault, place, .. } = fault(entry, job);
+    (fault, place)
 }
 
 #[test]
 fn the_place_of_each_fault_is_told() {
     for (due, from, to, place) in FAULTS {
-        let found = fault(&JOB.replacen(from, to, 1));
-        assert_eq!((found.fault, found.place.as_str()), (due, place));
+        for entry in Entry::ALL {
+            let job = JOB.replacen(from, to, 1);
+            assert_eq!(told(entry, &job), (due, place.to_owned()));
+        }
     }
-    let found = fault(&" ".repeat(1025));
-    assert_eq!(
-        (found.fault, found.place.as_str()),
-        (Fault::Long, "the whole text")
-    );
+    for entry in Entry::ALL {
+        let long = " ".repeat(entry.most_job() + 1);
+        assert_eq!(
+            told(entry, &long),
+            (Fault::Long, "the whole text".to_owned())
+        );
+    }
+    let key = JOB.replace("steps", "Steps");
+    let place = |entry| told(entry, &key).1;
+    assert_eq!(place(Entry::Find), "line 3 (right or steps)");
+    assert_eq!(place(Entry::Words), "line 3 (steps)");
+}
+
+#[test]
+fn of_several_right_sides_the_place_of_each_fault_is_told() {
+    for (due, from, to, place) in OF_THREE {
+        let job = THREE.replacen(from, to, 1);
+        assert_eq!(told(Entry::Find, &job), (due, place.to_owned()));
+    }
+    let more = format!("=+ 0 v1\n{}", "right=v \n".repeat(14));
+    let job = THREE.replacen("=+ 0 v1\n", &more, 1);
+    let due = (Fault::Rights, "line 18 (right 17)".to_owned());
+    assert_eq!(told(Entry::Find, &job), due);
+    for entry in [Entry::Words, Entry::Rename] {
+        let due = (Fault::Second, "line 3".to_owned());
+        assert_eq!(told(entry, THREE), due);
+    }
+}
+
+#[test]
+fn of_several_right_sides_the_one_at_fault_is_known() {
+    let side = |from, to| fault(Entry::Find, &THREE.replacen(from, to, 1)).side;
+    assert_eq!(side("=+ v1 0", "=+ v1"), Some(0));
+    assert_eq!(side("* v0 v1\n", "+ v1 v0\n"), Some(2));
+    assert_eq!(side("size=9", "size=32"), None);
+    let job = Job::new(Entry::Find, THREE.as_bytes());
+    let due = [("left", "+ v1 0"), ("right 2", "* v0 v1")];
+    let due: Vec<_> = due.map(|(key, side)| (key.to_owned(), side)).into();
+    assert_eq!(job.sides(|right| right == 2), due);
+    assert_eq!(job.sides(|_| true).len(), 4);
+    let one = Job::new(Entry::Find, JOB.as_bytes());
+    assert_eq!(one.sides(|_| false).len(), 2);
 }
 
 /// Damages the job at one place, by a draw.
@@ -89,28 +182,51 @@ fn damage(job: &mut Vec<u8>, draw: u64) {
     }
 }
 
-#[test]
-fn the_fault_found_is_one_of_the_number_given() {
-    let mut buffers = Buffers::new(0, Room::Grows);
+/// Damages the jobs and holds the fault that is found to the number that the entry gives; how often each was given. Slots and room are
+/// no matter of the text.
+fn hold(entry: Entry, jobs: &[String], rounds: usize) -> [usize; 11] {
+    let mut buffers = Buffers::new(0, Room::Bytes(0));
     let mut draw: u64 = 1;
-    let mut counts = [0; 9];
-    for round in 0..40_000 {
-        let mut job = JOBS[round % 4].as_bytes().to_vec();
+    let mut counts = [0; 11];
+    for round in 0..rounds {
+        let mut job = jobs[round % jobs.len()].as_bytes().to_vec();
         for _ in 0..1 + draw % 3 {
             draw = draw
                 .wrapping_mul(6364136223846793005)
                 .wrapping_add(1442695040888963407);
             damage(&mut job, draw ^ draw >> 29);
         }
-        let number = buffers.ask(Entry::Words, &job).err().unwrap_or(0);
+        let number = match buffers.ask(entry, &job) {
+            Ok(_) | Err(7 | 8) => 0,
+            Err(number) => number,
+        };
         counts[number] += 1;
-        let found = Job::new(&job).fault(number).map(|found| found.fault);
+        let found = Job::new(entry, &job).fault(number).map(|found| found.fault);
         let row = ROWS.iter().find(|row| Some(row.fault) == found);
         let text = String::from_utf8_lossy(&job);
         assert_eq!(row.map_or(0, |row| row.number), number, "{text}");
     }
-    assert!(
-        [0, 1, 2, 5].into_iter().all(|number| counts[number] > 100),
-        "{counts:?}"
-    );
+    counts
+}
+
+#[test]
+fn the_fault_found_is_one_of_the_number_given() {
+    let one = JOBS.map(str::to_owned);
+    for entry in Entry::ALL {
+        let counts = hold(entry, &one, 40_000);
+        let often = [0, 1, 2, 5].map(|number| counts[number]);
+        assert!(often.into_iter().all(|count| count > 100), "{counts:?}");
+    }
+    let limits = &THREE[THREE.find("steps").unwrap()..];
+    let several = [
+        format!("left=v1\nright=v9\nright=v10\n{limits}"),
+        format!("left=+ v0 + v1 + v2 v3\nright=+ v1 0\nright=+ v0 + v1 + v4 v5\n{limits}"),
+        format!("left=0\n{}{limits}", "right=1\n".repeat(16)),
+        format!("left=0\n{}{limits}", "right=1\n".repeat(17)),
+    ];
+    let counts = hold(Entry::Find, &several, 200_000);
+    let often = [0, 1, 2, 4, 5, 6, 9, 10].map(|number| counts[number]);
+    assert!(often.into_iter().all(|count| count > 50), "{counts:?}");
+    let counts = hold(Entry::Words, &several, 4_000);
+    assert!(counts[0] == 0 && counts[1] > 3_000, "{counts:?}");
 }

@@ -1,7 +1,8 @@
-//! A proved answer of FIND, read for its derivation, or what keeps it from being drawn.
+//! An answer of FIND, read for what its picture shows of each block, or what keeps it from being drawn.
 
-use super::laws::{Direction, LAWS, Law};
-use crate::failure::brief;
+use puvainy::MOST_RIGHTS;
+
+use super::derivation::{Derivation, quoted};
 use crate::names::text_of;
 use crate::term::Term;
 
@@ -11,78 +12,104 @@ const MOST_LINES: usize = 16;
 /// What to do about an answer that is not as FIND prints it.
 const WHOLE: &str = "draw the whole answer as FIND printed it";
 
-/// A derivation: its terms, each with its text, and the lines from one to the next.
-#[derive(Debug)]
-pub struct Derivation<'a> {
-    pub terms: Vec<(&'a str, Term<'a>)>,
-    pub lines: Vec<Line<'a>>,
-}
+const SEVERAL: &str = "a second answer begins here, so the file holds several; \
+    draw one at a time, each from a file of its own";
 
-/// A line: the law, how it is read, and the turns from the top to the place, `l` or `r` each.
+/// What a block holds.
 #[derive(Debug)]
-pub struct Line<'a> {
-    pub law: &'static Law,
-    pub direction: Direction,
-    pub place: &'a str,
+pub enum Block<'a> {
+    Proved(Derivation<'a>),
+    /// A none, with its sides.
+    None([&'a str; 2]),
+    Refused,
 }
 
 /// A value and the number of the answer's line that holds it.
 type At<'a> = (usize, &'a str);
 
-/// Reads the answer. Or says in a sentence what is wrong, where, and what to do.
-pub fn read(bytes: &[u8]) -> Result<Derivation<'_>, String> {
+/// Reads the answer, of which a block at least is a derivation. Or says in a sentence what is wrong, where, and what to do.
+pub fn read(bytes: &[u8]) -> Result<Vec<Block<'_>>, String> {
     let text = text_of(bytes, "the answer")?;
     let found = Found::read(text)?;
-    check_proved(found.answer)?;
-    let left = given(found.left, "left")?;
-    let right = given(found.right, "right")?;
-    let last = check_count(given(found.steps, "steps")?, &found.lines)?;
-    let mut derivation = Derivation {
-        terms: vec![side(left, "left")?],
-        lines: Vec::new(),
-    };
-    side(right, "right")?;
-    for (number, value) in found.lines {
-        derivation
-            .add(value)
-            .map_err(|why| format!("line {number}: {why}; {WHOLE}"))?;
+    if let [only] = &found[..] {
+        only.check_proved()?;
+        return Ok(vec![Block::Proved(only.derivation()?)]);
     }
-    match derivation.terms.last() {
-        Some((text, _)) if *text == right.1 => Ok(derivation),
+    check_left(&found)?;
+    let blocks = found.iter().map(Found::block);
+    let blocks = blocks.collect::<Result<Vec<_>, _>>()?;
+    let is_proved = |block: &Block| matches!(block, Block::Proved(_));
+    match blocks.iter().any(is_proved) {
+        true => Ok(blocks),
+        false => Err(format!(
+            "none of the answer's {} blocks is proved: there is no derivation to draw; \
+             widen the job's limits or give more slots, and ask again",
+            blocks.len()
+        )),
+    }
+}
+
+/// Blocks of one answer have the same left side, and those refused are so by 7. Or says where another answer begins.
+fn check_left(blocks: &[Found]) -> Result<(), String> {
+    let first = blocks.iter().find_map(|block| block.left);
+    let is_other = |block: &Found| match block.answer {
+        Some((_, "refused")) => block.number.is_some_and(|(_, number)| number != "7"),
         _ => {
-            let other = format!("line {last}: the last line leads to another term than right");
-            Err(format!("{other}, which is in line {}; {WHOLE}", right.0))
+            let both = block.left.zip(first);
+            both.is_some_and(|((_, left), (_, first))| left != first)
+        }
+    };
+    match blocks.iter().position(is_other) {
+        None => Ok(()),
+        Some(place) => {
+            let (line, _) = blocks[place.max(1)].answer.unwrap_or_default();
+            Err(format!("line {line}: {SEVERAL}"))
         }
     }
 }
 
-/// The lines of an answer that its picture is made from.
+/// The lines of a block that its picture is made from.
 #[derive(Default)]
 struct Found<'a> {
+    /// Whether there are other blocks beside it.
+    is_one_of_several: bool,
     answer: Option<At<'a>>,
     left: Option<At<'a>>,
     right: Option<At<'a>>,
     steps: Option<At<'a>>,
+    number: Option<At<'a>>,
     lines: Vec<At<'a>>,
 }
 
 impl<'a> Found<'a> {
-    fn read(text: &'a str) -> Result<Found<'a>, String> {
+    /// The blocks of the text: each but the first begins with its line `answer=`.
+    fn read(text: &'a str) -> Result<Vec<Found<'a>>, String> {
         if text.trim().is_empty() {
             return Err(format!("the answer is empty; {WHOLE}"));
         }
-        let mut found = Found::default();
+        let (mut before, mut block) = (Vec::new(), Found::default());
         for (index, line) in text.lines().enumerate() {
-            let added = found.add(index + 1, line);
-            added.map_err(|why| format!("line {}: {why}", index + 1))?;
+            let number = index + 1;
+            if line.starts_with("answer=") && block.answer.is_some() {
+                block.is_one_of_several = true;
+                before.push(block);
+                block = Found::default();
+                block.is_one_of_several = true;
+            }
+            let added = match before.len() {
+                MOST_RIGHTS => Err(format!(
+                    "an answer has at most {MOST_RIGHTS} blocks, and this is one more; {WHOLE}"
+                )),
+                _ => block.add(number, line),
+            };
+            added.map_err(|why| format!("line {number}: {why}"))?;
         }
-        Ok(found)
+        before.push(block);
+        Ok(before)
     }
 
     /// Takes in a line. A line `# FILE` stands above each of several answers.
     fn add(&mut self, number: usize, line: &'a str) -> Result<(), String> {
-        const SEVERAL: &str = "a second answer begins here, so the file holds several; \
-            draw one at a time, each from a file of its own";
         if line.starts_with('#') && self.answer.is_some() {
             return Err(SEVERAL.to_owned());
         }
@@ -97,12 +124,12 @@ impl<'a> Found<'a> {
             "left" => &mut self.left,
             "right" => &mut self.right,
             "steps" => &mut self.steps,
+            "number" => &mut self.number,
             "step" => return self.add_step(number, value),
             _ => return Ok(()),
         };
         match place.replace((number, value)) {
             None => Ok(()),
-            Some(_) if key == "answer" => Err(SEVERAL.to_owned()),
             Some(_) => Err(format!("this is a second {key}; {WHOLE}")),
         }
     }
@@ -115,28 +142,71 @@ impl<'a> Found<'a> {
         self.lines.push((number, value));
         Ok(())
     }
-}
 
-fn check_proved(answer: Option<At>) -> Result<(), String> {
-    let Some((number, value)) = answer else {
-        return Err(format!("there is no line answer=proved; {WHOLE}"));
-    };
-    let why = match value {
-        "proved" => return Ok(()),
-        "none" => "a none: there is no derivation to draw; widen the job's limits and ask again",
-        "refused" => "a refusal: there is no derivation to draw; mend the job and ask again",
-        _ => {
-            return Err(format!(
-                "line {number}: {} is no answer; {WHOLE}",
-                quoted(value)
-            ));
+    /// What the block holds, where it is one of several.
+    fn block(&self) -> Result<Block<'a>, String> {
+        match self.answer {
+            Some((_, "none")) => {
+                let sides = [("left", self.left), ("right", self.right)];
+                let [left, right] = sides.map(|(key, found)| side(self.given(found, key)?, key));
+                Ok(Block::None([left?.0, right?.0]))
+            }
+            Some((_, "refused")) => Ok(Block::Refused),
+            _ => {
+                self.check_proved()?;
+                Ok(Block::Proved(self.derivation()?))
+            }
         }
-    };
-    Err(format!("line {number}: the answer is {why}"))
-}
+    }
 
-fn given<'a>(found: Option<At<'a>>, key: &str) -> Result<At<'a>, String> {
-    found.ok_or_else(|| format!("there is no line {key}=; {WHOLE}"))
+    fn check_proved(&self) -> Result<(), String> {
+        let Some((number, value)) = self.answer else {
+            return Err(format!("there is no line answer=proved; {WHOLE}"));
+        };
+        let why = match value {
+            "proved" => return Ok(()),
+            "none" => {
+                "a none: there is no derivation to draw; widen the job's limits and ask again"
+            }
+            "refused" => "a refusal: there is no derivation to draw; mend the job and ask again",
+            _ => {
+                return Err(format!(
+                    "line {number}: {} is no answer; {WHOLE}",
+                    quoted(value)
+                ));
+            }
+        };
+        Err(format!("line {number}: the answer is {why}"))
+    }
+
+    fn derivation(&self) -> Result<Derivation<'a>, String> {
+        let left = self.given(self.left, "left")?;
+        let right = self.given(self.right, "right")?;
+        let last = check_count(self.given(self.steps, "steps")?, &self.lines)?;
+        let mut derivation = Derivation::from(side(left, "left")?);
+        side(right, "right")?;
+        for (number, value) in &self.lines {
+            derivation
+                .add(value)
+                .map_err(|why| format!("line {number}: {why}; {WHOLE}"))?;
+        }
+        let [_, end] = derivation.ends();
+        if end == right.1 {
+            return Ok(derivation);
+        }
+        let other = format!("line {last}: the last line leads to another term than right");
+        Err(format!("{other}, which is in line {}; {WHOLE}", right.0))
+    }
+
+    /// The line with that key, if it was found.
+    fn given(&self, found: Option<At<'a>>, key: &str) -> Result<At<'a>, String> {
+        found.ok_or_else(|| match self.answer {
+            Some((number, _)) if self.is_one_of_several => {
+                format!("line {number}: this block has no line {key}=; {WHOLE}")
+            }
+            _ => format!("there is no line {key}=; {WHOLE}"),
+        })
+    }
 }
 
 /// The number of the last line of the derivation, if there are as many as `steps` says.
@@ -157,68 +227,4 @@ fn side<'a>((number, text): At<'a>, key: &str) -> Result<(&'a str, Term<'a>), St
     let term = Term::read(text);
     term.map(|term| (text, term))
         .ok_or_else(|| format!("line {number}: {key} is no term; {WHOLE}"))
-}
-
-impl<'a> Derivation<'a> {
-    /// Adds a line, `LAW DIRECTION at=PLACE to=TERM`, and the term after it.
-    fn add(&mut self, value: &'a str) -> Result<(), String> {
-        let (law, direction, place, after) =
-            parts(value).ok_or("a step is a law, forward or back, at= and to=, and this is not")?;
-        let line = Line {
-            law: Law::named(law)
-                .ok_or_else(|| format!("{} is none of the {} laws", quoted(law), LAWS.len()))?,
-            direction: Direction::named(direction)
-                .ok_or_else(|| format!("{} is neither forward nor back", quoted(direction)))?,
-            place: turns(place)
-                .ok_or_else(|| format!("{} is no place: a dot, or l and r", quoted(place)))?,
-        };
-        let term = Term::read(after).ok_or("what stands behind to= is no term")?;
-        let (_, before) = &self.terms[self.lines.len()];
-        for (term, which) in [(before, "before"), (&term, "after")] {
-            if !reaches(term, line.place) {
-                let place = quoted(place);
-                return Err(format!(
-                    "the place {place} leads out of the term {which} it"
-                ));
-            }
-        }
-        self.terms.push((after, term));
-        self.lines.push(line);
-        Ok(())
-    }
-}
-
-/// The law, direction, place and term of a line.
-fn parts(value: &str) -> Option<(&str, &str, &str, &str)> {
-    let (law, rest) = value.split_once(' ')?;
-    let (direction, rest) = rest.split_once(" at=")?;
-    let (place, after) = rest.split_once(" to=")?;
-    Some((law, direction, place, after))
-}
-
-/// The turns of a place, of which the top has none.
-fn turns(place: &str) -> Option<&str> {
-    let only_turns = !place.is_empty() && place.bytes().all(|turn| turn == b'l' || turn == b'r');
-    if place == "." {
-        Some("")
-    } else {
-        only_turns.then_some(place)
-    }
-}
-
-/// Whether the term has a part at the place.
-fn reaches(term: &Term, place: &str) -> bool {
-    let mut part = term;
-    for turn in place.bytes() {
-        let Term::Over(_, parts) = part else {
-            return false;
-        };
-        part = &parts[usize::from(turn == b'r')];
-    }
-    true
-}
-
-/// The text, fit to be shown in a sentence.
-fn quoted(text: &str) -> String {
-    format!("`{}`", brief(text))
 }

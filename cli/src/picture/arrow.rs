@@ -1,6 +1,6 @@
 //! The arrow of a line, from one term to the next.
 
-use super::answer::Line;
+use super::derivation::Line;
 use super::svg::{BOLD, Colour, Words, number};
 
 pub struct Arrow {

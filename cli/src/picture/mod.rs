@@ -1,14 +1,19 @@
 //! Pictures of derivations.
 //!
 //! Each term of the path is a tree. Each line of the path is an arrow, on its page in a colour of its own. The part that a line replaces has a solid
-//! outline in the term before, what it puts there a dashed one in the term after. The same answer and names give the same bytes.
+//! outline in the term before, what it puts there a dashed one in the term after. Of an answer with several blocks each has pages of its own, in
+//! their order; one without a derivation has a card. The same answer and names give the same bytes.
 
 mod answer;
 mod arrow;
 mod boxes;
+mod card;
+mod derivation;
 mod key;
+mod label;
 mod laws;
 mod page;
+mod part;
 mod path;
 mod svg;
 #[cfg(test)]
@@ -16,8 +21,9 @@ mod tests;
 mod tree;
 
 use crate::names::Names;
-use page::Page;
-use path::Path;
+use answer::Block;
+use label::Label;
+use part::Part;
 use svg::{SANS, escape, number};
 
 /// The most that a page measures, so that a screen of 1280 by 800 or 1366 by 768 shows it.
@@ -27,26 +33,17 @@ const TALL: f64 = 700.0;
 /// What lies between pages that stand one below the other.
 const GAP: f64 = 16.0;
 
-/// Draws a proved answer. `title` is the picture's name (the answer file's stem); `page` is None for all pages, Some(k) for page k (from 1) alone.
-/// What keeps it from being drawn is told in a sentence.
+/// Draws an answer with a derivation. `title` is the picture's name (the answer file's stem); `page` is None for all pages, Some(k) for page k (from
+/// 1) alone. What keeps it from being drawn is told in a sentence.
 pub fn draw(
     title: &str,
     answer: &[u8],
     names: &Names,
     page: Option<usize>,
 ) -> Result<String, String> {
-    let derivation = answer::read(answer)?;
-    let mut path = Path::new(&derivation, names);
-    let rows = path.rows();
-    let wide = page::width(&path, &rows, names);
-    let pages = page::pages(&mut path, rows, names, wide);
-    let picture = Picture {
-        title,
-        path,
-        pages,
-        wide,
-    };
-    let count = picture.pages.len();
+    let blocks = answer::read(answer)?;
+    let picture = Picture::new(title, &blocks, names);
+    let count = picture.sheets.len();
     match page {
         None if count > 1 => Ok(picture.all()),
         None => Ok(picture.one(1)),
@@ -62,59 +59,109 @@ pub fn draw(
 
 struct Picture<'a> {
     title: &'a str,
-    path: Path<'a>,
-    pages: Vec<Page<'a>>,
+    blocks: &'a [Block<'a>],
+    /// What stands for each block.
+    parts: Vec<Part<'a>>,
+    /// The pages, each by its part and its place there.
+    sheets: Vec<(usize, usize)>,
     wide: f64,
 }
 
-impl Picture<'_> {
+impl<'a> Picture<'a> {
+    fn new(title: &'a str, blocks: &'a [Block<'a>], names: &'a Names) -> Picture<'a> {
+        let mut parts: Vec<Part> = blocks.iter().map(|block| Part::new(block, names)).collect();
+        let wide = parts.iter().map(Part::width).fold(0.0, f64::max);
+        parts.iter_mut().for_each(|part| part.lay(wide));
+        let sheets = parts.iter().enumerate();
+        let sheets =
+            sheets.flat_map(|(place, part)| (0..part.count()).map(move |page| (place, page)));
+        let sheets = sheets.collect();
+        Picture {
+            title,
+            blocks,
+            parts,
+            sheets,
+            wide,
+        }
+    }
+
     /// A page by itself.
     fn one(&self, page: usize) -> String {
-        let mut out = self.head(self.pages[page - 1].tall, &self.which(page));
+        let (part, _) = self.sheets[page - 1];
+        let Label {
+            right, page: which, ..
+        } = self.label(page);
+        let told = match &self.blocks[part] {
+            Block::Refused => "refused by 7".to_owned(),
+            Block::None(ends) => from_to(*ends),
+            Block::Proved(derivation) => from_to(derivation.ends()),
+        };
+        let mut out = self.head(self.tall(page), &format!("{right}: {told}{which}"));
         self.draw_page(page, &mut out);
         ended(out)
     }
 
     /// The pages one below the other, each with a view by which it can be shown alone.
     fn all(&self) -> String {
-        let tall: f64 = self.pages.iter().map(|page| page.tall + GAP).sum();
-        let (mut out, mut views, mut top) = (Vec::new(), self.head(tall - GAP, ""), 0.0);
-        for (index, page) in self.pages.iter().enumerate() {
-            let [y, wide, tall] = [top, self.wide, page.tall].map(number);
+        let pages = 1..=self.sheets.len();
+        let tall: f64 = pages.clone().map(|page| self.tall(page) + GAP).sum();
+        let told = match self.blocks {
+            [Block::Proved(derivation)] => from_to(derivation.ends()),
+            blocks => format!("{} right sides", blocks.len()),
+        };
+        let mut views = self.head(tall - GAP, &format!(": {told}"));
+        let (mut out, mut top) = (Vec::new(), 0.0);
+        for page in pages {
+            let [y, wide, tall] = [top, self.wide, self.tall(page)].map(number);
             views.push(format!(
-                r#"<view id="page-{}" viewBox="0 {y} {wide} {tall}" preserveAspectRatio="xMinYMin"/>"#,
-                index + 1
+                r#"<view id="page-{page}" viewBox="0 {y} {wide} {tall}" preserveAspectRatio="xMinYMin"/>"#
             ));
             out.push(format!(r#"<g transform="translate(0 {y})">"#));
-            self.draw_page(index + 1, &mut out);
+            self.draw_page(page, &mut out);
             out.push("</g>".to_owned());
-            top += page.tall + GAP;
+            top += self.tall(page) + GAP;
         }
         views.append(&mut out);
         ended(views)
     }
 
-    fn draw_page(&self, page: usize, out: &mut Vec<String>) {
-        self.pages[page - 1].draw(&self.path, self.title, &self.which(page), self.wide, out);
+    fn tall(&self, page: usize) -> f64 {
+        let (part, place) = self.sheets[page - 1];
+        self.parts[part].tall(place, self.wide)
     }
 
-    /// What tells a page from the others, if there are others.
-    fn which(&self, page: usize) -> String {
-        match self.pages.len() {
+    fn draw_page(&self, page: usize, out: &mut Vec<String>) {
+        let (part, place) = self.sheets[page - 1];
+        self.parts[part].draw(place, &self.label(page), self.wide, out);
+    }
+
+    fn label(&self, page: usize) -> Label<'a> {
+        let (part, _) = self.sheets[page - 1];
+        let of = |what: &str, number: usize, count: usize| match count {
             1 => String::new(),
-            count => format!(", page {page} of {count}"),
+            _ => format!(", {what} {number} of {count}"),
+        };
+        Label {
+            title: self.title,
+            right: of("right", part + 1, self.parts.len()),
+            page: of("page", page, self.sheets.len()),
         }
     }
 
-    fn head(&self, tall: f64, which: &str) -> Vec<String> {
+    /// The beginning of a picture: its size, and what it is called behind its title.
+    fn head(&self, tall: f64, told: &str) -> Vec<String> {
         let [wide, tall] = [self.wide, tall].map(number);
-        let (title, [from, to]) = (escape(self.title), self.path.ends());
+        let title = escape(self.title);
         let size = format!(r#"width="{wide}" height="{tall}" viewBox="0 0 {wide} {tall}""#);
         vec![
             format!(r#"<svg xmlns="http://www.w3.org/2000/svg" {size} font-family="{SANS}">"#),
-            format!("<title>{title}: from {from} to {to}{which}</title>"),
+            format!("<title>{title}{told}</title>"),
         ]
     }
+}
+
+fn from_to([from, to]: [&str; 2]) -> String {
+    format!("from {from} to {to}")
 }
 
 fn ended(mut out: Vec<String>) -> String {

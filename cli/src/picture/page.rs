@@ -1,13 +1,13 @@
-//! The pages of a picture: which rows each has, its title, key and legend.
+//! The pages of a derivation: which rows each has, its key and legend.
 
 use super::key::{self, Key};
+use super::label::{ABOVE, Label};
 use super::path::{MARGIN, Path, Row};
-use super::svg::{self, BOLD, BOLDER, COLOURS, Colour, DASHED, FRAME, PAPER, SOFT, Words, number};
+use super::svg::{COLOURS, Colour, DASHED, SOFT, Words, number};
 use super::{TALL, WIDE};
 use crate::names::Names;
 
-/// What a page has above its rows and below.
-const ABOVE: f64 = 54.0;
+/// What a page has below its rows.
 const BELOW: f64 = 24.0;
 /// The width that the legend needs.
 const LEGEND: f64 = 640.0;
@@ -59,20 +59,12 @@ impl<'a> Page<'a> {
         self.rows.iter().map(|row| row.len()).sum::<usize>() + 1
     }
 
-    /// Draws the page. `which` tells it from the other pages, and is empty if there are none.
-    pub fn draw(&self, path: &Path, title: &str, which: &str, wide: f64, out: &mut Vec<String>) {
-        let [right, bottom] = [wide - 1.0, self.tall - 1.0].map(number);
-        out.push(format!(
-            r#"<rect x="0.5" y="0.5" width="{right}" height="{bottom}" rx="8" fill="{PAPER}" stroke="{FRAME}"/>"#
-        ));
-        let heading = heading(title, path.lines(), which, wide - 2.0 * MARGIN);
-        out.push(
-            Words::at(MARGIN, 34.0, &heading)
-                .size(16.0)
-                .start()
-                .more(BOLD)
-                .svg(),
-        );
+    pub fn draw(&self, path: &Path, label: &Label, wide: f64, out: &mut Vec<String>) {
+        let shows = match path.lines() {
+            1 => "a derivation of 1 line".to_owned(),
+            lines => format!("a derivation of {lines} lines"),
+        };
+        label.draw(&shows, wide, self.tall, out);
         let mut top = ABOVE;
         for row in &self.rows {
             path.draw_row(row, top, out);
@@ -81,18 +73,6 @@ impl<'a> Page<'a> {
         self.key.draw(top + 4.0, out);
         legend(top + self.key.height() + 4.0, out);
     }
-}
-
-/// The heading of a page, in which a title that is too long is cut.
-fn heading(title: &str, lines: usize, which: &str, room: f64) -> String {
-    let count = if lines == 1 {
-        "1 line".to_owned()
-    } else {
-        format!("{lines} lines")
-    };
-    let rest = format!(": a derivation of {count}{which}");
-    let size = 16.0 * BOLDER;
-    svg::cut(title, size, room - svg::width(&rest, size)) + &rest
 }
 
 fn legend(y: f64, out: &mut Vec<String>) {

@@ -3,8 +3,8 @@
 use std::ops::Range;
 
 use super::WIDE;
-use super::answer::{Derivation, Line};
 use super::arrow::Arrow;
+use super::derivation::{Derivation, Line};
 use super::svg::{COLOURS, Colour, SOFT, Words};
 use super::tree::{Mark, Tree};
 use crate::names::Names;
@@ -55,11 +55,6 @@ impl<'a> Path<'a> {
 
     pub fn lines(&self) -> usize {
         self.lines.len()
-    }
-
-    /// The texts of the first term and the last.
-    pub fn ends(&self) -> [&'a str; 2] {
-        [0, self.lines.len()].map(|tree| self.trees[tree].text)
     }
 
     /// The arrow that stands before a tree.

@@ -13,7 +13,8 @@ use crate::streams::Source;
 
 pub const FIND: Word = word(
     "find",
-    "a shortest derivation from the smaller plan to the larger, or that there is none within the limits",
+    "a shortest derivation from the smaller plan to the larger, or that there is none within the limits; \
+     of several right sides a block for each",
     |words| run(&FIND, Entry::Find, words),
 );
 

@@ -26,7 +26,8 @@ type Run = fn(Vec<OsString>) -> Result<Status, Failure>;
 pub const WORDS: [&Word; 4] = [&jobs::FIND, &jobs::WORDS, &jobs::RENAME, &draw::DRAW];
 
 const STATUSES: &str = "\
-Exit status: 0 answered, 1 refused (of several jobs: any), 2 could not read or write, or a wrong call.
+Exit status: 0 answered, 1 refused (of several jobs or blocks: any), 2 could not read or write, or a
+wrong call.
 ";
 
 /// Does what the words ask.

@@ -27,6 +27,34 @@ fn the_guides_pictures_are_drawn_as_they_are_stored() {
 }
 
 #[test]
+fn each_block_of_an_answer_has_its_page() {
+    let all = puvainy(&["draw", "drafts.answer"]);
+    assert_eq!((all.status, all.said.as_str()), (Some(0), ""));
+    assert_eq!(all.printed, stored("drafts.svg"));
+    let shows = [
+        "a derivation of 1 line",
+        "a derivation of 3 lines",
+        "a none",
+    ];
+    for (right, shows) in (1..).zip(shows) {
+        let one = puvainy(&["draw", "--page", &right.to_string(), "drafts.answer"]);
+        let heading = format!(">drafts, right {right} of 3: {shows}, page {right} of 3<");
+        assert_eq!(one.status, Some(0));
+        assert!(one.printed.contains(&heading), "{}", one.printed);
+    }
+    let found = puvainy(&["find", "--slots", "400", "joins-slots.job"]);
+    let gave = puvainy_on(
+        &["draw", "--names", "names.txt", "-"],
+        found.printed.as_bytes(),
+    );
+    assert_eq!((gave.status, gave.said.as_str()), (Some(0), ""));
+    assert!(
+        gave.printed
+            .contains("answer, right 3 of 3: refused by 7, page")
+    );
+}
+
+#[test]
 fn names_stand_in_the_picture() {
     let gave = puvainy(&["draw", "--names", "names.txt", "archive.answer"]);
     assert_eq!(
@@ -73,6 +101,10 @@ fn what_holds_no_derivation_is_refused() {
     let job =
         "archive.job: there is no line answer=proved; draw the whole answer as FIND printed it";
     refused(puvainy(&["draw", "archive.job"]), job);
+    let found = puvainy(&["find", "--slots", "0", "joins-slots.job"]);
+    let full = "standard input: none of the answer's 3 blocks is proved: there is no derivation to draw; \
+                widen the job's limits or give more slots, and ask again";
+    refused(puvainy_on(&["draw", "-"], found.printed.as_bytes()), full);
     let several = puvainy(&["find", "archive.job", "four-joins.job"]);
     let gave = puvainy_on(&["draw", "-"], several.printed.as_bytes());
     assert_eq!((gave.status, gave.printed.as_str()), (Some(1), ""));

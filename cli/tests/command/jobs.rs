@@ -76,9 +76,9 @@ fn a_text_that_is_no_job_is_refused() {
         (Some(1), "answer=refused\nnumber=1\n")
     );
     assert!(
-        large
-            .said
-            .contains("the whole text: the job has over 1,024 bytes; "),
+        large.said.contains(
+            "the whole text: the job has over 4,096 bytes, or of WORDS or RENAME over 1,024; "
+        ),
         "{}",
         large.said
     );

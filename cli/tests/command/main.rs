@@ -3,4 +3,5 @@
 mod common;
 mod drawn;
 mod jobs;
+mod several;
 mod status;

@@ -1,5 +1,6 @@
 //! What the tests share: answers made as text, and a picture's elements measured.
 
+mod blocks;
 mod bounds;
 mod guide;
 mod names;

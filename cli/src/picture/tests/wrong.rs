@@ -58,15 +58,10 @@ fn what_is_no_proved_answer_is_told() {
 }
 
 #[test]
-fn several_answers_are_told() {
-    let several = "a second answer begins here, so the file holds several; \
-        draw one at a time, each from a file of its own";
-    let headed = format!("# a.job\n{0}# b.job\n{0}", right());
-    assert_eq!(told(headed.as_bytes()), format!("line 12: {several}"));
-    let bare = right() + "answer=none\n";
-    assert_eq!(told(bare.as_bytes()), format!("line 11: {several}"));
+fn a_header_and_windows_line_ends_change_nothing() {
     let one = format!("# a.job\r\n{}", right().replace('\n', "\r\n"));
-    assert!(draw("one", one.as_bytes(), &Names::default(), None).is_ok());
+    let plain = draw("one", right().as_bytes(), &Names::default(), None);
+    assert_eq!(draw("one", one.as_bytes(), &Names::default(), None), plain);
 }
 
 #[test]
@@ -163,10 +158,12 @@ fn lines_that_are_not_known_are_passed_over() {
     );
 }
 
-/// Whatever bytes an answer has, it is drawn or told in one line without a full stop.
+/// Whatever bytes an answer has, of one block or several, it is drawn or told in one line without a full stop.
 #[test]
 fn damaged_answers_are_drawn_or_told() {
-    let right = right().into_bytes();
+    let none = "answer=none\nleft=+ v0 * v1 v2\nright=v0\nexpanded=1\ncut=no\n";
+    let right = [&right(), none, "answer=refused\nnumber=7\n"].concat();
+    let right = right.into_bytes();
     let check = |bytes: &[u8]| {
         if let Err(why) = draw("name", bytes, &Names::default(), None) {
             assert!(
