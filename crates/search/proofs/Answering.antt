@@ -18,15 +18,14 @@ use Rattle.search.specs.Serve as serve
 use Rattle.search.specs.Serve.{Served, stopped, waited}
 use Rattle.search.specs.Runs.{term-at, Runs}
 use Rattle.search.specs.Slots.{Slots, Starts}
-use Rattle.search.specs.Replied.{reply-of, waiting, Directly, Noticed, Replied, Matched, LooksUp}
-use Rattle.search.specs.Searched.{limits-of, slots-of, Ends, Explores, begins, Begins, Answers, Searches}
+use Rattle.search.specs.Replied.{reply-of, waiting, Directly, Noticed, Replied, Matched}
+use Rattle.search.specs.Searched.{limits-of, slots-of, Ends, Concludes, Explores, begins, Begins, Answers, Searches}
 use Rattle.search.specs.declared.replies.Reply as reply
 use Rattle.search.specs.declared.replies.Reply.the-variants.{Unnoted, Direct, Noted}
 use Rattle.search.specs.declared.bounded_search.Limits.{Limits}
 use Rattle.search.specs.declared.bounded_search.Stop.the-variants.{All, Full}
 use Rattle.search.specs.declared.bounded_search.Ended.{Ended}
 use Rattle.search.proofs.Indexing.{no-runs}
-use Rattle.search.proofs.Noting.{counted}
 use Rattle.search.proofs.Unknown.{told}
 use Rattle.search.proofs.Replying.{direct-by, waiting-waited}
 
@@ -35,23 +34,24 @@ no-slots ws = record { runs = no-runs ws; origin = λ k h. absurd (omega arith);
 
 -- left noted
 
-module _ {laws : List law.Law} {left rights replies : List ℕ} {n : ℕ} {m : Limits} {ws : List ℕ} where
+module _ {laws : List law.Law} {left rights before : List ℕ} {n : ℕ} {m : Limits} {ws : List ℕ} where
   pub begins-none : {slots : ℕ} → slots ≡ slots-of (length ws) → slots ≡ 0
-      → Begins laws left rights replies n m ws ws (record { stop = Full; opened = 0; noted = 0 })
+      → Begins laws left rights n m ws ws before before (record { stop = Full; opened = 0; noted = 0 })
   begins-none c h =
       record {
         room = omega arith;
         exact = λ s ts hs p R l e f k.
-            rw (le-ltb 0 (slots-of (length ws)) (omega arith), begins) (record { stop = refl; opened = refl; noted = refl; slots = no-slots ws });
+            rw (le-ltb 0 (slots-of (length ws)) (omega arith), begins)
+            (record { stop = refl; opened = refl; noted = refl; slots = no-slots ws }, record { kept = refl; still = λ k h. refl; noticed = λ k h z. rw z not-in-nil });
       }
 
-  pub begins-long : 31 < length left → Begins laws left rights replies n m ws ws (record { stop = Full; opened = 0; noted = 0 })
+  pub begins-long : 31 < length left → Begins laws left rights n m ws ws before before (record { stop = Full; opened = 0; noted = 0 })
   begins-long h = record { room = omega arith; exact = λ s ts hs p R l e f k. absurd (omega (arith, size-of hs)) }
 
-  module _ {slots : ℕ} {ws₁ ws′ : List ℕ} {r : Ended} (c : slots ≡ slots-of (length ws)) (h : slots ≡ 0 → ⊥) (S : Starts ws₁ left) where
+  module _ {slots : ℕ} {ws₁ ws′ after : List ℕ} {r : Ended} (c : slots ≡ slots-of (length ws)) (h : slots ≡ 0 → ⊥) (S : Starts ws₁ left) where
     -- left and the limit are small enough for the room that there is
     begun : {most : ℕ} → ((s : Term) → IsRun left s → size s ≤ 31 → m .size ≤ 31 → (size s ≤ most) × (m .size ≤ most))
-        → Explores laws rights replies n m slots most ws₁ ws′ r → Begins laws left rights replies n m ws ws′ r
+        → Explores laws rights n m slots most ws₁ ws′ before after r → Begins laws left rights n m ws ws′ before after r
     begun fits E =
         record {
           room = rw (← c) (E .room);
@@ -60,13 +60,14 @@ module _ {laws : List law.Law} {left rights replies : List ℕ} {n : ℕ} {m : L
               rw (← c) (rw (lt-ltb 0 slots (omega (arith, h)), begins) (E .exact s ts (S .slots s hs) R l e f i j));
         }
 
-    pub begins-small : length left ≤ 7 → m .size ≤ 7 → Explores laws rights replies n m slots 7 ws₁ ws′ r → Begins laws left rights replies n m ws ws′ r
+    pub begins-small : length left ≤ 7 → m .size ≤ 7 → Explores laws rights n m slots 7 ws₁ ws′ before after r
+        → Begins laws left rights n m ws ws′ before after r
     begins-small i j = begun (λ s hs p k. (omega (arith, size-of hs), j))
 
-    pub begins-large : Explores laws rights replies n m slots 31 ws₁ ws′ r → Begins laws left rights replies n m ws ws′ r
+    pub begins-large : Explores laws rights n m slots 31 ws₁ ws′ before after r → Begins laws left rights n m ws ws′ before after r
     begins-large = begun (λ s hs p k. (p, k))
 
--- what became of a right side, from what was told before the search and what is found after it
+-- what became of a right side, from what was told before the search and after it
 
 module _ (laws : List law.Law) (s t : Term) (us : List Term) where
   noticed : direct laws s t ≡ none → (r : reply.Reply) → Noticed us t r → Replied laws s t us r
@@ -123,21 +124,20 @@ module _ {laws : List law.Law} {left rights before fs : List ℕ} {n : ℕ} (M :
         empty [] e = refl
         empty (x ∷ xs) e = absurd (omega arith)
 
-    pub searches-begun : (n ≡ 0 → ⊥) → {ws′ : List ℕ} {r : Ended} {after : List ℕ} → Begins laws left rights fs n m ws ws′ r
-        → LooksUp rights ws′ (r .noted) fs after → Searches laws left rights m ws ws′ before after r
-    searches-begun z {ws′} {r} {after} B L =
+    pub searches-begun : (n ≡ 0 → ⊥) → {ws′ after : List ℕ} {r : Ended} → Begins laws left rights n m ws ws′ fs after r → length after ≡ length fs
+        → Searches laws left rights m ws ws′ before after r
+    searches-begun z {ws′} {after} {r} B same-long =
         record {
-          kept = L .kept ∙ M .kept;
+          kept = same-long ∙ M .kept;
           exact = λ s ts hs p R c f k.
-              let same-long = c ∙ sym (M .kept) in
               let x = begins laws (limits-of m) (slots-of (length ws)) s (waiting ts fs) in
-              let e : Ends r ws′ x = B .exact s ts hs p R same-long (M .others ts c) f k in
+              let (e, S) : Concludes r ws′ ts fs after x = B .exact s ts hs p R (c ∙ sym (M .kept)) (M .others ts c) f k in
               answered laws (limits-of m) (slots-of (length ws)) s ts
               (serve-begins laws (limits-of m) (slots-of (length ws)) s ts (waiting ts fs) (sym (is-waited s ts hs p R c)) (omega (arith, M .others ts c, z)))
               e
               (λ k h.
               replied-by laws s (term-at ts k) (terms (x .noted)) (getD fs k 0) (getD after k 0)
               (M .directly s ts hs p R c k h)
-              (L .found ts (terms (x .noted)) R same-long (e .slots .runs) (counted (x .noted) ∙ sym (e .noted)) k h)
-              (L .still k));
+              (S .noticed k h)
+              (S .still k));
         }

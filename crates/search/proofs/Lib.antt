@@ -29,6 +29,7 @@ pub mod Turning
 pub mod Traced
 pub mod Serving
 pub mod Replying
+pub mod Settling
 pub mod Answering
 pub mod Resulting
 pub mod Repeating

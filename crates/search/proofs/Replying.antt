@@ -4,7 +4,7 @@ use native.Mathlib.Omega.{arith}
 use native.Mathlib.Numerals.{add-one}
 use mathlib.Core.Path.{_≡_, refl, sym, ap, _∙_}
 use mathlib.Core.Logic.{⊎-elim}
-use mathlib.Core.Bool.{Bool, true, false}
+use mathlib.Core.Bool.{Bool, true, false, cond}
 use mathlib.Core.Option.{Option, none, some}
 use mathlib.Core.List.{List, [], _∷_}
 use borrow.Author.Tests.{eqb-true, eqb-false, eq-eqb, ne-eqb, le-leb, lt-leb}
@@ -23,13 +23,11 @@ use Rattle.search.specs.Serve.{times, waited}
 use Rattle.search.specs.Coded.{name-of, law-number, numbered-law}
 use Rattle.search.specs.Directly.{direct-name, Directs}
 use Rattle.search.specs.Index.{hash}
-use Rattle.search.specs.Runs.{term-at, Runs, Shows, Compares, FoundIn, Seeks}
-use Rattle.search.specs.Replied.{reply-of, waiting, Directly, Noticed, Matched, Counts, LooksUp}
+use Rattle.search.specs.Runs.{term-at, Runs, Shows, Compares}
+use Rattle.search.specs.Replied.{reply-of, waiting, Directly, Matched, Strikes}
 use Rattle.search.specs.declared.search.Law.{Law}
 use Rattle.search.specs.declared.search.Direct as found
 use Rattle.search.specs.declared.search.Direct.the-variants.{By, Nothing}
-use Rattle.search.specs.declared.slots.Found.{Found}
-use Rattle.search.specs.declared.slots.Found.the-variants as slot
 use Rattle.search.specs.declared.replies.Reply.the-variants.{Unnoted, Direct, Noted}
 use Rattle.search.proofs.Coded.{law-read-back, number-below}
 use Rattle.search.proofs.Unknown.{told}
@@ -62,7 +60,7 @@ pub none-wait : (ts : List Term) (fs : List ℕ) (r : ℕ) → length ts ≤ r �
 unfolding waiting
 none-wait ts fs r h = rw (drop-of-length-le ts h)
 
--- how many of them are one term
+-- which of them have one run
 
 same-turned : (t u : Term) → same t u ≡ same u t
 same-turned t u =
@@ -70,57 +68,93 @@ same-turned t u =
     (λ e. let q : t ≡ u = rw e at (same-reflects t u) in rw q)
     (λ e. let q : t ≡ u → ⊥ = rw e at (same-reflects t u) in e ∙ sym (told-apart u t (λ k. q (sym k))))
 
--- the first r are counted
-pub record CountedUpTo (rights fs xs : List ℕ) (h r n : ℕ) : Type 0 where
-  pub exact : (ts : List Term) (t : Term) → Runs rights ts → length ts ≡ length fs → IsRun xs t → h ≡ hash xs 0
-      → times t (waiting ts fs) ≡ n + times t (waiting (drop r ts) (drop r fs))
+-- the first r are struck, n of them, and the others are as they were
+pub record StruckUpTo (rights xs : List ℕ) (h k : ℕ) (before fs : List ℕ) (r n : ℕ) : Type 0 where
+  pub still : (i : ℕ) → 0 < getD before i 0 → getD fs i 0 ≡ getD before i 0
+  pub rest : (i : ℕ) → r ≤ i → getD fs i 0 ≡ getD before i 0
+  pub counted : (ts : List Term) (t : Term) → Runs rights ts → length ts ≡ length before → IsRun xs t → h ≡ hash xs 0
+      → times t (waiting ts before) ≡ n + times t (waiting (drop r ts) (drop r before))
+  pub struck : (ts : List Term) (t : Term) → Runs rights ts → length ts ≡ length before → IsRun xs t → h ≡ hash xs 0
+      → (i : ℕ) → i < r → getD before i 0 ≡ 0 → getD fs i 0 ≡ cond (same (term-at ts i) t) (k + 11) 0
 
-module _ {rights fs xs : List ℕ} {h : ℕ} where
-  pub counted-starts : CountedUpTo rights fs xs h 0 0
-  counted-starts = record { exact = λ ts t R c k e. omega arith }
+pub struck-starts : (rights xs : List ℕ) (h k : ℕ) (before : List ℕ) → StruckUpTo rights xs h k before before 0 0
+struck-starts rights xs h k before =
+    record { still = λ i p. refl; rest = λ i p. refl; counted = λ ts t R c l e. omega arith; struck = λ ts t R c l e i p z. absurd (omega arith) }
 
-  module _ {r n : ℕ} (C : CountedUpTo rights fs xs h r n) where
-    pub counted-all : length fs ≤ r → Counts rights fs xs h n
-    unfolding times
-    counted-all p =
+module _ {rights xs : List ℕ} {h k : ℕ} {before fs : List ℕ} {r n : ℕ} (S : StruckUpTo rights xs h k before fs r n) (same-long : length fs ≡ length before) where
+  pub struck-all : length fs ≤ r → Strikes rights xs h k before fs n
+  unfolding times
+  struck-all p =
+      record {
+        exact = λ ts t R c l e.
+            let z : times t (waiting (drop r ts) (drop r before)) ≡ 0 = rw (none-wait ts before r (omega arith)) in
+            record {
+              kept = same-long;
+              counted = omega (arith, S .counted ts t R c l e, z);
+              still = S .still;
+              told = λ i q w. S .struck ts t R c l e i (omega arith) w;
+            };
+      }
+
+  module _ (p : r < length fs) where
+    -- only the number of the r-th may be another
+    struck-next : (gs : List ℕ) (m : ℕ) → ((i : ℕ) → (i ≡ r → ⊥) → getD gs i 0 ≡ getD fs i 0) → (0 < getD before r 0 → getD gs r 0 ≡ getD before r 0)
+        → ((ts : List Term) (t : Term) → Runs rights ts → length ts ≡ length before → IsRun xs t → h ≡ hash xs 0
+        → (n + times t (waiting (drop r ts) (drop r before)) ≡ m + times t (waiting (drop (r + 1) ts) (drop (r + 1) before)))
+        × (getD before r 0 ≡ 0 → getD gs r 0 ≡ cond (same (term-at ts r) t) (k + 11) 0))
+        → StruckUpTo rights xs h k before gs (r + 1) m
+    struck-next gs m f g w =
         record {
-          exact = λ ts t R c k e.
-              let z : times t (waiting (drop r ts) (drop r fs)) ≡ 0 = rw (none-wait ts fs r (omega arith)) in
-              omega (arith, C .exact ts t R c k e, z);
+          still = λ i q. by i (λ e. (rw e at g) q) (λ e. f i e ∙ S .still i q);
+          rest = λ i q. f i (λ e. omega arith) ∙ S .rest i (omega arith);
+          counted = λ ts t R c l e. S .counted ts t R c l e ∙ w ts t R c l e .0;
+          struck = λ ts t R c l e i q z.
+              by i
+              (λ j. (rw j at (w ts t R c l e .1)) z)
+              (λ j. f i j ∙ S .struck ts t R c l e i (omega (arith, q, j)) z);
         }
+      where
+        by : {P : Type 0} (i : ℕ) → (r ≡ i → P) → ((i ≡ r → ⊥) → P) → P
+        by i f g = told (eqb r i) (λ e. f (eqb-true r i e)) (λ e. g (λ q. eqb-false r i e (sym q)))
 
-    module _ (p : r < length fs) where
-      pub counted-told : (getD fs r 0 ≡ 0 → ⊥) → CountedUpTo rights fs xs h (r + 1) n
-      counted-told f =
-          record { exact = λ ts t R c k e. C .exact ts t R c k e ∙ ap (λ l. n + times t l) (waits-not ts fs r (omega arith) p f) }
+    -- the r-th does not wait
+    pub struck-past : (getD fs r 0 ≡ 0 → ⊥) → StruckUpTo rights xs h k before fs (r + 1) n
+    struck-past z =
+        let w : getD before r 0 ≡ 0 → ⊥ = λ e. z (S .rest r (omega arith) ∙ e) in
+        struck-next fs n (λ i q. refl) (λ q. S .rest r (omega arith))
+        (λ ts t R c l e. (ap (λ l. n + times t l) (waits-not ts before r (omega arith) (omega arith) w), λ q. absurd (w q)))
 
-      module _ {b : Bool} (D : Compares rights r xs h b) where
-        compared-with : (ts : List Term) (t : Term) → Runs rights ts → length ts ≡ length fs → IsRun xs t → h ≡ hash xs 0 → same (term-at ts r) t ≡ b
-        compared-with ts t R c k e = same-turned (term-at ts r) t ∙ sym (D .exact ts t R (omega arith) k e)
+    module _ {b : Bool} (D : Compares rights r xs h b) where
+      compared-with : (ts : List Term) (t : Term) → Runs rights ts → length ts ≡ length before → IsRun xs t → h ≡ hash xs 0 → same (term-at ts r) t ≡ b
+      compared-with ts t R c l e = same-turned (term-at ts r) t ∙ sym (D .exact ts t R (omega arith) l e)
 
-        -- the r-th waits, and has the run or another
-        counted-one : getD fs r 0 ≡ 0 → (ts : List Term) (t : Term) → Runs rights ts → length ts ≡ length fs → IsRun xs t → h ≡ hash xs 0
-            → times t (waiting ts fs) ≡ n + times t (term-at ts r ∷ waiting (drop (r + 1) ts) (drop (r + 1) fs))
-        counted-one f ts t R c k e = C .exact ts t R c k e ∙ ap (λ l. n + times t l) (waits ts fs r (omega arith) p f)
+      -- it waits, and has another run
+      pub struck-other : b ≡ false → StruckUpTo rights xs h k before fs (r + 1) n
+      struck-other g =
+          told (eqb (getD fs r 0) 0)
+          (λ f.
+          let z = eqb-true (getD fs r 0) 0 f in
+          struck-next fs n (λ i q. refl) (λ q. S .rest r (omega arith))
+          (λ ts t R c l e.
+          let d = compared-with ts t R c l e ∙ g in
+          let w = sym (S .rest r (omega arith)) ∙ z in (
+            ap (λ l. n + times t l) (waits ts before r (omega arith) (omega arith) w)
+                ∙ ap (λ m. n + m) (times-there t (term-at ts r) (waiting (drop (r + 1) ts) (drop (r + 1) before)) d),
+            λ q. rw d z,
+          )))
+          (λ f. struck-past (eqb-false (getD fs r 0) 0 f))
 
-        pub counted-more : b ≡ true → getD fs r 0 ≡ 0 → CountedUpTo rights fs xs h (r + 1) (n + 1)
-        counted-more g f =
-            record {
-              exact = λ ts t R c k e.
-                  let z = times-here t (term-at ts r) (waiting (drop (r + 1) ts) (drop (r + 1) fs)) (compared-with ts t R c k e ∙ g) in
-                  counted-one f ts t R c k e ∙ omega (arith, z);
-            }
-
-        pub counted-other : b ≡ false → CountedUpTo rights fs xs h (r + 1) n
-        counted-other g =
-            told (eqb (getD fs r 0) 0)
-            (λ f.
-            record {
-              exact = λ ts t R c k e.
-                  let z = times-there t (term-at ts r) (waiting (drop (r + 1) ts) (drop (r + 1) fs)) (compared-with ts t R c k e ∙ g) in
-                  counted-one (eqb-true (getD fs r 0) 0 f) ts t R c k e ∙ ap (λ m. n + m) z;
-            })
-            (λ f. counted-told (eqb-false (getD fs r 0) 0 f))
+      -- it waits, and has this run
+      pub struck-more : b ≡ true → getD fs r 0 ≡ 0 → StruckUpTo rights xs h k before (set fs r (k + 11)) (r + 1) (n + 1)
+      struck-more g z =
+          let w = sym (S .rest r (omega arith)) ∙ z in
+          struck-next (set fs r (k + 11)) (n + 1) (λ i q. getD-set-other fs r i (k + 11) 0 q) (λ q. absurd (omega (arith, w)))
+          (λ ts t R c l e.
+          let d = compared-with ts t R c l e ∙ g in
+          let u = times-here t (term-at ts r) (waiting (drop (r + 1) ts) (drop (r + 1) before)) d in (
+            ap (λ l. n + times t l) (waits ts before r (omega arith) (omega arith) w) ∙ omega (arith, u),
+            λ q. rw d (getD-set-same fs r (k + 11) 0 p),
+          ))
 
 -- which of them match directly
 
@@ -192,61 +226,6 @@ module _ {left rights fs : List ℕ} {r n : ℕ} (M : MatchedUpTo left rights fs
               let (i, j, q) = others-next 0 ts gs c l g in
               i ∙ ap (λ l. n + length l) (waits ts gs r (omega arith) q j) ∙ omega arith;
         }
-
--- which of the others are noted
-
--- the first r are looked up, the others are as they were
-pub record LookedUpTo (rights ws : List ℕ) (count : ℕ) (before fs : List ℕ) (r : ℕ) : Type 0 where
-  pub still : (k : ℕ) → 0 < getD before k 0 → getD fs k 0 ≡ getD before k 0
-  pub rest : (k : ℕ) → r ≤ k → getD fs k 0 ≡ getD before k 0
-  pub found : (ts us : List Term) → Runs rights ts → length ts ≡ length before → Runs ws us → length us ≡ count
-      → (k : ℕ) → k < r → getD before k 0 ≡ 0 → Noticed us (term-at ts k) (reply-of (getD fs k 0))
-
-pub looked-starts : (rights ws : List ℕ) (count : ℕ) (before : List ℕ) → LookedUpTo rights ws count before before 0
-looked-starts rights ws count before =
-    record { still = λ k h. refl; rest = λ k h. refl; found = λ ts us R c S l k h e. absurd (omega arith) }
-
-module _ {rights ws : List ℕ} {count : ℕ} {before fs : List ℕ} {r : ℕ} (L : LookedUpTo rights ws count before fs r) (same-long : length fs ≡ length before) where
-  pub looked-all : length fs ≤ r → LooksUp rights ws count before fs
-  looked-all p =
-      record { kept = same-long; still = L .still; found = λ ts us R c S l k h e. L .found ts us R c S l k (omega arith) e }
-
-  -- only the number of the r-th may be another
-  looked-next : (gs : List ℕ) → ((k : ℕ) → (k ≡ r → ⊥) → getD gs k 0 ≡ getD fs k 0) → (0 < getD before r 0 → getD gs r 0 ≡ getD before r 0)
-      → ((ts us : List Term) → Runs rights ts → length ts ≡ length before → Runs ws us → length us ≡ count
-      → getD before r 0 ≡ 0 → Noticed us (term-at ts r) (reply-of (getD gs r 0)))
-      → LookedUpTo rights ws count before gs (r + 1)
-  looked-next gs f g n =
-      record {
-        still = λ k h. by k (λ e. (rw e at g) h) (λ q. f k q ∙ L .still k h);
-        rest = λ k h. f k (λ e. omega arith) ∙ L .rest k (omega arith);
-        found = λ ts us R c S l k h e.
-            by k
-            (λ q. (rw q at (n ts us R c S l)) e)
-            (λ q. rw (f k q) (L .found ts us R c S l k (omega (arith, h, q)) e));
-      }
-    where
-      by : {P : Type 0} (k : ℕ) → (r ≡ k → P) → ((k ≡ r → ⊥) → P) → P
-      by k f g = told (eqb r k) (λ e. f (eqb-true r k e)) (λ e. g (λ q. eqb-false r k e (sym q)))
-
-  pub looked-past : (getD fs r 0 ≡ 0 → ⊥) → LookedUpTo rights ws count before fs (r + 1)
-  looked-past z = looked-next fs (λ k q. refl) (λ h. L .rest r (omega arith)) (λ ts us R c S l e. absurd (z (L .rest r (omega arith) ∙ e)))
-
-  module _ (p : r < length fs) (w : getD fs r 0 ≡ 0) {xs : List ℕ} (W : Shows rights r xs) {o : Found} (F : Seeks ws count xs o) where
-    found-for : (ts us : List Term) → Runs rights ts → length ts ≡ length before → Runs ws us → length us ≡ count → FoundIn us (term-at ts r) o
-    found-for ts us R c S l = F .exact us (term-at ts r) S l (W .exact (term-at ts r) (R .spelled r (omega arith)))
-
-    pub looked-none : o ≡ slot.Nothing → LookedUpTo rights ws count before fs (r + 1)
-    looked-none e =
-        looked-next fs (λ k q. refl) (λ h. L .rest r (omega arith))
-        (λ ts us R c S l z. rw w (rw e at (found-for ts us R c S l)))
-
-    pub looked-found : {j : ℕ} → o ≡ slot.At j → LookedUpTo rights ws count before (set fs r (j + 11)) (r + 1)
-    looked-found {j} e =
-        looked-next (set fs r (j + 11)) (λ k q. getD-set-other fs r k (j + 11) 0 q) (λ h. absurd (omega (arith, L .rest r (omega arith))))
-        (λ ts us R c S l z.
-        rw (getD-set-same fs r (j + 11) 0 p, ← (reply-noted (j + 11) (omega arith) (omega arith)))
-        (let q : j + 11 - 11 ≡ j = omega arith in rw q (omega (arith, rw e at (F .within)), rw e at (found-for ts us R c S l))))
 
 -- which of them the search waits for
 

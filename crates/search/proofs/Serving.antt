@@ -3,7 +3,7 @@ use Prim.Native.Nat.{ℕ, suc, _+_, _≤_, _<_}
 use native.Mathlib.Omega.{arith}
 use native.Mathlib.Numerals.{add-one}
 use mathlib.Core.Path.{_≡_, refl, sym, ap, _∙_}
-use mathlib.Core.Bool.{Bool, true, false, false≢true}
+use mathlib.Core.Bool.{Bool, true, false}
 use mathlib.Core.List.{List, [], _∷_, _++_}
 use borrow.Author.Tests.{lt-ltb, le-ltb}
 use lib.ListN.{length, drop, drop-of-length-le}
@@ -103,11 +103,11 @@ module _ (next : Term → List Line) (steps slots : ℕ) (rights : List Term) wh
           (follows g (suc i) (take-results slots rights (noted-at ns i .trail) (next (noted-at ns i .term)) ns))
 
 module _ (t : Term) (ts : List Term) (ns : List Noted) where
-  unnoted-out : is-noted t ns ≡ true → unnoted (t ∷ ts) ns ≡ unnoted ts ns
+  pub unnoted-out : is-noted t ns ≡ true → unnoted (t ∷ ts) ns ≡ unnoted ts ns
   unfolding unnoted
   unnoted-out e = rw (e, unnoted)
 
-  unnoted-in : is-noted t ns ≡ false → unnoted (t ∷ ts) ns ≡ t ∷ unnoted ts ns
+  pub unnoted-in : is-noted t ns ≡ false → unnoted (t ∷ ts) ns ≡ t ∷ unnoted ts ns
   unfolding unnoted
   unnoted-in e = rw (e, unnoted)
 
@@ -165,26 +165,10 @@ others-times u (t ∷ ts) =
     (λ q. rw (others-out u t ts q, times-here u t ts q) (omega (arith, others-times u ts)))
     (λ q. rw (others-in u t ts q, times-there u t ts q) (omega (arith, others-times u ts)))
 
--- a term that is not noted is left as often as it is listed
-unnoted-times : (u : Term) (ts : List Term) (ns : List Noted) → is-noted u ns ≡ false → times u (unnoted ts ns) ≡ times u ts
-unfolding unnoted
-unnoted-times u [] ns new = refl
-unnoted-times u (t ∷ ts) ns new =
-    told (is-noted t ns)
-    (λ e.
-    let other = told-apart t u (λ p. false≢true (sym new ∙ ap (λ v. is-noted v ns) (sym p) ∙ e)) in
-    ap (times u) (unnoted-out t ts ns e) ∙ unnoted-times u ts ns new ∙ sym (times-there u t ts other))
-    (λ e.
-    ap (times u) (unnoted-in t ts ns e)
-    ∙ told (same t u)
-    (λ q. times-here u t (unnoted ts ns) q ∙ ap suc (unnoted-times u ts ns new) ∙ sym (times-here u t ts q))
-    (λ q. times-there u t (unnoted ts ns) q ∙ unnoted-times u ts ns new ∙ sym (times-there u t ts q)))
-
--- a new noted term strikes as many as are equal to it
-pub unnoted-struck : (ts : List Term) (n : Noted) (ns : List Noted) → is-noted (n .term) ns ≡ false
-    → length (unnoted ts (ns ++ (n ∷ []))) + times (n .term) ts ≡ length (unnoted ts ns)
-unnoted-struck ts n ns new =
-    rw (unnoted-more ts n ns, ← unnoted-times (n .term) ts ns new) (others-times (n .term) (unnoted ts ns))
+-- a noted term strikes as many as are equal to it
+pub unnoted-struck : (ts : List Term) (n : Noted) (ns : List Noted)
+    → length (unnoted ts (ns ++ (n ∷ []))) + times (n .term) (unnoted ts ns) ≡ length (unnoted ts ns)
+unnoted-struck ts n ns = rw (unnoted-more ts n ns) (others-times (n .term) (unnoted ts ns))
 
 -- where left alone is noted, all right sides are left
 pub unnoted-start : (s : Term) (ts : List Term) → (s ∈ ts → ⊥) → unnoted ts (start s) ≡ ts

@@ -1,4 +1,4 @@
--- A noted term opened, and a result taken: there is no slot for it, or it is noted now, and as many right sides are equal to it.
+-- A noted term opened, and a result taken: there is no slot for it, or it is noted now, and the right sides equal to it are struck.
 use Prim.Native.Nat.{ℕ, _+_, _≤_, _<_}
 use native.Mathlib.Omega.{arith}
 use mathlib.Core.Path.{_≡_, refl, sym, ap, subst₂, _∙_}
@@ -15,7 +15,7 @@ use Rattle.search.specs.Runs.{Originates, Shows, term-at}
 use Rattle.search.specs.Slots.{Marks, noted-at, Slots, Notes}
 use Rattle.search.specs.Ordered.{Result}
 use Rattle.search.specs.Resulted.{Resulted}
-use Rattle.search.specs.Replied.{Counts}
+use Rattle.search.specs.Replied.{Strikes}
 use Rattle.search.specs.Searched.{limits-of, Opens, Takes}
 use Rattle.search.specs.declared.slots.Step.{Step}
 use Rattle.search.specs.declared.slots.Origin.{Origin}
@@ -38,8 +38,8 @@ hash-last ws ns n S =
     S .runs .index .hashed (length ns) (omega (arith, counted more, length-append ns (n ∷ []))) ∙ ap (λ t. hash (run t) 0) e
 
 module _ (ws : List ℕ) (count slots : ℕ) (res : List ℕ) (k d : ℕ) (rights replies : List ℕ) where
-  pub takes-full : slots ≤ count → Takes ws count slots res k d rights replies Full ws
-  takes-full h = record { room = tt; exact = λ ns i x ts S c p R e T l. (omega arith, S) }
+  pub takes-full : slots ≤ count → Takes ws count slots res k d rights replies Full ws replies
+  takes-full h = record { room = tt; exact = λ ns i x ts S c p R e T l. (omega arith, S, refl) }
 
   -- xs is the run in slot k of res
   module _ (xs : List ℕ) (W : Shows res k xs) where
@@ -47,12 +47,12 @@ module _ (ws : List ℕ) (count slots : ℕ) (res : List ℕ) (k d : ℕ) (right
     result-run ns i x R = W .exact (x .result) (R .run)
 
     -- no slot has so long a run
-    pub takes-long : 31 < length xs → Takes ws count slots res k d rights replies Full ws
+    pub takes-long : 31 < length xs → Takes ws count slots res k d rights replies Full ws replies
     takes-long h = record { room = tt; exact = λ ns i x ts S c p R e T l. absurd (omega (arith, size-of (result-run ns i x R), R .run .small)) }
 
     module _ (o : Origin) (O : Originates res k o) where
       -- no result is the start
-      pub takes-start : o ≡ Start → Takes ws count slots res k d rights replies Full ws
+      pub takes-start : o ≡ Start → Takes ws count slots res k d rights replies Full ws replies
       takes-start g =
           record {
             room = tt;
@@ -74,13 +74,14 @@ module _ (ws : List ℕ) (count slots : ℕ) (res : List ℕ) (k d : ℕ) (right
             (N .slots ns x S c (omega arith) (subst₂ (λ y n. Marks y (noted-at ns n .term) x) (sym q) (sym h) (R .marks)) (result-run ns i x R) (rw h (ap (λ n. n + 1) e)))
 
         -- the right sides are compared with it by the hash that its slot has now
-        pub takes-noted : count < slots → (n : ℕ) → Counts rights replies xs (hash-of ws′ count) n → Takes ws count slots res k d rights replies (taken.Noted n) ws′
-        takes-noted h n C =
+        pub takes-noted : count < slots → (fs : List ℕ) (n : ℕ) → Strikes rights xs (hash-of ws′ count) count replies fs n
+            → Takes ws count slots res k d rights replies (taken.Noted n) ws′ fs
+        takes-noted h fs n C =
             record {
               room = h;
               exact = λ ns i x ts S c p R e T l.
                   let S′ = slots-more ns i x S c p R e in
                   let r = result-run ns i x R in
                   let q : hash-of ws′ count ≡ hash xs 0 = rw (← c, r .whole) (hash-last ws′ ns (entry (noted-at ns i .trail) x) S′) in
-                  (C .exact ts (x .result) T l r q, S′);
+                  (S′, rw c (C .exact ts (x .result) T l r q));
             }

@@ -14,13 +14,13 @@ use Rattle.search.specs.Line.{Line, results}
 use Rattle.search.specs.Search.{Noted, terms, entry}
 use Rattle.search.specs.Explore.{start}
 use Rattle.search.specs.Serve as serve
-use Rattle.search.specs.Serve.{times, Served, stopped, serve-on}
+use Rattle.search.specs.Serve.{Served, stopped, serve-on}
 use Rattle.search.specs.Runs.{term-at, Spells, Runs}
 use Rattle.search.specs.Slots.{noted-at, Slots}
 pub use Rattle.search.specs.Index.{slots-of}
 use Rattle.search.specs.Ordered.{Result, Ordered, unknown}
 use Rattle.search.specs.Resulted.{most-nodes}
-use Rattle.search.specs.Replied.{reply-of, waiting, Replied}
+use Rattle.search.specs.Replied.{reply-of, waiting, Replied, Struck, Settled}
 use Rattle.search.specs.declared.bounded_search.Limits.{Limits}
 use Rattle.search.specs.declared.bounded_search.Taken.{Taken}
 use Rattle.search.specs.declared.bounded_search.Taken.the-variants as taken
@@ -56,23 +56,27 @@ abbrev pub HasRoom : Taken → ℕ → ℕ → Type 0
 HasRoom (taken.Noted c) count slots = count < slots
 HasRoom taken.Full count slots = Unit {0}
 
--- a line on the noted term n, taken in a search that waits for ts; ws has the noted terms afterwards
-abbrev pub Became : Taken → ℕ → List ℕ → List Noted → Noted → Line → List Term → Type 0
-Became (taken.Noted c) slots ws ns n x ts = (c ≡ times (x .result) ts) × Slots ws (ns ++ (entry (n .trail) x ∷ []))
-Became taken.Full slots ws ns n x ts = (slots ≤ length ns) × Slots ws ns
+-- a line on the noted term n, taken in a search for ts; ws has the noted terms afterwards
+abbrev pub Became : Taken → ℕ → List ℕ → List Noted → Noted → Line → List Term → List ℕ → List ℕ → Type 0
+Became (taken.Noted c) slots ws ns n x ts before after = Slots ws (ns ++ (entry (n .trail) x ∷ [])) × Struck (length ns) (x .result) ts before after c
+Became taken.Full slots ws ns n x ts before after = (slots ≤ length ns) × Slots ws ns × (after ≡ before)
 
 -- of `take_result`: slot k of res has a result of a noted term, whose distance is d
-pub record Takes (ws : List ℕ) (count slots : ℕ) (res : List ℕ) (k d : ℕ) (rights replies : List ℕ) (r : Taken) (ws′ : List ℕ) : Type 0 where
+pub record Takes (ws : List ℕ) (count slots : ℕ) (res : List ℕ) (k d : ℕ) (rights before : List ℕ) (r : Taken) (ws′ after : List ℕ) : Type 0 where
   pub room : HasRoom r count slots
   pub exact : (ns : List Noted) (i : ℕ) (x : Line) (ts : List Term) → Slots ws ns → length ns ≡ count → i < count → Result (noted-at ns i .term) i res k x
-      → d ≡ length (noted-at ns i .trail) → Runs rights ts → length ts ≡ length replies → Became r slots ws′ ns (noted-at ns i) x (waiting ts replies)
+      → d ≡ length (noted-at ns i .trail) → Runs rights ts → length ts ≡ length before → Became r slots ws′ ns (noted-at ns i) x ts before after
+
+-- the one search for ts ended so, with each right side that waited told
+abbrev pub Concludes : Ended → List ℕ → List Term → List ℕ → List ℕ → Served → Type 0
+Concludes r ws ts before after v = Ends r ws v × Settled (terms (v .noted)) ts before after
 
 -- of `explore`, which has room for the results of terms of at most `most` nodes; left is none of the right sides
-pub record Explores (laws : List Law) (rights replies : List ℕ) (n : ℕ) (m : Limits) (slots most : ℕ) (ws ws′ : List ℕ) (r : Ended) : Type 0 where
+pub record Explores (laws : List Law) (rights : List ℕ) (n : ℕ) (m : Limits) (slots most : ℕ) (ws ws′ before after : List ℕ) (r : Ended) : Type 0 where
   pub room : r .noted ≤ slots
-  pub exact : (s : Term) (ts : List Term) → Slots ws (start s) → Runs rights ts → length ts ≡ length replies → n ≡ length (waiting ts replies)
+  pub exact : (s : Term) (ts : List Term) → Slots ws (start s) → Runs rights ts → length ts ≡ length before → n ≡ length (waiting ts before)
       → (s ∈ ts → ⊥) → size s ≤ most → m .size ≤ most
-      → Ends r ws′ (serve-on (results laws (limits-of m)) (m .steps) slots (waiting ts replies) (m .nodes) 0 (start s))
+      → Concludes r ws′ ts before after (serve-on (results laws (limits-of m)) (m .steps) slots (waiting ts before) (m .nodes) 0 (start s))
 
 -- a search from s that waits for ts: s is noted in the first slot, if there is one
 abbrev pub begins : List Law → line.Limits → ℕ → Term → List Term → Served
@@ -83,10 +87,10 @@ begins laws m slots s ts =
     ]
 
 -- of `explore_from`
-pub record Begins (laws : List Law) (left rights replies : List ℕ) (n : ℕ) (m : Limits) (ws ws′ : List ℕ) (r : Ended) : Type 0 where
+pub record Begins (laws : List Law) (left rights : List ℕ) (n : ℕ) (m : Limits) (ws ws′ before after : List ℕ) (r : Ended) : Type 0 where
   pub room : r .noted ≤ slots-of (length ws)
-  pub exact : (s : Term) (ts : List Term) → IsRun left s → size s ≤ 31 → Runs rights ts → length ts ≡ length replies → n ≡ length (waiting ts replies)
-      → (s ∈ ts → ⊥) → m .size ≤ 31 → Ends r ws′ (begins laws (limits-of m) (slots-of (length ws)) s (waiting ts replies))
+  pub exact : (s : Term) (ts : List Term) → IsRun left s → size s ≤ 31 → Runs rights ts → length ts ≡ length before → n ≡ length (waiting ts before)
+      → (s ∈ ts → ⊥) → m .size ≤ 31 → Concludes r ws′ ts before after (begins laws (limits-of m) (slots-of (length ws)) s (waiting ts before))
 
 -- how a search ended, and what became of each right side
 pub record Answers (laws : List Law) (m : line.Limits) (slots : ℕ) (s : Term) (ts : List Term) (ws replies : List ℕ) (r : Ended) : Type 0 where

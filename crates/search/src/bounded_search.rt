@@ -55,10 +55,10 @@ fn take_result(
     k: u32,
     distance: u32,
     rights: &[u32],
-    replies: &[u32],
+    replies: &mut [u32],
 ) -> Taken
     requires { ⌜ (noted ≤ slots) × (slots ≤ 65535) × (SLOT * slots ≤ length (now ws)) × (distance < 4294967295) × (SLOT * length (now replies) ≤ length (now rights)) × (length (now replies) ≤ 65535) ⌝ }
-    ensures { λ r. ⌜ Takes (now (ws .entry)) noted slots (now (res .entry)) k distance (now (rights .entry)) (now (replies .entry)) r (now (ws .exit)) ⌝ }
+    ensures { λ r. ⌜ Takes (now (ws .entry)) noted slots (now (res .entry)) k distance (now (rights .entry)) (now (replies .entry)) r (now (ws .exit)) (now (replies .exit)) ⌝ }
 {
     if slots <= noted {
         return Taken::Full;
@@ -72,7 +72,7 @@ fn take_result(
     };
     slots::note(ws, noted, s, step, distance + 1);
     let h = ws[SLOT * noted + 5];
-    Taken::Noted(replies::count_equal(rights, replies, s, h))
+    Taken::Noted(replies::strike(rights, s, h, noted as u32, replies))
 }
 
 // Why a search stopped: every right side that it waited for is noted; nothing is left to open; a term has no slot left.
@@ -90,11 +90,11 @@ pub struct Ended {
 }
 
 // Opens the noted terms in turn, from the first one on, and notes their results, until the `waiting` right sides whose number is 0 are
-// noted. The results are not noted when their term is opened, and no two are the same, so that each is new in its turn. The promise is
+// noted, each with its slot told. The results are not noted when their term is opened, and no two are the same, so that each is new in its turn. The promise is
 // for terms whose lines have room in `order`.
 fn explore(
     rights: &[u32],
-    replies: &[u32],
+    replies: &mut [u32],
     waiting: usize,
     limits: Limits,
     ws: &mut [u32],
@@ -103,7 +103,7 @@ fn explore(
     order: &mut [u32],
 ) -> Ended
     requires { ⌜ (0 < slots) × (slots ≤ 65535) × (SLOT * slots ≤ length (now ws)) × (SLOT * length (now order) ≤ length (now res)) × (length (now order) ≤ 620) × (SLOT * length (now replies) ≤ length (now rights)) × (length (now replies) ≤ 65535) ⌝ }
-    ensures { λ r. ⌜ Explores semiring (now (rights .entry)) (now (replies .entry)) waiting limits slots (most-nodes (now (order .entry))) (now (ws .entry)) (now (ws .exit)) r ⌝ }
+    ensures { λ r. ⌜ Explores semiring (now (rights .entry)) waiting limits slots (most-nodes (now (order .entry))) (now (ws .entry)) (now (ws .exit)) (now (replies .entry)) (now (replies .exit)) r ⌝ }
 {
     let mut stop = Stop::Over;
     let mut opened = 0;
@@ -152,14 +152,14 @@ fn explore(
 // The buffers are filled with zeros first, and to fill larger ones takes as long as a short search.
 fn explore_small(
     rights: &[u32],
-    replies: &[u32],
+    replies: &mut [u32],
     waiting: usize,
     limits: Limits,
     ws: &mut [u32],
     slots: usize,
 ) -> Ended
     requires { ⌜ (0 < slots) × (slots ≤ 65535) × (SLOT * slots ≤ length (now ws)) × (SLOT * length (now replies) ≤ length (now rights)) × (length (now replies) ≤ 65535) ⌝ }
-    ensures { λ r. ⌜ Explores semiring (now (rights .entry)) (now (replies .entry)) waiting limits slots 7 (now (ws .entry)) (now (ws .exit)) r ⌝ }
+    ensures { λ r. ⌜ Explores semiring (now (rights .entry)) waiting limits slots 7 (now (ws .entry)) (now (ws .exit)) (now (replies .entry)) (now (replies .exit)) r ⌝ }
 {
     let mut res = [0u32; 5600];
     let mut order = [0u32; 140];
@@ -178,14 +178,14 @@ fn explore_small(
 // Explores among terms of at most 31 nodes. Each has at most 620 results.
 fn explore_large(
     rights: &[u32],
-    replies: &[u32],
+    replies: &mut [u32],
     waiting: usize,
     limits: Limits,
     ws: &mut [u32],
     slots: usize,
 ) -> Ended
     requires { ⌜ (0 < slots) × (slots ≤ 65535) × (SLOT * slots ≤ length (now ws)) × (SLOT * length (now replies) ≤ length (now rights)) × (length (now replies) ≤ 65535) ⌝ }
-    ensures { λ r. ⌜ Explores semiring (now (rights .entry)) (now (replies .entry)) waiting limits slots 31 (now (ws .entry)) (now (ws .exit)) r ⌝ }
+    ensures { λ r. ⌜ Explores semiring (now (rights .entry)) waiting limits slots 31 (now (ws .entry)) (now (ws .exit)) (now (replies .entry)) (now (replies .exit)) r ⌝ }
 {
     let mut res = [0u32; 24800];
     let mut order = [0u32; 620];
@@ -205,13 +205,13 @@ fn explore_large(
 fn explore_from(
     left: &[u32],
     rights: &[u32],
-    replies: &[u32],
+    replies: &mut [u32],
     waiting: usize,
     limits: Limits,
     ws: &mut [u32],
 ) -> Ended
     requires { ⌜ (SLOT * length (now replies) ≤ length (now rights)) × (length (now replies) ≤ 65535) ⌝ }
-    ensures { λ r. ⌜ Begins semiring (now (left .entry)) (now (rights .entry)) (now (replies .entry)) waiting limits (now (ws .entry)) (now (ws .exit)) r ⌝ }
+    ensures { λ r. ⌜ Begins semiring (now (left .entry)) (now (rights .entry)) waiting limits (now (ws .entry)) (now (ws .exit)) (now (replies .entry)) (now (replies .exit)) r ⌝ }
 {
     let slots = index::slots_of(ws.len());
     if slots == 0 {
@@ -257,7 +257,5 @@ pub fn search_bounded_rewrite(
             noted: 0,
         };
     }
-    let ended = explore_from(left, rights, replies, waiting, limits, ws);
-    replies::look_up(rights, ws, ended.noted, replies);
-    ended
+    explore_from(left, rights, replies, waiting, limits, ws)
 }

@@ -5,12 +5,11 @@ ghost use Prim.Native.Nat.{_*_, _≤_};
 ghost use lib.ListN.{length};
 ghost use Rattle.search.specs.Law.{semiring};
 ghost use Rattle.search.specs.Index.{SLOT};
-ghost use Rattle.search.specs.Replied.{reply-of, Matched, Counts, LooksUp};
+ghost use Rattle.search.specs.Replied.{reply-of, Matched, Strikes};
 use crate::search;
 use crate::search::Direct;
 use crate::search::Law;
 use crate::slots;
-use crate::slots::Found;
 
 // The number of the first law, and of the first slot.
 const LAW: u32 = 1;
@@ -57,36 +56,22 @@ pub fn match_rights(left: &[u32], rights: &[u32], replies: &mut [u32]) -> usize
     waiting
 }
 
-// How many of the right sides that wait have the run `s`, whose hash is `h`: runs are compared only where the hash is the same.
-pub fn count_equal(rights: &[u32], replies: &[u32], s: &[u32], h: u32) -> usize
-    requires { ⌜ (SLOT * length (now replies) ≤ length (now rights)) × (length (now replies) ≤ 65535) ⌝ }
-    ensures { λ r. ⌜ Counts (now (rights .entry)) (now (replies .entry)) (now (s .entry)) h r ⌝ }
+// Strikes the right sides that wait and have the run `s`, whose hash is `h`, now that it is noted in slot `k`: how many there are. Runs are
+// compared only where the hash is the same.
+pub fn strike(rights: &[u32], s: &[u32], h: u32, k: u32, replies: &mut [u32]) -> usize
+    requires { ⌜ (SLOT * length (now replies) ≤ length (now rights)) × (length (now replies) ≤ 65535) × (k ≤ 65535) ⌝ }
+    ensures { λ r. ⌜ Strikes (now (rights .entry)) (now (s .entry)) h k (now (replies .entry)) (now (replies .exit)) r ⌝ }
 {
     let mut count = 0;
     let mut r = 0;
     while r < replies.len() {
         if slots::has_run(rights, r as u32, s, h) {
             if replies[r] == 0 {
+                replies[r] = k + PLACE;
                 count += 1;
             }
         }
         r += 1;
     }
     count
-}
-
-// Looks up the right sides that waited among the first `noted` terms.
-pub fn look_up(rights: &[u32], ws: &[u32], noted: usize, replies: &mut [u32])
-    requires { ⌜ (SLOT * length (now replies) ≤ length (now rights)) × (length (now replies) ≤ 65535) × (SLOT * noted ≤ length (now ws)) × (noted ≤ 65535) ⌝ }
-    ensures { λ _. ⌜ LooksUp (now (rights .entry)) (now (ws .entry)) noted (now (replies .entry)) (now (replies .exit)) ⌝ }
-{
-    let mut r = 0;
-    while r < replies.len() {
-        if replies[r] == 0 {
-            if let Found::At(k) = slots::slot_of(ws, noted, slots::run_of(rights, r as u32)) {
-                replies[r] = k + PLACE;
-            }
-        }
-        r += 1;
-    }
 }

@@ -22,14 +22,20 @@ explore-small-requires c κs = search needs
 same-length : tie.Need-same-length
 same-length c = search needs
 
+same-length-2 : tie.Need-same-length-2
+same-length-2 c = search needs
+
 returns-3 : tie.Need-returns-3
 returns-3 c = search (begins-small, needs)
 
 explore-large-requires : tie.Need-explore-large-requires
 explore-large-requires c κs = search needs
 
-same-length-2 : tie.Need-same-length-2
-same-length-2 c = search needs
+same-length-3 : tie.Need-same-length-3
+same-length-3 c = search needs
+
+same-length-4 : tie.Need-same-length-4
+same-length-4 c = search needs
 
 returns-4 : tie.Need-returns-4
 returns-4 c = search (begins-large, needs)
@@ -44,7 +50,9 @@ explore-from-spec =
     note-start-requires
     explore-small-requires
     same-length
+    same-length-2
     returns-3
     explore-large-requires
-    same-length-2
+    same-length-3
+    same-length-4
     returns-4)

@@ -16,9 +16,6 @@ returns c = search (searches-direct, needs)
 explore-from-requires : tie.Need-explore-from-requires
 explore-from-requires c κs = search needs
 
-look-up-requires : tie.Need-look-up-requires
-look-up-requires c κs = search needs
-
 same-length-2 : tie.Need-same-length-2
 same-length-2 c = search needs
 
@@ -36,7 +33,6 @@ search-bounded-rewrite-spec =
     same-length
     returns
     explore-from-requires
-    look-up-requires
     same-length-2
     same-length-3
     returns-2)

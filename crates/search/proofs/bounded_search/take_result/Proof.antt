@@ -43,11 +43,17 @@ mul-h-2 c = search needs
 slice-read-h : tie.Need-slice-read-h
 slice-read-h c = search needs
 
-count-equal-requires : tie.Need-count-equal-requires
-count-equal-requires c κs = search needs
+cast-strike : tie.Need-cast-strike
+cast-strike c = search needs
+
+strike-requires : tie.Need-strike-requires
+strike-requires c κs = search needs
 
 same-length : tie.Need-same-length
 same-length c = search needs
+
+same-length-2 : tie.Need-same-length-2
+same-length-2 c = search needs
 
 returns-4 : tie.Need-returns-4
 returns-4 c = search (takes-noted, needs)
@@ -69,6 +75,8 @@ take-result-spec =
     add-h
     mul-h-2
     slice-read-h
-    count-equal-requires
+    cast-strike
+    strike-requires
     same-length
+    same-length-2
     returns-4)
