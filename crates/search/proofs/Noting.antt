@@ -2,16 +2,15 @@
 use Prim.Native.Nat.{ℕ, _+_, _<_, _≤_}
 use native.Mathlib.Omega.{arith}
 use native.Mathlib.Nat.{eq-or-lt-of-le, le-of-suc-le-suc}
-use mathlib.Core.Path.{_≡_, refl, sym, ap, subst, _∙_}
+use mathlib.Core.Path.{_≡_, refl, sym, subst, _∙_}
 use mathlib.Core.Logic.{_⊎_, _↔_, inl, inr}
-use mathlib.Core.Bool.{Bool, true, false}
+use mathlib.Core.Bool.{Bool, true, false, false≢true}
 use mathlib.Core.List.{List, [], _∷_, _++_, map-append}
 use lib.ListN.{length, length-append, length-map, List·getD-append, List·getD-map}
 use lib.Seq.{getD-at}
 use Rattle.terms.specs.Lists.{_∈_, in-map, of-map}
 use Rattle.terms.specs.Term.{Term, zero}
 use Rattle.terms.specs.Held.{IsRun}
-use Rattle.terms.specs.Theory.Reflects.{Reflects}
 use Rattle.search.specs.Line.{Line}
 use Rattle.search.specs.Search.{Noted, terms, is-noted, entry}
 use Rattle.search.specs.Runs.{Spells, origin-of, value-of, term-at, Runs, Finds, Enters}
@@ -20,6 +19,7 @@ use Rattle.search.specs.Slots.{Marks, noted-at, Comes, Slots, Starts, No
 use Rattle.search.specs.declared.slots.Step.{Step}
 use Rattle.search.specs.declared.slots.Origin.{Origin}
 use Rattle.search.specs.declared.slots.Origin.the-variants.{Start, From}
+use Rattle.search.proofs.Unknown.{told}
 use Rattle.search.proofs.Indexing.{origin-new, value-new, origin-still, value-still, entered, no-runs}
 
 pub counted : (ns : List Noted) → length (terms ns) ≡ length ns
@@ -31,15 +31,28 @@ noted-term ns k = List·getD-map (λ n. n .term) ns k (record { term = zero; tra
 pub noted-run : {ws : List ℕ} {ns : List Noted} → Slots ws ns → (k : ℕ) → k < length ns → Spells ws k (noted-at ns k .term)
 noted-run {ws} {ns} S k h = subst (Spells ws k) (noted-term ns k) (S .runs .spelled k (omega (arith, counted ns)))
 
+-- a term is noted where the noted terms have it
+module _ (t : Term) (ns : List Noted) where
+  pub noted-in : t ∈ terms ns → is-noted t ns ≡ true
+  noted-in m =
+      told (is-noted t ns)
+      (λ e. e)
+      (λ e. let f : Knows ns t → ⊥ = rw e at (is-noted-reflects t ns) in absurd (f (of-map (λ n. n .term) ns m)))
+
+  pub noted-not : (t ∈ terms ns → ⊥) → is-noted t ns ≡ false
+  noted-not f =
+      told (is-noted t ns)
+      (λ e. let (z, m, q) : Knows ns t = rw e at (is-noted-reflects t ns) in absurd (f (rw (← q) (in-map (λ n. n .term) m))))
+      (λ e. e)
+
 -- a test of the terms is one of the noted terms
 pub looked-up : {ws : List ℕ} {count : ℕ} {xs : List ℕ} {b : Bool} → Finds ws count xs b → {ns : List Noted} {t : Term} → Slots ws ns → length ns ≡ count → IsRun xs t
     → is-noted t ns ≡ b
-looked-up {b = b} F {ns} {t} S c h = go (is-noted t ns) (is-noted-reflects t ns) b (F .exact (terms ns) t (S .runs) (counted ns ∙ c) h)
+looked-up {b = b} F {ns} {t} S c h = go b (F .exact (terms ns) t (S .runs) (counted ns ∙ c) h)
   where
-    go : (a : Bool) → Reflects (Knows ns t) a → (b : Bool) → (b ≡ true) ↔ (t ∈ terms ns) → a ≡ b
-    go true (z, m, e) b (f, g) = sym (g (rw (← e) (in-map (λ n. n .term) m)))
-    go false k true (f, g) = absurd (k (of-map (λ n. n .term) ns (f refl)))
-    go false k false e = refl
+    go : (b : Bool) → (b ≡ true) ↔ (t ∈ terms ns) → is-noted t ns ≡ b
+    go true (f, g) = noted-in t ns (f refl)
+    go false (f, g) = noted-not t ns (λ m. false≢true (g m))
 
 module _ (ns : List Noted) (n : Noted) where
   pub noted-before : (k : ℕ) → k < length ns → noted-at (ns ++ (n ∷ [])) k ≡ noted-at ns k

@@ -1,7 +1,7 @@
 -- What became of the right sides that a search waits for, while terms are noted.
 use Prim.Native.Nat.{ℕ, suc, _+_, _-_, _≤_, _<_}
 use native.Mathlib.Omega.{arith}
-use mathlib.Core.Path.{_≡_, refl, sym, ap, _∙_}
+use mathlib.Core.Path.{_≡_, refl, ap, _∙_}
 use mathlib.Core.Logic.{⊎-elim}
 use mathlib.Core.Bool.{true, false}
 use mathlib.Core.List.{List, [], _∷_, _++_}
@@ -9,7 +9,7 @@ use borrow.Author.Tests.{eqb-true, eqb-false, ne-eqb, leb-false}
 use lib.Dec.{eqb, leb}
 use lib.ListN.{length, getD, length-append, List·getD-append}
 use lib.Seq.{getD-at}
-use Rattle.terms.specs.Lists.{_∈_, append-cases, only-one, in-map, of-map}
+use Rattle.terms.specs.Lists.{_∈_, append-cases, only-one}
 use Rattle.terms.specs.Term.{Term, zero, same}
 use Rattle.terms.specs.Theory.Members.{getD-in}
 use Rattle.terms.specs.Theory.TermOrder.{same-reflects}
@@ -18,7 +18,7 @@ use Rattle.search.specs.Explore.{start}
 use Rattle.search.specs.Serve.{unnoted}
 use Rattle.search.specs.Runs.{term-at}
 use Rattle.search.specs.Replied.{reply-of, waiting, Noticed, Struck, Settled}
-use Rattle.search.specs.Theory.Grows.{Knows, is-noted-reflects}
+use Rattle.search.proofs.Noting.{noted-in, noted-not}
 use Rattle.search.proofs.Unknown.{told}
 use Rattle.search.proofs.Serving.{unnoted-in, unnoted-out}
 use Rattle.search.proofs.Replying.{reply-noted}
@@ -81,20 +81,6 @@ module _ (us : List Term) (u : Term) where
       }
 
 -- the right sides that still wait are those that are not noted
-
-module _ (t : Term) (ns : List Noted) where
-  listed-noted : t ∈ terms ns → is-noted t ns ≡ true
-  listed-noted m =
-      told (is-noted t ns)
-      (λ e. e)
-      (λ e. let f : Knows ns t → ⊥ = rw e at (is-noted-reflects t ns) in absurd (f (of-map (λ n. n .term) ns m)))
-
-  unlisted-unnoted : (t ∈ terms ns → ⊥) → is-noted t ns ≡ false
-  unlisted-unnoted f =
-      told (is-noted t ns)
-      (λ e. let (z, m, q) : Knows ns t = rw e at (is-noted-reflects t ns) in absurd (f (rw (← q) (in-map (λ n. n .term) m))))
-      (λ e. e)
-
 pub waiting-unnoted : (ns : List Noted) (ts : List Term) (before fs : List ℕ) → length ts ≡ length before → Settled (terms ns) ts before fs
     → waiting ts fs ≡ unnoted (waiting ts before) ns
 unfolding waiting unnoted
@@ -102,19 +88,18 @@ waiting-unnoted ns [] before fs c S = refl
 waiting-unnoted ns (t ∷ ts) [] fs c S = absurd (omega arith)
 waiting-unnoted ns (t ∷ ts) (b ∷ before) [] c S = absurd (omega (arith, S .kept))
 waiting-unnoted ns (t ∷ ts) (b ∷ before) (f ∷ fs) c S =
-    let rest =
-    waiting-unnoted ns ts before fs (omega arith)
-    (record { kept = omega (arith, S .kept); still = λ k h. S .still (suc k) h; noticed = λ k h z. S .noticed (suc k) (omega arith) z }) in
+    let others : Settled (terms ns) ts before fs = record { kept = omega (arith, S .kept); still = λ k h. S .still (suc k) h; noticed = λ k h z. S .noticed (suc k) (omega arith) z } in
+    let rest = waiting-unnoted ns ts before fs (omega arith) others in
     told (eqb b 0)
     (λ e.
     let n : Noticed (terms ns) t (reply-of f) = S .noticed 0 (omega arith) (eqb-true b 0 e) in
     told (eqb f 0)
     (λ g.
-    let i : is-noted t ns ≡ false = unlisted-unnoted t ns (rw (eqb-true f 0 g) at n) in
+    let i : is-noted t ns ≡ false = noted-not t ns (rw (eqb-true f 0 g) at n) in
     rw (e, g, waiting, unnoted-in t (waiting ts before) ns i) (ap (λ l. t ∷ l) rest))
     (λ g.
     let (a, p, q) = noted-where (terms ns) t f (eqb-false f 0 g) n in
-    let i : is-noted t ns ≡ true = listed-noted t ns (rw (← q) (getD-in zero (terms ns) (f - 11) p)) in
+    let i : is-noted t ns ≡ true = noted-in t ns (rw (← q) (getD-in zero (terms ns) (f - 11) p)) in
     rw (e, g, waiting, unnoted-out t (waiting ts before) ns i) rest))
     (λ e.
     let z = eqb-false b 0 e in
