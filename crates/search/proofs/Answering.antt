@@ -39,14 +39,13 @@ module _ {laws : List law.Law} {left rights before : List ℕ} {n : ℕ} {m : Li
       → Begins laws left rights n m ws ws before before (record { stop = Full; opened = 0; noted = 0 })
   begins-none c h =
       record {
-        room = omega arith;
         exact = λ s ts hs p R l e f k.
             rw (le-ltb 0 (slots-of (length ws)) (omega arith), begins)
             (record { stop = refl; opened = refl; noted = refl; slots = no-slots ws }, record { kept = refl; still = λ k h. refl; noticed = λ k h z. rw z not-in-nil });
       }
 
   pub begins-long : 31 < length left → Begins laws left rights n m ws ws before before (record { stop = Full; opened = 0; noted = 0 })
-  begins-long h = record { room = omega arith; exact = λ s ts hs p R l e f k. absurd (omega (arith, size-of hs)) }
+  begins-long h = record { exact = λ s ts hs p R l e f k. absurd (omega (arith, size-of hs)) }
 
   module _ {slots : ℕ} {ws₁ ws′ after : List ℕ} {r : Ended} (c : slots ≡ slots-of (length ws)) (h : slots ≡ 0 → ⊥) (S : Starts ws₁ left) where
     -- left and the limit are small enough for the room that there is
@@ -54,7 +53,6 @@ module _ {laws : List law.Law} {left rights before : List ℕ} {n : ℕ} {m : Li
         → Explores laws rights n m slots most ws₁ ws′ before after r → Begins laws left rights n m ws ws′ before after r
     begun fits E =
         record {
-          room = rw (← c) (E .room);
           exact = λ s ts hs p R l e f k.
               let (i, j) = fits s hs p k in
               rw (← c) (rw (lt-ltb 0 slots (omega (arith, h)), begins) (E .exact s ts (S .slots s hs) R l e f i j));

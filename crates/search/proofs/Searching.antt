@@ -41,7 +41,7 @@ ends-as : (r : Ended) (ws : List ℕ) {ts : List Term} {before fs : List ℕ} {v
 ends-as r ws e E S = rw e (E, S)
 
 module _ {laws : List Law} {m : Limits} {slots : ℕ} {rights before : List ℕ} {waits most : ℕ} {ws₀ ws fs : List ℕ} {missing count i : ℕ}
-    (St : Standing laws m slots rights before waits most ws₀ ws fs missing count i) (room : count ≤ slots) where
+    (St : Standing laws m slots rights before waits most ws₀ ws fs missing count i) where
   -- it is over: all noted terms are opened, or as many as may be, or the next one is too far away
 
   abbrev Stops : Type 0
@@ -49,7 +49,7 @@ module _ {laws : List Law} {m : Limits} {slots : ℕ} {rights before : List ℕ}
 
   stops : ((ts : List Term) (ns : List Noted) → Slots ws ns → length ns ≡ count → going laws m slots ts (m .nodes - i) i ns ≡ stopped serve.over i ns) → Stops
   stops e =
-      explores laws m slots rights before (ended Over i count) room
+      explores laws m slots rights before (ended Over i count)
       (λ s ts A.
       let g = St s ts A in
       ends-as (ended Over i count) ws (g .is ∙ e (waiting ts before) (g .ns) (g .held) (g .counted))
@@ -216,13 +216,12 @@ module _ {laws : List Law} {m : Limits} {slots : ℕ} {rights ws fs : List ℕ} 
       pub ends-all : {c : ℕ} → r ≡ taken.Noted c → missing ≤ c
           → Explores laws rights waits m slots most ws₀ ws′ before fs′ (ended All (i + 1) (count + 1))
       ends-all e none =
-          explores laws m slots rights before (ended All (i + 1) (count + 1)) (omega (arith, (rw e at T) .room))
+          explores laws m slots rights before (ended All (i + 1) (count + 1))
           (λ s ts A. last (whole laws m slots rights before s ts) most ts before (A .listed) (A .each) (now s ts A) e none)
 
-      pub ends-full : count ≤ slots → r ≡ taken.Full
-          → Explores laws rights waits m slots most ws₀ ws′ before fs′ (ended Full (i + 1) count)
-      ends-full q e =
-          explores laws m slots rights before (ended Full (i + 1) count) q
+      pub ends-full : r ≡ taken.Full → Explores laws rights waits m slots most ws₀ ws′ before fs′ (ended Full (i + 1) count)
+      ends-full e =
+          explores laws m slots rights before (ended Full (i + 1) count)
           (λ s ts A. full (whole laws m slots rights before s ts) most ts before (A .listed) (A .each) (now s ts A) e)
 
 -- all results are taken

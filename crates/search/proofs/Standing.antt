@@ -120,13 +120,10 @@ module _ (laws : List Law) (m : Limits) (slots : ℕ) where
           is = rw (sub-zero (m .nodes));
         }
 
-    pub explores : {waits most : ℕ} {ws₀ ws fs : List ℕ} (r : Ended) → r .noted ≤ slots → Always waits most ws₀ (λ v ts. Concludes r ws ts before fs v)
+    pub explores : {waits most : ℕ} {ws₀ ws fs : List ℕ} (r : Ended) → Always waits most ws₀ (λ v ts. Concludes r ws ts before fs v)
         → Explores laws rights waits m slots most ws₀ ws before fs r
-    explores r room E =
-        record {
-          room = room;
-          exact = λ s ts S R l n d h k. E s ts (record { begun = S; listed = R; each = l; all = n; other = d; fits = h; limit = k });
-        }
+    explores r E =
+        record { exact = λ s ts S R l n d h k. E s ts (record { begun = S; listed = R; each = l; all = n; other = d; fits = h; limit = k }) }
 
   -- the inner loop's invariant: how the results were taken since the term was opened
   abbrev pub Progress : List ℕ → ℕ → ℕ → List ℕ → List ℕ → ℕ → List ℕ → List ℕ → ℕ → ℕ → List ℕ → List ℕ → ℕ → ℕ → ℕ → Type 0

@@ -73,7 +73,6 @@ Concludes r ws ts before after v = Ends r ws v × Settled (terms (v .noted)) ts 
 
 -- of `explore`, which has room for the results of terms of at most `most` nodes; left is none of the right sides
 pub record Explores (laws : List Law) (rights : List ℕ) (n : ℕ) (m : Limits) (slots most : ℕ) (ws ws′ before after : List ℕ) (r : Ended) : Type 0 where
-  pub room : r .noted ≤ slots
   pub exact : (s : Term) (ts : List Term) → Slots ws (start s) → Runs rights ts → length ts ≡ length before → n ≡ length (waiting ts before)
       → (s ∈ ts → ⊥) → size s ≤ most → m .size ≤ most
       → Concludes r ws′ ts before after (serve-on (results laws (limits-of m)) (m .steps) slots (waiting ts before) (m .nodes) 0 (start s))
@@ -88,7 +87,6 @@ begins laws m slots s ts =
 
 -- of `explore_from`
 pub record Begins (laws : List Law) (left rights : List ℕ) (n : ℕ) (m : Limits) (ws ws′ before after : List ℕ) (r : Ended) : Type 0 where
-  pub room : r .noted ≤ slots-of (length ws)
   pub exact : (s : Term) (ts : List Term) → IsRun left s → size s ≤ 31 → Runs rights ts → length ts ≡ length before → n ≡ length (waiting ts before)
       → (s ∈ ts → ⊥) → m .size ≤ 31 → Concludes r ws′ ts before after (begins laws (limits-of m) (slots-of (length ws)) s (waiting ts before))
 

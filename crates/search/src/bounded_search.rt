@@ -90,8 +90,8 @@ pub struct Ended {
 }
 
 // Opens the noted terms in turn, from the first one on, and notes their results, until the `waiting` right sides whose number is 0 are
-// noted, each with its slot told. The results are not noted when their term is opened, and no two are the same, so that each is new in its turn. The promise is
-// for terms whose lines have room in `order`.
+// noted, each with its slot told. The results are not noted when their term is opened, and no two are the same, so that each is new in its
+// turn. The promise is for terms whose lines have room in `order`.
 fn explore(
     rights: &[u32],
     replies: &mut [u32],

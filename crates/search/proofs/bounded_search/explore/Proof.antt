@@ -49,7 +49,7 @@ module _ (c : tie.At-loop Inv-loop μ-loop Inv-outer μ-outer) where
       let o = b .before .outer in
       let e = s .open-slot in
       let p = b .before .before .before .before .before .before .before .pre in
-      opened (o .inv .7) (o .inv .1) (b .outer-test .taken) (v .value-of .ensures) (omega (arith, limit .if1 .left)) (omega (arith, far .if2 .left))
+      opened (o .inv .7) (b .outer-test .taken) (v .value-of .ensures) (omega (arith, limit .if1 .left)) (omega (arith, far .if2 .left))
       (omega (arith, p .4))
       (ap (λ n. n / 20) (sym (e .kept .1 .1 .1 .1 .1 .0 ∙ o .inv .4)))
       (e .ensures)
@@ -163,7 +163,7 @@ same-length-4 : tie.Need-same-length-4 Inv-loop μ-loop Inv-outer μ-outer
 same-length-4 c = search needs
 
 returns : tie.Need-returns Inv-loop μ-loop Inv-outer μ-outer
-returns c = let o = c .before .outer in rw (o .inv .5, o .inv .6) (ends (o .inv .7) (o .inv .1) (omega arith))
+returns c = let o = c .before .outer in rw (o .inv .5, o .inv .6) (ends (o .inv .7) (omega arith))
 
 same-length-5 : tie.Need-same-length-5 Inv-loop μ-loop Inv-outer μ-outer
 same-length-5 c = search needs
@@ -178,7 +178,7 @@ same-length-8 : tie.Need-same-length-8 Inv-loop μ-loop Inv-outer μ-outer
 same-length-8 c = search needs
 
 returns-2 : tie.Need-returns-2 Inv-loop μ-loop Inv-outer μ-outer
-returns-2 c = let o = c .before .before .before .outer in rw (o .inv .5, o .inv .6) (ends-limit (o .inv .7) (o .inv .1) (omega arith))
+returns-2 c = let o = c .before .before .before .outer in rw (o .inv .5, o .inv .6) (ends-limit (o .inv .7) (omega arith))
 
 same-length-9 : tie.Need-same-length-9 Inv-loop μ-loop Inv-outer μ-outer
 same-length-9 c = search needs
@@ -196,7 +196,7 @@ returns-3 : tie.Need-returns-3 Inv-loop μ-loop Inv-outer μ-outer
 returns-3 c =
     let v = c .before .before in
     let o = v .before .before .before .before .before .outer in
-    rw (o .inv .5, o .inv .6) (ends-far (o .inv .7) (o .inv .1) (omega arith) (v .value-of .ensures) (omega arith))
+    rw (o .inv .5, o .inv .6) (ends-far (o .inv .7) (omega arith) (v .value-of .ensures) (omega arith))
 
 same-length-13 : tie.Need-same-length-13 Inv-loop μ-loop Inv-outer μ-outer
 same-length-13 c = search needs
@@ -237,7 +237,7 @@ returns-5 c =
     let h = f .before .before .before .before .before in
     let l = h .before in
     let v = l .loop in
-    ends-full (v .inv .1) (h .loop-test .taken) (room l) (f .take-result .ensures) (v .inv .5) (opened-here l) (v .inv .2) (c .enum-told .given .1)
+    ends-full (v .inv .1) (h .loop-test .taken) (room l) (f .take-result .ensures) (v .inv .5) (opened-here l) (c .enum-told .given .1)
 
 pub explore-spec : {M : Type 1} → statement M
 explore-spec =
