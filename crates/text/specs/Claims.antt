@@ -17,9 +17,9 @@ use Rattle.search.specs.Searched.{slots-of}
 use Rattle.search.specs.Claims.{Claims}
 use Rattle.text.specs.Bytes.{ascii, read-number}
 use Rattle.text.specs.TermText.{read-term}
-use Rattle.text.specs.Answer.{Answer, refused, accepted, printed, values}
+use Rattle.text.specs.Answer.{Answer, refused, accepted, field, printed, values}
 use Rattle.text.specs.Job.{Job}
-use Rattle.text.specs.FindJob.{read-find}
+use Rattle.text.specs.FindJob.{Layouts, layouts, alone-texts, read-find}
 use Rattle.text.specs.StepText.{read-steps}
 use Rattle.text.specs.Find.{outcome-text, searched, block, find}
 use Rattle.text.specs.Entry.{before-search}
@@ -64,6 +64,18 @@ pub data Block (slots : ℕ) (j : Job) (t : List ℕ) : Type 0 where
   answers : Answered j slots t → Block slots j t
   refuses : slots < noted (searched j) → t ≡ printed (refused 7) → Block slots j t
 
+-- the jobs and their blocks are those of the texts with one right line each, in the order of these lines
+pub record EachAlone (job : List ℕ) (jobs : List Job) (slots room : ℕ) : Type 0 where
+  -- the job's lines as they are written
+  pub written : Layouts
+  pub laid : layouts job ≡ some written
+  pub limits : List ℕ
+  pub lines : job ≡ field "left=" (written .left) ++ (flatMap (field "right=") (written .rights) ++ limits)
+  -- to each right line its job
+  pub read : map read-find (alone-texts written limits) ≡ map (λ j. accepted (j ∷ [])) jobs
+  -- and the job's block is what FIND prints to that text, with the same slots and room
+  pub blocks : map (λ text. printed (find text slots room)) (alone-texts written limits) ≡ map (block slots) jobs
+
 -- of every text that FIND answers
 pub record FindAnswered (job : List ℕ) (slots room : ℕ) (t : List ℕ) : Type 0 where
   pub jobs : List Job
@@ -71,6 +83,8 @@ pub record FindAnswered (job : List ℕ) (slots room : ℕ) (t : List ℕ) : Typ
   -- the blocks in job order
   pub blocks : t ≡ flatMap (block slots) jobs
   pub each : (j : Job) → j ∈ jobs → Block slots j (block slots j)
+  -- each right line has the block that it has alone
+  pub alone : EachAlone job jobs slots room
   -- one right side has an answer, never a block that says 7
   pub single : (j : Job) → jobs ≡ j ∷ [] → Answered j slots t
   pub fits : length t ≤ room

@@ -12,7 +12,7 @@ use Rattle.terms.specs.Letters.{letters, rising}
 use Rattle.search.specs.Line.{Limits}
 use Rattle.text.specs.TermText.{read-term}
 use Rattle.text.specs.Layout.{keyed, limit-lines}
-use Rattle.text.specs.Answer.{Answer, accepted, _>>=_, require, or-refuse}
+use Rattle.text.specs.Answer.{Answer, accepted, _>>=_, require, or-refuse, field}
 use Rattle.text.specs.Job.{Job, in-range, oriented, few}
 
 -- the values of the lines with one key, and what follows them
@@ -45,6 +45,14 @@ layouts bs =
     let more = repeated "right=" (length (r .rest)) (r .rest) in
     _then_ (limit-lines (more .rest)) λ m.
     some (record { left = l .front; rights = r .front ∷ more .values; limits = m })
+
+-- the text of a job with one right line
+abbrev pub alone-text : (left right limits : List ℕ) → List ℕ
+alone-text left right limits = field "left=" left ++ (field "right=" right ++ limits)
+
+-- the texts with one of the right lines each, in job order
+abbrev pub alone-texts : Layouts → (limits : List ℕ) → List (List ℕ)
+alone-texts w limits = map (λ right. alone-text (w .left) right limits) (w .rights)
 
 unfoldable pub read-terms : List (List ℕ) → Option (List Term)
 unfolding _then_ read-term

@@ -6,21 +6,21 @@ use mathlib.Core.Path.{_≡_, refl, sym, _∙_, ap}
 use mathlib.Core.Logic.{⊎-elim}
 use mathlib.Core.Bool.{Bool, true, false, not}
 use mathlib.Core.Option.{Option, none, some, bind as _then_}
-use mathlib.Core.List.{List, [], _∷_, _++_, flatMap, append-assoc}
+use mathlib.Core.List.{List, [], _∷_, _++_, map, flatMap, append-assoc}
 use lib.ListN.{length, length-append}
 use lib.Dec.{T, leb, leb→le}
 use borrow.Author.Tests.{le-leb}
-use Rattle.terms.specs.Lists.{_∈_, here, there, not-in-nil, cons-cases, of-map}
+use Rattle.terms.specs.Lists.{_∈_, here, there, not-in-nil, cons-cases}
 use Rattle.terms.specs.Term.{Term, size, same}
 use Rattle.terms.specs.Letters.{letters}
 use Rattle.search.specs.Line.{Limits}
 use Rattle.text.specs.Bytes.{ascii, after, line, Split}
 use Rattle.text.specs.Layout.{keyed, limit-lines, layout}
 use Rattle.text.specs.TermText.{read-term}
-use Rattle.text.specs.Answer.{accepted, _>>=_, require, or-refuse, fitting, field}
+use Rattle.text.specs.Answer.{Answer, refused, accepted, _>>=_, require, or-refuse, fitting, field, printed}
 use Rattle.text.specs.Job.{Job, in-range, few, oriented}
-use Rattle.text.specs.FindJob.{Repeated, repeated, Layouts, layouts, read-terms, every, several, in-place, accept-each, read-find}
-use Rattle.text.specs.Find.{alone, together, find}
+use Rattle.text.specs.FindJob.{Repeated, repeated, Layouts, layouts, alone-text, alone-texts, read-terms, every, several, in-place, accept-each, read-find}
+use Rattle.text.specs.Find.{alone, block, together, find}
 use Rattle.text.specs.Theory.Accepted.{If-accepted, accepted-then, required-then}
 use Rattle.text.specs.Theory.Keyed.{some-then, Read, KeyedParts, keyed-parts}
 use Rattle.text.specs.Theory.OneRight.{layout-layouts}
@@ -89,10 +89,6 @@ part-shorter f (y ∷ ys) x m =
     (λ n. omega (arith, length-append (f y) (flatMap f ys), part-shorter f ys x n))
     (cons-cases m)
 
--- the text of a job with one right side
-abbrev pub alone-text : List ℕ → List ℕ → List ℕ → List ℕ
-alone-text left right limits = field "left=" left ++ (field "right=" right ++ limits)
-
 -- the lines of a job, and those of the jobs with one of its right sides
 pub record LayoutParts (bs : List ℕ) (j : Layouts) : Type 0 where
   -- the limits' lines as they are written
@@ -156,18 +152,23 @@ layouts-parts bs j e =
     rw whole at
     (layout-parts bs a r (keyed-parts "left=" bs read-left) (keyed-parts "right=" (a .rest) read-right) more (repeated-parts "right=" (length (r .rest)) (r .rest)) m limits)
 
--- the right side that a term was read from
-read-from : (bs : List (List ℕ)) (ts : List Term) → read-terms bs ≡ some ts → (t : Term) → t ∈ ts → (b : List ℕ) × b ∈ bs × (read-term b ≡ some t)
+-- to each right side the term that was read from it
+read-each : (text : List ℕ → List ℕ) (job : Term → Job) (bs : List (List ℕ)) (ts : List Term) → read-terms bs ≡ some ts
+    → ((b : List ℕ) (t : Term) → b ∈ bs → t ∈ ts → read-term b ≡ some t → read-find (text b) ≡ accepted (job t ∷ []))
+    → map read-find (map text bs) ≡ map (λ j. accepted (j ∷ [])) (map job ts)
 unfolding read-terms _then_
-read-from [] ts e t m =
-    let f : _≡_ {A = List Term} [] ts = cc in
-    absurd (not-in-nil (rw (← f) at m))
-read-from (b ∷ bs) ts e t m =
+read-each text job [] ts e same =
+    let q : _≡_ {A = List Term} [] ts = cc in
+    rw (← q)
+read-each text job (b ∷ bs) ts e same =
     some-then (read-term b) _ e λ u read-first e.
     some-then (read-terms bs) _ e λ us read-rest e.
-    let f : u ∷ us ≡ ts = cc in
-    ⊎-elim (λ (i : t ≡ u). (b, here refl, read-first ∙ ap some (sym i))) (λ n. let (c, i, r) = read-from bs us read-rest t n in (c, there i, r))
-    (cons-cases (rw (← f) at m))
+    let q : u ∷ us ≡ ts = cc in
+    rw (
+      ← q,
+      same b u (here refl) (rw (← q) (here refl)) read-first,
+      read-each text job bs us read-rest (λ c t i k. same c t (there i) (rw (← q) (there k))),
+    )
 
 or-refuse-some : {A : Type 0} (n : ℕ) (o : Option A) (x : A) → or-refuse n o ≡ accepted x → o ≡ some x
 unfolding or-refuse
@@ -196,42 +197,55 @@ read-alone : (bs : List ℕ) (left right : List ℕ) (s t : Term) (m : Limits) �
 unfolding read-find read-terms _>>=_ require or-refuse _then_
 read-alone bs left right s t m short laid read-s read-t = rw (le-leb (length bs) 4096 short, laid, read-s, read-t)
 
--- a text with one of the right sides, no longer than the job, is read as j alone
-pub record ReadAlone (bs : List ℕ) (j : Job) : Type 0 where
+-- each of the jobs is that of the text with its right line alone
+pub record ReadAlone (bs : List ℕ) (js : List Job) : Type 0 where
   pub written : Layouts
+  pub laid : layouts bs ≡ some written
   pub lines : LayoutParts bs written
-  pub right : List ℕ
-  pub listed : right ∈ written .rights
-  pub read : read-find (alone-text (written .left) right (lines .limits)) ≡ accepted (j ∷ [])
+  pub read : map read-find (alone-texts written (lines .limits)) ≡ map (λ j. accepted (j ∷ [])) js
 
-abbrev AllAlone : List ℕ → List Job → Type 0
-AllAlone bs js = (j : Job) → j ∈ js → ReadAlone bs j
-
-pub jobs-alone : (bs : List ℕ) → If-accepted (AllAlone bs) (read-find bs)
+pub jobs-alone : (bs : List ℕ) → If-accepted (ReadAlone bs) (read-find bs)
 unfolding read-find
 jobs-alone bs =
-    required-then (AllAlone bs) 1 (leb (length bs) 4096) _ λ short.
-    accepted-then (AllAlone bs) (or-refuse 1 (layouts bs)) _ λ l laid.
-    required-then (AllAlone bs) 9 (leb (length (l .rights)) 16) _ λ _.
-    accepted-then (AllAlone bs) (or-refuse 2 (read-term (l .left))) _ λ s read-s.
-    accepted-then (AllAlone bs) (or-refuse 2 (read-terms (l .rights))) _ λ ts read-ts.
-    accept-each-then s (l .limits) (AllAlone bs) ts λ each _ j m.
-    let (t, i, e) = of-map (λ t. oriented s t (l .limits)) ts m in
-    let parts = layouts-parts bs l (or-refuse-some 1 (layouts bs) l laid) in
-    let (r, k, read-t) = read-from (l .rights) ts (or-refuse-some 2 (read-terms (l .rights)) ts read-ts) t i in
+    required-then (ReadAlone bs) 1 (leb (length bs) 4096) _ λ short.
+    accepted-then (ReadAlone bs) (or-refuse 1 (layouts bs)) _ λ l read-l.
+    required-then (ReadAlone bs) 9 (leb (length (l .rights)) 16) _ λ _.
+    accepted-then (ReadAlone bs) (or-refuse 2 (read-term (l .left))) _ λ s read-s.
+    accepted-then (ReadAlone bs) (or-refuse 2 (read-terms (l .rights))) _ λ ts read-ts.
+    accept-each-then s (l .limits) (ReadAlone bs) ts λ each _.
+    let laid = or-refuse-some 1 (layouts bs) l read-l in
+    let parts = layouts-parts bs l laid in
+    let text : List ℕ → List ℕ = λ r. alone-text (l .left) r (parts .limits) in
     record {
       written = l;
+      laid = laid;
       lines = parts;
-      right = r;
-      listed = k;
-      read = read-alone (alone-text (l .left) r (parts .limits)) (l .left) r s t (l .limits) (omega (arith, parts .shorter r k, leb→le (length bs) 4096 short))
+      read = read-each text (λ t. oriented s t (l .limits)) (l .rights) ts (or-refuse-some 2 (read-terms (l .rights)) ts read-ts) λ r t k i read-t.
+          read-alone (text r) (l .left) r s t (l .limits) (omega (arith, parts .shorter r k, leb→le (length bs) 4096 short))
           (parts .alone r k) (or-refuse-some 2 (read-term (l .left)) s read-s) read-t
-          ∙ accept-alone s t (l .limits) (each t i)
-          ∙ ap (λ j. accepted (j ∷ [])) e;
+          ∙ accept-alone s t (l .limits) (each t i);
     }
 
--- the block of a job is what FIND answers to that text, with the same slots and room enough
-pub block-alone : (bs : List ℕ) (j : Job) (a : ReadAlone bs j) (slots room : ℕ)
-    → find (alone-text (a .written .left) (a .right) (a .lines .limits)) slots room ≡ _>>=_ (alone slots j) (fitting room)
-unfolding find together _>>=_
-block-alone bs j a slots room = rw (a .read)
+module _ (slots room : ℕ) where
+  printed-fitting : (a : Answer (List ℕ)) → length (printed a) ≤ room → printed (_>>=_ a (fitting room)) ≡ printed a
+  unfolding printed _>>=_ fitting require
+  printed-fitting (refused n) h = refl
+  printed-fitting (accepted t) h = rw (le-leb (length t) room h)
+
+  -- the block of a job is what FIND prints to a text that is read as this job, where there is room for it
+  pub block-alone : (bs : List ℕ) (j : Job) → read-find bs ≡ accepted (j ∷ []) → length (block slots j) ≤ room → printed (find bs slots room) ≡ block slots j
+  unfolding find together _>>=_ block
+  block-alone bs j e h = rw e (printed-fitting (alone slots j) h)
+
+  -- likewise of several texts
+  pub blocks-alone : (texts : List (List ℕ)) (js : List Job) → map read-find texts ≡ map (λ j. accepted (j ∷ [])) js
+      → length (flatMap (block slots) js) ≤ room → map (λ text. printed (find text slots room)) texts ≡ map (block slots) js
+  unfolding flatMap
+  blocks-alone [] [] e h = refl
+  blocks-alone [] (j ∷ js) e h = absurd (let z = ap length e in omega arith)
+  blocks-alone (t ∷ ts) [] e h = absurd (let z = ap length e in omega arith)
+  blocks-alone (t ∷ ts) (j ∷ js) e h =
+      let first : read-find t ≡ accepted (j ∷ []) = cc in
+      let rest : map read-find ts ≡ map (λ j. accepted (j ∷ [])) js = cc in
+      let both = length-append (block slots j) (flatMap (block slots) js) in
+      rw (block-alone t j first (omega (arith, both)), blocks-alone ts js rest (omega (arith, both)))
