@@ -21,12 +21,12 @@ use Rattle.text.specs.declared.job.accept.Reading.the-variants.{Refused,
 use Rattle.text.specs.Answer.{Answer, refused, accepted, _>>=_, require, or-refuse}
 use Rattle.text.specs.TermText.{read-term}
 use Rattle.text.specs.Layout.{Layout, layout}
-use Rattle.text.specs.Job.{Job, read-job}
+use Rattle.text.specs.Job.{Job, read-one, read-job}
 use Rattle.text.specs.FindJob.{Layouts, layouts, read-terms, accept-each, read-find, jobs-of}
 use Rattle.text.specs.SideRead.{TermRead}
 use Rattle.text.specs.LayoutRead.{LaidOut}
 use Rattle.text.specs.Accepting.{Answers, jobs-in, Inside, RightsRead, ReadsRights, AcceptsSides, ReadsSides, ReadsFind, ReadsJob}
-use Rattle.text.specs.Theory.OneRight.{with-one, layout-layouts, read-one, read-job-is, read-as-one}
+use Rattle.text.specs.Theory.OneRight.{with-one, layout-layouts, read-as-one}
 use Rattle.text.proofs.Rights.{term-sized, terms-counted}
 use Rattle.text.proofs.Accepts.{one-large}
 
@@ -136,12 +136,12 @@ of-one bs (accepted job) e (Accepted j) left rights h =
 
 module _ (bs : List ℕ) where
   pub job-long : 1024 < length bs → read-job bs ≡ refused 1
-  unfolding read-job _>>=_ require
+  unfolding read-job read-one _>>=_ require
   job-long h = rw (lt-leb (length bs) 1024 h)
 
   module _ (short : length bs ≤ 1024) where
     not-one : ((l : Layout) → layouts bs ≡ some (with-one l) → ⊥) → read-job bs ≡ refused 1
-    unfolding read-job _>>=_ require or-refuse
+    unfolding read-job read-one _>>=_ require or-refuse
     not-one h = rw (le-leb (length bs) 1024 short) (rw (go (layout bs) refl))
       where
         go : (o : Option Layout) → layout bs ≡ o → layout bs ≡ none
@@ -158,12 +158,12 @@ module _ (bs : List ℕ) where
           let same : lines-of o ≡ with-one l = cc (o .lines) in
           h (o .counted ∙ ap (λ (x : Layouts). length (x .rights)) same)
 
-      same-bound : read-one 4096 bs ≡ read-one 1024 bs
-      unfolding read-one
+      same-bound : read-one 4096 bs ≡ read-job bs
+      unfolding read-job read-one
       same-bound = rw (le-leb (length bs) 4096 (omega arith), le-leb (length bs) 1024 short)
 
       pub job-read : w .rights ≡ 1 → {r : Reading} {left rights : List ℕ} → ReadsSides bs r left rights → ReadsJob bs r left rights
       job-read one {r} {left} {rights} sides =
-          let job = read-as-one bs (rw (o .lines) (sym (o .counted) ∙ one)) ∙ ap (λ a. _>>=_ a (λ j. accepted (j ∷ []))) (same-bound ∙ sym (read-job-is bs)) in
+          let job = read-as-one bs (rw (o .lines) (sym (o .counted) ∙ one)) ∙ ap (λ a. _>>=_ a (λ j. accepted (j ∷ []))) same-bound in
           of-one bs (read-job bs) refl r left rights
           (subst (λ x. Answers x r left rights) job (find-read bs (omega arith) o (omega (arith, one)) sides))

@@ -19,7 +19,7 @@ use Rattle.search.specs.Searched.{slots-of}
 use Rattle.text.specs.TermText.{read-term}
 use Rattle.text.specs.Layout.{layout}
 use Rattle.text.specs.Answer.{Answer, refused, accepted, _>>=_, require, or-refuse, fitting}
-use Rattle.text.specs.Job.{Job, in-range, few, accept, read-job}
+use Rattle.text.specs.Job.{Job, in-range, few, accept, read-one, read-job}
 use Rattle.text.specs.FindJob.{layouts, read-terms, every, in-place, all-small, accept-each, read-find}
 use Rattle.text.specs.Find.{searched, alone, together, find}
 use Rattle.text.specs.Words.{words-text, words-entry}
@@ -60,7 +60,7 @@ module _ (ns : List ℕ) {B : Type 0} where
   numbered-among ms (accepted x) wider h = tt
 
 pub read-numbered : (bs : List ℕ) → Numbered job-numbers (read-job bs)
-unfolding read-job accept
+unfolding read-job read-one accept
 read-numbered bs =
     numbered-require ns 1 (leb (length bs) 1024) _ (search among)
     (numbered-or ns 1 (layout bs) _ (search among) λ j.
@@ -144,6 +144,7 @@ module _ (P : ℕ → Type 0) where
   each-in [] h i = absurd (not-in-nil i)
   each-in (m ∷ ns) (h, k) i = ⊎-elim (λ e. subst P (sym e) h) (λ j. each-in ns k j) (cons-cases i)
 
+-- each number is below 100, as a refusal has it
 abbrev pub Low : List ℕ → Type 0
 Low = Each (λ n. n < 100)
 

@@ -1,4 +1,4 @@
--- A text with one right line is read as WORDS and RENAME read it, but for the bound on its bytes, and answered as that job by itself.
+-- A text with one right line at most is read as WORDS and RENAME read it, but for the bound on its bytes; one of at most 1,024 bytes is answered as the job of six lines.
 use Prim.Native.Nat.{ℕ, suc, _≤_}
 use Prim.Native.String.{String}
 use native.Mathlib.Omega.{arith}
@@ -19,7 +19,7 @@ use Rattle.text.specs.Bytes.{ascii, after, line, Split}
 use Rattle.text.specs.TermText.{read-term}
 use Rattle.text.specs.Layout.{keyed, limit-lines, Layout, layout}
 use Rattle.text.specs.Answer.{Answer, refused, accepted, _>>=_, require, or-refuse, fitting}
-use Rattle.text.specs.Job.{Job, in-range, few, oriented, accept, read-job}
+use Rattle.text.specs.Job.{Job, in-range, few, oriented, accept, read-one}
 use Rattle.text.specs.FindJob.{Repeated, repeated, Layouts, layouts, read-terms, every, several, in-place, accept-each, read-find}
 use Rattle.text.specs.Find.{outcome-text, searched, alone, together, find}
 use Rattle.text.specs.Theory.Keyed.{some-then}
@@ -109,20 +109,6 @@ accept-one s t m =
     rw (and-true (leb (size t) 31), and-true (few (letters s ++ letters t)), and-true (not (same s t)))
     (chained (leb (size s) 31 && leb (size t) 31) (few (letters s ++ letters t)) (in-range m) (not (same s t)) (oriented s t m))
 
--- `read-job` with another bound on the bytes
-unfoldable pub read-one : (most : ℕ) → List ℕ → Answer Job
-unfolding _>>=_ require or-refuse layout read-term accept
-read-one most bs = do
-  _ ← require 1 (leb (length bs) most)
-  j ← or-refuse 1 (layout bs)
-  s ← or-refuse 2 (read-term (j .left))
-  t ← or-refuse 2 (read-term (j .right))
-  accept s t (j .limits)
-
-pub read-job-is : (bs : List ℕ) → read-job bs ≡ read-one 1024 bs
-unfolding read-job read-one
-read-job-is bs = refl
-
 -- both sides read, and the refusals that follow
 both-read : (b : Bool) (o p : Option Term) (m : Limits)
     → (_>>=_ (require 1 b) λ _. _>>=_ (or-refuse 2 o) λ s. _>>=_ (or-refuse 2 (_then_ p (λ t. some (t ∷ [])))) λ ts. accept-each s ts m)
@@ -181,7 +167,7 @@ module _ (slots room : ℕ) where
   unfolding find find-one
   find-as-one bs h = rw (read-as-one bs h) (together-one (read-one 4096 bs))
 
-  -- of at most 1,024 bytes it is answered as before there were several right sides
-  pub as-before : (bs : List ℕ) → length bs ≤ 1024 → OneAtMost (layouts bs) → find bs slots room ≡ find-one 1024 bs slots room
+  -- a text of at most 1,024 bytes with one right line at most is answered as the job of six lines
+  pub as-six-lines : (bs : List ℕ) → length bs ≤ 1024 → OneAtMost (layouts bs) → find bs slots room ≡ find-one 1024 bs slots room
   unfolding find-one read-one
-  as-before bs short h = find-as-one bs h ∙ rw (le-leb (length bs) 4096 (omega arith), le-leb (length bs) 1024 short)
+  as-six-lines bs short h = find-as-one bs h ∙ rw (le-leb (length bs) 4096 (omega arith), le-leb (length bs) 1024 short)
