@@ -130,13 +130,13 @@ module _ {left right : List ℕ} {ended : Ended} {nodes slots : ℕ} {j : Job} (
   unknown : Knows (whole .noted) (j .right) → ⊥
   unknown (z, m, e) = U .missing (rw (← e) (in-map (λ n. n .term) m))
 
-  unmet-alone : theory.Unmet (stop-of (ended .stop)) slots j whole
+  unmet-alone : theory.UnmetBlock (stop-of (ended .stop)) slots j whole
   unmet-alone =
-      subst (λ s. theory.Unmet s slots j whole) (sym (U .ends .stop))
+      subst (λ s. theory.UnmetBlock s slots j whole) (sym (U .ends .stop))
       (block-served slots j (U .others) (U .among) (differ S) .unmet (U .indirect) unknown)
 
   module _ {stop : Stop} (is : ended .stop ≡ stop) where
-    by-stop : theory.Unmet (stop-of stop) slots j whole
+    by-stop : theory.UnmetBlock (stop-of stop) slots j whole
     by-stop = rw is at unmet-alone
 
   pub unmet-some : ended .stop ≡ All → ⊥
@@ -189,7 +189,7 @@ known-alone : {left right ws : List ℕ} (reply : ℕ) {nodes slots : ℕ} {ende
     → Alone (runs-out reply ended) slots j
 known-alone reply {slots = slots} {ended} {j} K = go (reply-of reply) refl
   where
-    by-stop : (v : serve.Served) (t : Stop) → theory.Unmet (stop-of t) slots j v → Alone (elim t [ All ↦ true | Over ↦ false | Full ↦ true ]) slots j
+    by-stop : (v : serve.Served) (t : Stop) → theory.UnmetBlock (stop-of t) slots j v → Alone (elim t [ All ↦ true | Over ↦ false | Full ↦ true ]) slots j
     by-stop v All h = absurd h
     by-stop v Over h = block-alone slots j h
     by-stop v Full h = h

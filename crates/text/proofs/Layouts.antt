@@ -16,7 +16,7 @@ use Rattle.text.specs.declared.job.Number.the-variants.{Is, TooLarge, Ma
 use Rattle.text.specs.declared.job.Value.the-variants.{Between, Missing}
 use Rattle.text.specs.declared.job.lines.Limit.{Limit}
 use Rattle.text.specs.declared.job.lines.Limit.the-variants as limit
-use Rattle.text.specs.declared.job.lines.Rights.{Rights}
+use Rattle.text.specs.declared.job.lines.RightLines.{RightLines}
 use Rattle.text.specs.Bytes.{ascii, end, read-number, Split}
 use Rattle.text.specs.Layout.{keyed, limit-line, limit-lines}
 use Rattle.text.specs.FindJob.{Repeated, Layouts, layouts}
@@ -141,7 +141,7 @@ module _ (s : List ℕ) where
         go none e = rw (l .parts "left=" refl) (rw (e, all-none "right=" (drop (b + 1) s) e))
         go (some r) e = rw (l .parts "left=" refl) (rw (e, all-some "right=" (drop (b + 1) s) e))
 
-    module _ {places₀ places : List ℕ} {r : Rights} (R : RightsIn s (b + 1) places₀ places r) where
+    module _ {places₀ places : List ℕ} {r : RightLines} (R : RightsIn s (b + 1) places₀ places r) where
       layouts-read : layouts s ≡ laid (slice a b s) (record { values = R .values; rest = drop (r .end) s })
       layouts-read = layouts-laid ∙ ap (laid (slice a b s)) (R .lines)
 

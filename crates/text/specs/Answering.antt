@@ -85,5 +85,6 @@ without reply.Unnoted ended = elim (ended .stop) [ All ↦ true | Over ↦ false
 without (reply.Direct w) ended = false
 without (reply.Noted k) ended = false
 
+-- likewise by the number that stands for the reply
 abbrev pub runs-out : ℕ → Ended → Bool
 runs-out n ended = without (reply-of n) ended

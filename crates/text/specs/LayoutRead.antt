@@ -15,7 +15,7 @@ use Rattle.text.specs.declared.job.lines.Limit.{Limit}
 use Rattle.text.specs.declared.job.lines.Limit.the-variants as limit
 use Rattle.text.specs.declared.job.lines.Limited.{Limited}
 use Rattle.text.specs.declared.job.lines.Limited.the-variants as limited
-use Rattle.text.specs.declared.job.lines.Rights.{Rights}
+use Rattle.text.specs.declared.job.lines.RightLines.{RightLines}
 use Rattle.text.specs.declared.job.lines.Written.{Written}
 use Rattle.text.specs.declared.job.lines.Laid.{Laid}
 use Rattle.text.specs.declared.job.lines.Laid.the-variants as laid
@@ -72,7 +72,7 @@ abbrev pub Placed : List ℕ → List ℕ → List (List ℕ) → Type 0
 Placed s places values = (k : ℕ) → k < length values → 2 * k + 1 < length places → PlacedAt s places k (getD values k [])
 
 -- of `right_lines`
-pub record RightsIn (s : List ℕ) (from : ℕ) (places places′ : List ℕ) (r : Rights) : Type 0 where
+pub record RightsIn (s : List ℕ) (from : ℕ) (places places′ : List ℕ) (r : RightLines) : Type 0 where
   pub kept : length places′ ≡ length places
   pub ends : r .end ≤ length s
   pub values : List (List ℕ)

@@ -29,10 +29,10 @@ module _ (slots : ℕ) (j : Job) where
   alone-refuses h = rw (lt-leb (noted (searched j)) slots h)
 
 -- a right side that the search has not noted
-abbrev pub Unmet : Stop → ℕ → Job → Served → Type 0
-Unmet all slots j s = ⊥
-Unmet over slots j s = alone slots j ≡ accepted (outcome-text semiring j (unproved (s .opened) (length (s .noted))))
-Unmet full slots j s = alone slots j ≡ refused 7
+abbrev pub UnmetBlock : Stop → ℕ → Job → Served → Type 0
+UnmetBlock all slots j s = ⊥
+UnmetBlock over slots j s = alone slots j ≡ accepted (outcome-text semiring j (unproved (s .opened) (length (s .noted))))
+UnmetBlock full slots j s = alone slots j ≡ refused 7
 
 pub record BlockServed (slots : ℕ) (j : Job) (s : Served) : Type 0 where
   -- a law matches the whole equation
@@ -42,7 +42,7 @@ pub record BlockServed (slots : ℕ) (j : Job) (s : Served) : Type 0 where
   pub met : direct semiring (j .left) (j .right) ≡ none → (n : Noted) (p k : ℕ) → Meets (s .noted) (j .right) n p k
       → alone slots j ≡ accepted (outcome-text semiring j (proved (n .trail) (suc p) (suc k)))
   -- it is not noted
-  pub unmet : direct semiring (j .left) (j .right) ≡ none → (Knows (s .noted) (j .right) → ⊥) → Unmet (s .stop) slots j s
+  pub unmet : direct semiring (j .left) (j .right) ≡ none → (Knows (s .noted) (j .right) → ⊥) → UnmetBlock (s .stop) slots j s
 
 pub block-served : (slots : ℕ) (j : Job) (rights : List Term) → j .right ∈ rights → (j .left ≡ j .right → ⊥)
     → BlockServed slots j (serve semiring (j .limits) slots (j .left) rights)
@@ -57,7 +57,7 @@ block-served slots j rights i differ =
           go (serve semiring (j .limits) slots (j .left) rights) (serve semiring (j .limits) slots (j .left) rights .stop) (r .few) (r .missed h);
     }
   where
-    go : (s : Served) (t : Stop) → length (s .noted) ≤ slots → Missing t slots s (searched j) → Unmet t slots j s
+    go : (s : Served) (t : Stop) → length (s .noted) ≤ slots → Missing t slots s (searched j) → UnmetBlock t slots j s
     go s all few m = m
     go s over few m = alone-answers slots j _ m few
     go s full few m = alone-refuses slots j m

@@ -136,6 +136,7 @@ rename-numbered bs room =
 
 -- what holds of each number of a list
 module _ (P : ℕ → Type 0) where
+  -- P holds of each number
   abbrev pub Each : List ℕ → Type 0
   Each [] = Unit {0}
   Each (n ∷ ns) = P n × Each ns

@@ -148,29 +148,3 @@ module _ (s : Term) (m : Limits) where
   -- of several right sides left stays left
   pub several-as-written : (ts : List Term) → T (several ts) → If-accepted (λ js. js ≡ jobs-of s ts m) (accept-each s ts m)
   several-as-written ts many = accept-each-then s m (λ js. js ≡ jobs-of s ts m) ts (λ _. several-kept ts many)
-
--- all jobs have one left side and the same limits
-pub record OneLeft (js : List Job) : Type 0 where
-  pub left : Term
-  pub rights : List Term
-  pub limits : Limits
-  pub are : js ≡ jobs-of left rights limits
-
-one-left : (s : Term) (ts : List Term) (m : Limits) → If-accepted OneLeft (accept-each s ts m)
-unfolding several
-one-left s ts m = accept-each-then s m OneLeft ts (λ _. by-count ts)
-  where
-    by-count : (ts : List Term) → T (in-place s ts) → OneLeft (map (λ t. oriented s t m) ts)
-    by-count [] placed = record { left = s; rights = []; limits = m; are = refl }
-    by-count (t ∷ []) placed = let j = oriented s t m in record { left = j .left; rights = j .right ∷ []; limits = j .limits; are = refl }
-    by-count (t ∷ u ∷ us) placed = record { left = s; rights = t ∷ u ∷ us; limits = m; are = several-kept s m (t ∷ u ∷ us) tt placed }
-
-pub jobs-one-left : (bs : List ℕ) → If-accepted OneLeft (read-find bs)
-unfolding read-find
-jobs-one-left bs =
-    required-then OneLeft 1 (leb (length bs) 4096) _ λ _.
-    accepted-then OneLeft (or-refuse 1 (layouts bs)) _ λ l _.
-    required-then OneLeft 9 (leb (length (l .rights)) 16) _ λ _.
-    accepted-then OneLeft (or-refuse 2 (read-term (l .left))) _ λ s _.
-    accepted-then OneLeft (or-refuse 2 (read-terms (l .rights))) _ λ ts _.
-    one-left s ts (l .limits)

@@ -1,5 +1,5 @@
 // A block of FIND's answer: what one search for all right sides says of one of them, as text.
-// Tests that no accepted job meets (letters past six, a noted right side without a parent) stand in place of requirements.
+// Tests that no accepted job meets stand in place of requirements: letters past six, runs longer than 31, a noted right side without a parent, and a search that stopped since all are noted, for a right side that is not.
 ghost use mathlib.Core.List.{List, [], _∷_, flatMap};
 ghost use Prim.Native.Nat.{ℕ, _≤_};
 ghost use lib.ListN.{length};

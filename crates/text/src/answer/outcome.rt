@@ -42,7 +42,7 @@ pub fn put_none(
     put_yes_no_line(out, p, b"cut=", cut)
 }
 
-// What a program prints of a refusal.
+// The text of a refusal: what a program prints, and what a block says.
 pub fn put_refused(out: &mut [u8], at: usize, number: usize) -> usize
     ensures { λ r. ⌜ Put (printed (refused number)) (now (out .entry)) at r (now (out .exit)) ⌝ }
 {

@@ -40,7 +40,7 @@ pub struct Written {
 }
 
 // How many `right=` lines there are one after the other, and where the next line starts.
-struct Rights {
+struct RightLines {
     count: usize,
     end: usize,
 }
@@ -109,7 +109,7 @@ fn keep_place(places: &mut [u32], k: usize, from: usize, to: usize)
 }
 
 // The `right=` lines from a position on: the places of their values are kept, two numbers to each, as far as there is room.
-fn right_lines(s: &[u8], from: usize, places: &mut [u32]) -> Rights
+fn right_lines(s: &[u8], from: usize, places: &mut [u32]) -> RightLines
     requires { ⌜ (from ≤ length (now s)) × (length (now s) ≤ 4096) ⌝ }
     ensures { λ r. ⌜ RightsIn (now (s .entry)) from (now (places .entry)) (now (places .exit)) r ⌝ }
 {
@@ -117,7 +117,7 @@ fn right_lines(s: &[u8], from: usize, places: &mut [u32]) -> Rights
     let mut at = from;
     loop {
         let Value::Between(start, end) = keyed(s, at, b"right=") else {
-            return Rights { count, end: at };
+            return RightLines { count, end: at };
         };
         keep_place(places, count, start, end);
         count += 1;
