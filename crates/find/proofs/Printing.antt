@@ -34,11 +34,6 @@ short-number n h =
     rw (number-more n large, length-append (number (n / 10)) ((48 + n % 10) ∷ []), number-small (n / 10) (omega arith)) (omega arith))
     (below? n 10)
 
--- the two lines of a refusal
-pub refusal-text : (n : ℕ) → ascii "answer=refused\nnumber=" ++ number n ++ (10 ∷ []) ≡ printed (refused n)
-unfolding printed field ascii
-refusal-text n = refl
-
 refusal-short : (n : ℕ) → n < 100 → length (printed (refused n)) ≤ 32768
 unfolding printed field ascii
 refusal-short n h = omega (arith, length-append (number n) (10 ∷ []), short-number n h)

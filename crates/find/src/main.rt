@@ -6,8 +6,8 @@ ghost use Rattle.find.specs.Prints.{Prints};
 use libc::STDERR_FILENO;
 use libc::STDIN_FILENO;
 use libc::STDOUT_FILENO;
+use text::answer::outcome;
 use text::entry;
-use text::put;
 
 // What the program prints, at the front of the output: the answer, or two lines with the refusal's number.
 fn respond(input: &[u8], output: &mut [u8], workspace: &mut [u32]) -> usize
@@ -18,9 +18,7 @@ fn respond(input: &[u8], output: &mut [u8], workspace: &mut [u32]) -> usize
     if 100 <= number {
         return number - 100;
     }
-    let named = put::put_bytes(output, 0, b"answer=refused\nnumber=");
-    let numbered = put::put_number(output, named, number);
-    put::put_byte(output, numbered, b'\n')
+    outcome::put_refused(output, 0, number)
 }
 
 // One byte more than a job may have is read, so that a longer input is seen to be too long.

@@ -1,7 +1,5 @@
 -- `respond` meets its contract: below 100 the number is a refusal's, and its text is put.
-use Rattle.text.specs.Bytes.{ascii}
-use Rattle.text.proofs.Overlay.{then, put-as}
-use Rattle.find.proofs.Printing.{refusal-text, answer-prints, refusal-prints}
+use Rattle.find.proofs.Printing.{answer-prints, refusal-prints}
 use borrow.Author.Needs.{needs}
 use Rattle.find.proofs.respond.Statement.{statement}
 use Rattle.find.proofs.respond.Tie as tie
@@ -21,17 +19,8 @@ returns c =
     let p = f .before .before .before .before .before .before .pre in
     answer-prints (p .0) (p .1) (f .find .ensures) (c .if1 .taken)
 
-slice-aggregate-put-bytes : tie.Need-slice-aggregate-put-bytes
-slice-aggregate-put-bytes c = search needs
-
-put-bytes-requires : tie.Need-put-bytes-requires
-put-bytes-requires c κs = search needs
-
-put-number-requires : tie.Need-put-number-requires
-put-number-requires c κs = search needs
-
-put-byte-requires : tie.Need-put-byte-requires
-put-byte-requires c κs = search needs
+put-refused-requires : tie.Need-put-refused-requires
+put-refused-requires c κs = search needs
 
 same-length-3 : tie.Need-same-length-3
 same-length-3 c = search needs
@@ -40,15 +29,12 @@ same-length-4 : tie.Need-same-length-4
 same-length-4 c = search needs
 
 returns-2 : tie.Need-returns-2
-unfolding ascii
 returns-2 c =
-    let n = c .before .before .before .before .before .before in
-    let b = n .before .before .before .before in
-    let e = b .before .before .before in
+    let b = c .before .before in
+    let e = b .before .before in
     let f = e .before .before .before .before .before in
     let p = f .before .before .before .before .before .before .pre in
-    let put = then (then (b .put-bytes .ensures) (n .put-number .ensures)) (c .before .before .put-byte .ensures) in
-    refusal-prints (p .0) (p .1) (f .find .ensures) (e .if1 .left) (put-as (refusal-text (f .find .result)) put)
+    refusal-prints (p .0) (p .1) (f .find .ensures) (e .if1 .left) (b .put-refused .ensures)
 
 pub respond-spec : {M : Type 1} → statement M
 respond-spec =
@@ -58,10 +44,7 @@ respond-spec =
     same-length
     same-length-2
     returns
-    slice-aggregate-put-bytes
-    put-bytes-requires
-    put-number-requires
-    put-byte-requires
+    put-refused-requires
     same-length-3
     same-length-4
     returns-2)
