@@ -17,7 +17,7 @@ use Rattle.search.specs.Searched.{slots-of}
 use Rattle.search.specs.Claims.{Claims}
 use Rattle.text.specs.Bytes.{ascii, read-number}
 use Rattle.text.specs.TermText.{read-term}
-use Rattle.text.specs.Answer.{Answer, refused, accepted, field, printed, values}
+use Rattle.text.specs.Answer.{Answer, refused, accepted, field, printed, values, parts}
 use Rattle.text.specs.Job.{Job}
 use Rattle.text.specs.FindJob.{Layouts, layouts, alone-texts, read-find}
 use Rattle.text.specs.StepText.{read-steps}
@@ -82,6 +82,8 @@ pub record FindAnswered (job : List ℕ) (slots room : ℕ) (t : List ℕ) : Typ
   pub accepted : read-find job ≡ accepted jobs
   -- the blocks in job order
   pub blocks : t ≡ flatMap (block slots) jobs
+  -- a reader finds them: the text is cut before each line that begins with `answer=`
+  pub parts : parts "answer=" t ≡ map (block slots) jobs
   pub each : (j : Job) → j ∈ jobs → Block slots j (block slots j)
   -- each right line has the block that it has alone
   pub alone : EachAlone job jobs slots room

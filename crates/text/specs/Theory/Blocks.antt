@@ -18,6 +18,7 @@ use Rattle.text.specs.Claims.{Answered, Block, answers, refuses, EachAlo
 use Rattle.text.specs.Theory.Accepted.{If-accepted, accepted-then, required-then}
 use Rattle.text.specs.Theory.Answers.{job-answered}
 use Rattle.text.specs.Theory.FindJobs.{jobs-accepted}
+use Rattle.text.specs.Theory.Parts.{blocks-parts}
 use Rattle.text.specs.Theory.AloneText.{ReadAlone, jobs-alone, blocks-alone}
 
 module _ (slots : ℕ) where
@@ -70,11 +71,13 @@ module _ (bs : List ℕ) (slots room : ℕ) where
   fitted js given t blocks single =
       required-then Due 8 (leb (length t) room) _ λ fits.
       let short = leb→le (length t) room fits in
+      let each : (j : Job) → j ∈ js → Block slots j (block slots j) = λ j m. job-block slots j (given .known j m) in
       record {
         jobs = js;
         accepted = given .read;
         blocks = blocks;
-        each = λ j m. job-block slots j (given .known j m);
+        parts = rw blocks (blocks-parts slots js each);
+        each = each;
         alone = each-alone js (given .alone) (rw blocks at short);
         single = single;
         fits = short;
