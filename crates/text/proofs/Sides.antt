@@ -18,10 +18,9 @@ use Rattle.terms.specs.Promises.{Reads}
 use Rattle.terms.specs.Theory.ReadRun.{run-read}
 use Rattle.terms.specs.Numbers as numbers
 use Rattle.terms.specs.Numbers.{read-run, is-some}
-use Rattle.text.specs.Bytes.{pieces}
+use Rattle.text.specs.Bytes.{longer, pieces}
 use Rattle.text.specs.TermText.{token, read-term}
 use Rattle.text.specs.Reading.{Numbered}
-use Rattle.text.specs.Theory.Pieces.{longer}
 use Rattle.text.specs.SideRead.{ItemEnds, ItemsRead, TermRead}
 use Rattle.text.proofs.Parts.{no-part}
 

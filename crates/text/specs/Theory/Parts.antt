@@ -12,14 +12,14 @@ use Rattle.terms.specs.Lists.{_∈_, here, there, in-left, not-in-nil, cons-cas
 use Rattle.terms.specs.Theory.Reflects.{Reflects, eqb-reflects}
 use Rattle.search.specs.Law.{Law, semiring}
 use Rattle.search.specs.Search.{Outcome, proved, unproved}
-use Rattle.text.specs.Bytes.{ascii, number, after, pieces}
+use Rattle.text.specs.Bytes.{ascii, number, after, longer, pieces}
 use Rattle.text.specs.Answer.{refused, field, printed, values, found, parts, yes-no}
 use Rattle.text.specs.Job.{Job}
 use Rattle.text.specs.Proof.{proof}
 use Rattle.text.specs.Find.{outcome-lines, outcome-text, block}
 use Rattle.text.specs.Claims.{Block, answers, refuses}
 use Rattle.text.specs.Theory.AtLeast.{tested, free}
-use Rattle.text.specs.Theory.Pieces.{longer, pieces-break, pieces-byte, pieces-some}
+use Rattle.text.specs.Theory.Pieces.{pieces-break, pieces-byte, pieces-some}
 
 -- the pieces of a text: a first one and others
 record Pieces (bs : List ℕ) : Type 0 where
