@@ -16,7 +16,7 @@ use Rattle.search.specs.Line as line
 use Rattle.search.specs.Search.{terms, direct}
 use Rattle.search.specs.Serve as serve
 use Rattle.search.specs.Serve.{Served, stopped, waited}
-use Rattle.search.specs.Runs.{term-at, Runs}
+use Rattle.search.specs.Runs.{term-at, HeldRuns}
 use Rattle.search.specs.Slots.{Slots, Starts}
 use Rattle.search.specs.Replied.{reply-of, waiting, Directly, Noticed, Replied, Matched}
 use Rattle.search.specs.Searched.{limits-of, slots-of, Ends, Concludes, Explores, begins, Begins, Answers, Searches}
@@ -101,7 +101,7 @@ module _ (laws : List law.Law) (m : line.Limits) (slots : ℕ) (s : Term) (ts : 
   answered e E R = record { ends = rw e E; replied = λ k h. rw e (R k h) }
 
 module _ {laws : List law.Law} {left rights before fs : List ℕ} {n : ℕ} (M : Matched laws left rights before fs n) where
-  is-waited : (s : Term) (ts : List Term) → IsRun left s → size s ≤ 31 → Runs rights ts → length ts ≡ length before → waiting ts fs ≡ waited laws s ts
+  is-waited : (s : Term) (ts : List Term) → IsRun left s → size s ≤ 31 → HeldRuns rights ts → length ts ≡ length before → waiting ts fs ≡ waited laws s ts
   is-waited s ts hs p R c = waiting-waited laws s ts fs (c ∙ sym (M .kept)) (M .directly s ts hs p R c)
 
   module _ {m : Limits} {ws : List ℕ} where

@@ -82,5 +82,5 @@ module _ {ws : List ℕ} {k : ℕ} {xs : List ℕ} {h : ℕ} where
   hash-differs f =
       record {
         exact = λ ts t R p r q.
-            sym (told-apart t (term-at ts k) (λ e. f (R .index .hashed k p ∙ rw (← e, ← (r .whole)) (sym q))));
+            sym (told-apart t (term-at ts k) (λ e. f (R .hashed k p ∙ rw (← e, ← (r .whole)) (sym q))));
       }

@@ -29,7 +29,7 @@ equal? a b = go (below? a b) (below? b a)
 
 -- a number of the index stored, number i of slot j: each slot keeps what it has
 module _ (ws : List ℕ) (j i v : ℕ) (low : 5 ≤ i) (high : i < 8) where
-  run-stored : (k : ℕ) (t : Term) → Spells ws k t → Spells (set ws (SLOT * j + i) v) k t
+  pub run-stored : (k : ℕ) (t : Term) → Spells ws k t → Spells (set ws (SLOT * j + i) v) k t
   run-stored k t s =
       record {
         count = getD-set-other ws (SLOT * j + i) (SLOT * k) v 0 (λ e. omega arith) ∙ s .count;
@@ -65,11 +65,15 @@ newest-more {f} {b} {n} {k} N h e =
     go j g (inr q) = (N .last j q g .0, omega arith)
 
 module _ (ts : List Term) (t : Term) where
-  term-before : (k : ℕ) → k < length ts → term-at (ts ++ (t ∷ [])) k ≡ term-at ts k
+  pub term-before : (k : ℕ) → k < length ts → term-at (ts ++ (t ∷ [])) k ≡ term-at ts k
   term-before k h = List·getD-append ts (t ∷ []) zero k h
 
-  term-last : term-at (ts ++ (t ∷ [])) (length ts) ≡ t
+  pub term-last : term-at (ts ++ (t ∷ [])) (length ts) ≡ t
   term-last = getD-at ts t [] zero (length ts) refl
+
+  -- a slot is one of the old ones, or the new one
+  pub old-or-new : (k : ℕ) → k < length (ts ++ (t ∷ [])) → (k ≡ length ts) ⊎ (k < length ts)
+  old-or-new k h = eq-or-lt-of-le (le-of-suc-le-suc (omega (arith, h, length-append ts (t ∷ []))))
 
 -- a slot is noted
 module _ {ws ws′ : List ℕ} {count : ℕ} {xs : List ℕ} {o : Origin} {v : ℕ} (E : Enters ws ws′ count xs o v) where
@@ -188,15 +192,11 @@ module _ {ws ws′ : List ℕ} (ts : List Term) (t : Term) {xs : List ℕ} {o : 
   home-new : home ws′ more count ≡ own
   home-new = rw (long E, term-last ts t, ← (r .whole))
 
-  -- a slot is one of the old ones, or the new one
-  old-or-new : (k : ℕ) → k < length more → (k ≡ count) ⊎ (k < count)
-  old-or-new k h = eq-or-lt-of-le (le-of-suc-le-suc (omega (arith, h, length-append ts (t ∷ []))))
-
   counted : length more ≡ count + 1
   counted = length-append ts (t ∷ [])
 
   heads : (k : ℕ) → k < length more → Newest (home ws′ more) (home ws′ more k) (length more) (head-of ws′ (home ws′ more k))
-  heads k h = go (equal? (home ws′ more k) own) (old-or-new k h)
+  heads k h = go (equal? (home ws′ more k) own) (old-or-new ts t k h)
     where
       go : (home ws′ more k ≡ own) ⊎ (home ws′ more k ≡ own → ⊥) → (k ≡ count) ⊎ (k < count)
           → Newest (home ws′ more) (home ws′ more k) (length more) (head-of ws′ (home ws′ more k))
@@ -208,7 +208,7 @@ module _ {ws ws′ : List ℕ} (ts : List Term) (t : Term) {xs : List ℕ} {o : 
           (newest-more (newest-still home-still N) (N .last k p refl .1) (λ f. e (sym (home-still k p) ∙ sym f ∙ home-new)))
 
   nexts : (k : ℕ) → k < length more → Newest (home ws′ more) (home ws′ more k) k (next-of ws′ k)
-  nexts k h = go (old-or-new k h)
+  nexts k h = go (old-or-new ts t k h)
     where
       go : (k ≡ count) ⊎ (k < count) → Newest (home ws′ more) (home ws′ more k) k (next-of ws′ k)
       go (inl e) = rw (e, next-new E, home-new) (newest-still home-still (E .newest .exact ts R refl))
@@ -216,14 +216,14 @@ module _ {ws ws′ : List ℕ} (ts : List Term) (t : Term) {xs : List ℕ} {o : 
           rw (next-still E k e, ← (home-still k e)) (newest-still (λ j p. home-still j (omega arith)) (R .index .next k e))
 
   hashes : (k : ℕ) → k < length more → hash-of ws′ k ≡ hash (run (term-at more k)) 0
-  hashes k h = go (old-or-new k h)
+  hashes k h = go (old-or-new ts t k h)
     where
       go : (k ≡ count) ⊎ (k < count) → hash-of ws′ k ≡ hash (run (term-at more k)) 0
       go (inl e) = rw (e, hash-new E, term-last ts t, ← (r .whole))
       go (inr e) = rw (hash-still E k e, term-before ts t k e) (R .index .hashed k e)
 
   spells : (k : ℕ) → k < length more → Spells ws′ k (term-at more k)
-  spells k h = run-linked E k (term-at more k) (go (old-or-new k h))
+  spells k h = run-linked E k (term-at more k) (go (old-or-new ts t k h))
     where
       go : (k ≡ count) ⊎ (k < count) → Spells (E .written) k (term-at more k)
       go (inl e) = rw (e, term-last ts t) (E .writes .run t r)

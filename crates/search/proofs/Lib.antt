@@ -19,6 +19,7 @@ pub mod Writing
 pub mod Looking
 pub mod Hashing
 pub mod Indexing
+pub mod Holding
 pub mod Noting
 pub mod Rising
 pub mod Unknown

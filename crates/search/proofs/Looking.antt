@@ -17,6 +17,7 @@ use Rattle.search.specs.Index.{slots-of, hash, bucket, next-of, Newest}
 use Rattle.search.specs.Runs.{term-at, home, Runs, Heads, Compares, Seeks, Finds}
 use Rattle.search.specs.declared.slots.Found.{Found}
 use Rattle.search.specs.declared.slots.Found.the-variants.{At, Nothing}
+use Rattle.search.proofs.Holding.{runs-held}
 
 -- a member of a list stands at a place
 place-in : (ts : List Term) {t : Term} → t ∈ ts → (k : ℕ) × (k < length ts) × (t ≡ term-at ts k)
@@ -70,7 +71,7 @@ module _ {ws : List ℕ} {count : ℕ} {xs : List ℕ} {end k : ℕ} (P : Passed
   module _ (h : k < end) where
     module _ {x : ℕ} (e : x ≡ hash xs 0) where
       same-is : {b : Bool} → Compares ws k xs x b → (ts : List Term) (t : Term) → Runs ws ts → length ts ≡ count → IsRun xs t → Reflects (t ≡ term-at ts k) b
-      same-is C ts t R c r = rw (C .exact ts t R (omega arith) r e) (same-reflects t (term-at ts k))
+      same-is C ts t R c r = rw (C .exact ts t (runs-held R) (omega arith) r e) (same-reflects t (term-at ts k))
 
       pub tells : (b : Bool) → Compares ws k xs x b → Tells ws count xs k b
       tells true C = record { within = omega arith; exact = λ ts t R c r. sym (same-is C ts t R c r) }

@@ -23,7 +23,7 @@ use Rattle.search.specs.Serve.{times, waited}
 use Rattle.search.specs.Coded.{name-of, law-number, numbered-law}
 use Rattle.search.specs.Directly.{direct-name, Directs}
 use Rattle.search.specs.Index.{hash}
-use Rattle.search.specs.Runs.{term-at, Runs, Shows, Compares}
+use Rattle.search.specs.Runs.{term-at, HeldRuns, Shows, Compares}
 use Rattle.search.specs.Replied.{reply-of, waiting, Directly, Matched, Strikes}
 use Rattle.search.specs.declared.search.Law.{Law}
 use Rattle.search.specs.declared.search.Direct as found
@@ -72,9 +72,9 @@ same-turned t u =
 pub record StruckUpTo (rights xs : List ℕ) (h k : ℕ) (before fs : List ℕ) (r n : ℕ) : Type 0 where
   pub still : (i : ℕ) → 0 < getD before i 0 → getD fs i 0 ≡ getD before i 0
   pub rest : (i : ℕ) → r ≤ i → getD fs i 0 ≡ getD before i 0
-  pub counted : (ts : List Term) (t : Term) → Runs rights ts → length ts ≡ length before → IsRun xs t → h ≡ hash xs 0
+  pub counted : (ts : List Term) (t : Term) → HeldRuns rights ts → length ts ≡ length before → IsRun xs t → h ≡ hash xs 0
       → times t (waiting ts before) ≡ n + times t (waiting (drop r ts) (drop r before))
-  pub struck : (ts : List Term) (t : Term) → Runs rights ts → length ts ≡ length before → IsRun xs t → h ≡ hash xs 0
+  pub struck : (ts : List Term) (t : Term) → HeldRuns rights ts → length ts ≡ length before → IsRun xs t → h ≡ hash xs 0
       → (i : ℕ) → i < r → getD before i 0 ≡ 0 → getD fs i 0 ≡ cond (same (term-at ts i) t) (k + 11) 0
 
 pub struck-starts : (rights xs : List ℕ) (h k : ℕ) (before : List ℕ) → StruckUpTo rights xs h k before before 0 0
@@ -99,7 +99,7 @@ module _ {rights xs : List ℕ} {h k : ℕ} {before fs : List ℕ} {r n : ℕ} (
   module _ (p : r < length fs) where
     -- only the number of the r-th may be another
     struck-next : (gs : List ℕ) (m : ℕ) → ((i : ℕ) → (i ≡ r → ⊥) → getD gs i 0 ≡ getD fs i 0) → (0 < getD before r 0 → getD gs r 0 ≡ getD before r 0)
-        → ((ts : List Term) (t : Term) → Runs rights ts → length ts ≡ length before → IsRun xs t → h ≡ hash xs 0
+        → ((ts : List Term) (t : Term) → HeldRuns rights ts → length ts ≡ length before → IsRun xs t → h ≡ hash xs 0
         → (n + times t (waiting (drop r ts) (drop r before)) ≡ m + times t (waiting (drop (r + 1) ts) (drop (r + 1) before)))
         × (getD before r 0 ≡ 0 → getD gs r 0 ≡ cond (same (term-at ts r) t) (k + 11) 0))
         → StruckUpTo rights xs h k before gs (r + 1) m
@@ -125,7 +125,7 @@ module _ {rights xs : List ℕ} {h k : ℕ} {before fs : List ℕ} {r n : ℕ} (
         (λ ts t R c l e. (ap (λ l. n + times t l) (waits-not ts before r (omega arith) (omega arith) w), λ q. absurd (w q)))
 
     module _ {b : Bool} (D : Compares rights r xs h b) where
-      compared-with : (ts : List Term) (t : Term) → Runs rights ts → length ts ≡ length before → IsRun xs t → h ≡ hash xs 0 → same (term-at ts r) t ≡ b
+      compared-with : (ts : List Term) (t : Term) → HeldRuns rights ts → length ts ≡ length before → IsRun xs t → h ≡ hash xs 0 → same (term-at ts r) t ≡ b
       compared-with ts t R c l e = same-turned (term-at ts r) t ∙ sym (D .exact ts t R (omega arith) l e)
 
       -- it waits, and has another run
@@ -160,7 +160,7 @@ module _ {rights xs : List ℕ} {h k : ℕ} {before fs : List ℕ} {r n : ℕ} (
 
 -- the first r are told, and n of them wait, whatever is told of the others
 pub record MatchedUpTo (left rights fs : List ℕ) (r n : ℕ) : Type 0 where
-  pub directly : (s : Term) (ts : List Term) → IsRun left s → size s ≤ 31 → Runs rights ts → length ts ≡ length fs
+  pub directly : (s : Term) (ts : List Term) → IsRun left s → size s ≤ 31 → HeldRuns rights ts → length ts ≡ length fs
       → (k : ℕ) → k < r → Directly (direct semiring s (term-at ts k)) (reply-of (getD fs k 0))
   pub others : (ts : List Term) (gs : List ℕ) → length ts ≡ length gs → length gs ≡ length fs → ((k : ℕ) → k < r → getD gs k 0 ≡ getD fs k 0)
       → length (waiting ts gs) ≡ n + length (waiting (drop r ts) (drop r gs))
@@ -187,7 +187,7 @@ module _ {left rights fs : List ℕ} {r n : ℕ} (M : MatchedUpTo left rights fs
 
   module _ (p : r < length fs) {xs : List ℕ} (W : Shows rights r xs) {d : found.Direct} (D : Directs left xs d) where
     directly-next : (v : ℕ) → ((o : Option Name) → direct-name d ≡ o → Directly o (reply-of v))
-        → (s : Term) (ts : List Term) → IsRun left s → size s ≤ 31 → Runs rights ts → length ts ≡ length (set fs r v)
+        → (s : Term) (ts : List Term) → IsRun left s → size s ≤ 31 → HeldRuns rights ts → length ts ≡ length (set fs r v)
         → (k : ℕ) → k < r + 1 → Directly (direct semiring s (term-at ts k)) (reply-of (getD (set fs r v) k 0))
     directly-next v f s ts h z R c k q =
         let l = c ∙ length-set fs r v in

@@ -16,7 +16,7 @@ use Rattle.search.specs.Line.{Line}
 use Rattle.search.specs.Search.{Noted, terms, is-noted, entry}
 use Rattle.search.specs.Serve as serve
 use Rattle.search.specs.Serve.{unnoted, take-results, Served, stopped}
-use Rattle.search.specs.Runs.{value-of, Runs}
+use Rattle.search.specs.Runs.{value-of, HeldRuns}
 use Rattle.search.specs.Slots.{noted-at, Slots}
 use Rattle.search.specs.Ordered.{unknown}
 use Rattle.search.specs.Resulted.{most-nodes}
@@ -101,7 +101,7 @@ module _ {laws : List Law} {m : Limits} {slots : ℕ} {rights before : List ℕ}
 -- the j-th result is taken
 module _ {laws : List Law} {m : Limits} {slots : ℕ} {rights ws fs : List ℕ} {missing count i d : ℕ} {res order : List ℕ} {n j : ℕ} {r : Taken} {ws′ fs′ : List ℕ}
     (inside : i < count) (h : j < n) (room : n ≤ length order) (T : Takes ws count slots res (getD order j 0) d rights fs r ws′ fs′) where
-  module _ (v : Served) (most : ℕ) (ts : List Term) (before : List ℕ) (R : Runs rights ts) (each : length ts ≡ length before)
+  module _ (v : Served) (most : ℕ) (ts : List Term) (before : List ℕ) (R : HeldRuns rights ts) (each : length ts ≡ length before)
       (g : Midway laws m slots v most ts before ws fs missing count i d res order n j) where
     abbrev us : List Term
     us = waiting ts before

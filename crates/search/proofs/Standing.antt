@@ -14,7 +14,7 @@ use Rattle.search.specs.Line.{Line, results}
 use Rattle.search.specs.Search.{Noted, terms}
 use Rattle.search.specs.Explore.{start}
 use Rattle.search.specs.Serve.{unnoted, Taking, take-results, Served, serve-on}
-use Rattle.search.specs.Runs.{Runs}
+use Rattle.search.specs.Runs.{HeldRuns}
 use Rattle.search.specs.Slots.{noted-at, Slots}
 use Rattle.search.specs.Ordered.{Ordered}
 use Rattle.search.specs.Replied.{waiting, Settled}
@@ -44,7 +44,7 @@ Small most ns = (x : Noted) → x ∈ ns → size (x .term) ≤ most
 -- what a search is for, which starts with what a workspace has, ws₀: `waits` right sides, and terms of at most so many nodes
 pub record Asked (rights before : List ℕ) (waits : ℕ) (m : Limits) (most : ℕ) (ws₀ : List ℕ) (s : Term) (ts : List Term) : Type 0 where
   pub begun : Slots ws₀ (start s)
-  pub listed : Runs rights ts
+  pub listed : HeldRuns rights ts
   pub each : length ts ≡ length before
   pub all : waits ≡ length (waiting ts before)
   pub other : s ∈ ts → ⊥
@@ -128,5 +128,5 @@ module _ (laws : List Law) (m : Limits) (slots : ℕ) where
   -- the inner loop's invariant: how the results were taken since the term was opened
   abbrev pub Progress : List ℕ → ℕ → ℕ → List ℕ → List ℕ → ℕ → List ℕ → List ℕ → ℕ → ℕ → List ℕ → List ℕ → ℕ → ℕ → ℕ → Type 0
   Progress rights i d res order n ws₁ fs₁ missing₁ count₁ ws fs missing count j =
-      (v : Served) (most : ℕ) (ts : List Term) (before : List ℕ) → Runs rights ts → length ts ≡ length before
+      (v : Served) (most : ℕ) (ts : List Term) (before : List ℕ) → HeldRuns rights ts → length ts ≡ length before
       → Midway v most ts before ws₁ fs₁ missing₁ count₁ i d res order n 0 → Midway v most ts before ws fs missing count i d res order n j

@@ -16,7 +16,7 @@ use Rattle.search.specs.Search.{direct}
 use Rattle.search.specs.Serve.{times}
 use Rattle.search.specs.Coded.{name-of, numbered-law}
 use Rattle.search.specs.Index.{hash}
-use Rattle.search.specs.Runs.{term-at, Runs}
+use Rattle.search.specs.Runs.{term-at, HeldRuns}
 use Rattle.search.specs.declared.replies.Reply.{Reply}
 use Rattle.search.specs.declared.replies.Reply.the-variants.{Unnoted, Direct, Noted}
 
@@ -65,10 +65,10 @@ pub record Settled (us ts : List Term) (before after : List ℕ) : Type 0 where
 -- of `match_rights`: the right sides that left matches directly are told, and r others wait
 pub record Matched (ws : List law.Law) (left rights before after : List ℕ) (r : ℕ) : Type 0 where
   pub kept : length after ≡ length before
-  pub directly : (s : Term) (ts : List Term) → IsRun left s → size s ≤ 31 → Runs rights ts → length ts ≡ length before
+  pub directly : (s : Term) (ts : List Term) → IsRun left s → size s ≤ 31 → HeldRuns rights ts → length ts ≡ length before
       → (k : ℕ) → k < length ts → Directly (direct ws s (term-at ts k)) (reply-of (getD after k 0))
   pub others : (ts : List Term) → length ts ≡ length before → r ≡ length (waiting ts after)
 
 -- of `strike`: the run xs, whose hash is h, is noted in slot k
 pub record Strikes (rights xs : List ℕ) (h k : ℕ) (before after : List ℕ) (r : ℕ) : Type 0 where
-  pub exact : (ts : List Term) (t : Term) → Runs rights ts → length ts ≡ length before → IsRun xs t → h ≡ hash xs 0 → Struck k t ts before after r
+  pub exact : (ts : List Term) (t : Term) → HeldRuns rights ts → length ts ≡ length before → IsRun xs t → h ≡ hash xs 0 → Struck k t ts before after r

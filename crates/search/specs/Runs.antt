@@ -48,6 +48,11 @@ pub record Runs (ws : List ℕ) (ts : List Term) : Type 0 where
   pub spelled : (k : ℕ) → k < length ts → Spells ws k (term-at ts k)
   pub index : Indexed ws ts
 
+-- the first slots have the terms with their hashes, in no index
+pub record HeldRuns (ws : List ℕ) (ts : List Term) : Type 0 where
+  pub spelled : (k : ℕ) → k < length ts → Spells ws k (term-at ts k)
+  pub hashed : (k : ℕ) → k < length ts → hash-of ws k ≡ hash (run (term-at ts k)) 0
+
 -- what the functions promise
 
 -- of `origin_of`
@@ -64,7 +69,7 @@ pub record Heads (ws : List ℕ) (count b r : ℕ) : Type 0 where
 
 -- of `has_run`, for a run with hash h
 pub record Compares (ws : List ℕ) (k : ℕ) (xs : List ℕ) (h : ℕ) (r : Bool) : Type 0 where
-  pub exact : (ts : List Term) (t : Term) → Runs ws ts → k < length ts → IsRun xs t → h ≡ hash xs 0 → r ≡ same t (term-at ts k)
+  pub exact : (ts : List Term) (t : Term) → HeldRuns ws ts → k < length ts → IsRun xs t → h ≡ hash xs 0 → r ≡ same t (term-at ts k)
 
 -- the slot that is found is one of the first `count`
 abbrev pub FoundWithin : ℕ → Found → Type 0
@@ -93,6 +98,13 @@ pub record Writes (before after : List ℕ) (k : ℕ) (xs : List ℕ) (o : Origi
   pub run : (t : Term) → IsRun xs t → Spells after k t
   pub origin : origin-of after k ≡ o
   pub value : value-of after k ≡ v
+
+-- of `hold_slot`: slot k is written, with the hash of its run, and those before it stay
+pub record HoldsRun (before after : List ℕ) (k : ℕ) (xs : List ℕ) : Type 0 where
+  pub size : length after ≡ length before
+  pub kept : take (SLOT * k) after ≡ take (SLOT * k) before
+  pub run : (t : Term) → IsRun xs t → Spells after k t
+  pub hashed : hash-of after k ≡ hash xs 0
 
 -- of `note_slot`: slot k is written, with the hash of its run, leads to the newest older one in its bucket, and is the head now
 pub record Enters (before after : List ℕ) (k : ℕ) (xs : List ℕ) (o : Origin) (v : ℕ) : Type 0 where

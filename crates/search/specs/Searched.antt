@@ -15,7 +15,7 @@ use Rattle.search.specs.Search.{Noted, terms, entry}
 use Rattle.search.specs.Explore.{start}
 use Rattle.search.specs.Serve as serve
 use Rattle.search.specs.Serve.{Served, stopped, serve-on}
-use Rattle.search.specs.Runs.{term-at, Spells, Runs}
+use Rattle.search.specs.Runs.{term-at, Spells, HeldRuns}
 use Rattle.search.specs.Slots.{noted-at, Slots}
 pub use Rattle.search.specs.Index.{slots-of}
 use Rattle.search.specs.Ordered.{Result, Ordered, unknown}
@@ -65,7 +65,7 @@ Became taken.Full slots ws ns n x ts before after = (slots ≤ length ns) × Slo
 pub record Takes (ws : List ℕ) (count slots : ℕ) (res : List ℕ) (k d : ℕ) (rights before : List ℕ) (r : Taken) (ws′ after : List ℕ) : Type 0 where
   pub room : HasRoom r count slots
   pub exact : (ns : List Noted) (i : ℕ) (x : Line) (ts : List Term) → Slots ws ns → length ns ≡ count → i < count → Result (noted-at ns i .term) i res k x
-      → d ≡ length (noted-at ns i .trail) → Runs rights ts → length ts ≡ length before → Became r slots ws′ ns (noted-at ns i) x ts before after
+      → d ≡ length (noted-at ns i .trail) → HeldRuns rights ts → length ts ≡ length before → Became r slots ws′ ns (noted-at ns i) x ts before after
 
 -- the one search for ts ended so, with each right side that waited told
 abbrev pub Concludes : Ended → List ℕ → List Term → List ℕ → List ℕ → Served → Type 0
@@ -73,7 +73,7 @@ Concludes r ws ts before after v = Ends r ws v × Settled (terms (v .noted)) ts 
 
 -- of `explore`, which has room for the results of terms of at most `most` nodes; left is none of the right sides
 pub record Explores (laws : List Law) (rights : List ℕ) (n : ℕ) (m : Limits) (slots most : ℕ) (ws ws′ before after : List ℕ) (r : Ended) : Type 0 where
-  pub exact : (s : Term) (ts : List Term) → Slots ws (start s) → Runs rights ts → length ts ≡ length before → n ≡ length (waiting ts before)
+  pub exact : (s : Term) (ts : List Term) → Slots ws (start s) → HeldRuns rights ts → length ts ≡ length before → n ≡ length (waiting ts before)
       → (s ∈ ts → ⊥) → size s ≤ most → m .size ≤ most
       → Concludes r ws′ ts before after (serve-on (results laws (limits-of m)) (m .steps) slots (waiting ts before) (m .nodes) 0 (start s))
 
@@ -87,7 +87,7 @@ begins laws m slots s ts =
 
 -- of `explore_from`
 pub record Begins (laws : List Law) (left rights : List ℕ) (n : ℕ) (m : Limits) (ws ws′ before after : List ℕ) (r : Ended) : Type 0 where
-  pub exact : (s : Term) (ts : List Term) → IsRun left s → size s ≤ 31 → Runs rights ts → length ts ≡ length before → n ≡ length (waiting ts before)
+  pub exact : (s : Term) (ts : List Term) → IsRun left s → size s ≤ 31 → HeldRuns rights ts → length ts ≡ length before → n ≡ length (waiting ts before)
       → (s ∈ ts → ⊥) → m .size ≤ 31 → Concludes r ws′ ts before after (begins laws (limits-of m) (slots-of (length ws)) s (waiting ts before))
 
 -- how a search ended, and what became of each right side
@@ -98,5 +98,5 @@ pub record Answers (laws : List Law) (m : line.Limits) (slots : ℕ) (s : Term) 
 -- of `search_bounded_rewrite`
 pub record Searches (laws : List Law) (left rights : List ℕ) (m : Limits) (ws ws′ replies replies′ : List ℕ) (r : Ended) : Type 0 where
   pub kept : length replies′ ≡ length replies
-  pub exact : (s : Term) (ts : List Term) → IsRun left s → size s ≤ 31 → Runs rights ts → length ts ≡ length replies → (s ∈ ts → ⊥) → m .size ≤ 31
+  pub exact : (s : Term) (ts : List Term) → IsRun left s → size s ≤ 31 → HeldRuns rights ts → length ts ≡ length replies → (s ∈ ts → ⊥) → m .size ≤ 31
       → Answers laws (limits-of m) (slots-of (length ws)) s ts ws′ replies′ r

@@ -10,7 +10,7 @@ ghost use lib.ListN.{length};
 ghost use lib.Seq.{sets};
 ghost use Rattle.search.specs.Index.{SLOT, slots-of};
 ghost use Rattle.search.specs.Origins.{numbers, origin-at};
-ghost use Rattle.search.specs.Runs.{value-of, Originates, Shows, Heads, Compares, Seeks, Finds, Writes, Enters};
+ghost use Rattle.search.specs.Runs.{value-of, Originates, Shows, Heads, Compares, Seeks, Finds, Writes, HoldsRun, Enters};
 ghost use Rattle.search.specs.Slots.{Starts, Notes};
 use crate::index;
 use crate::search;
@@ -191,6 +191,15 @@ pub fn write_slot(ws: &mut [u32], k: usize, s: &[u32], o: Origin, value: u32)
     write_origin(ws, a + 1, o);
     ws[a + 39] = value;
     normal_form::copy(ws, a + 8, s);
+}
+
+// Writes a slot with the hash of its run; it is in no index.
+pub fn hold_slot(ws: &mut [u32], k: usize, s: &[u32])
+    requires { ⌜ (SLOT * k + SLOT ≤ length (now ws)) × (length (now s) ≤ 31) ⌝ }
+    ensures { λ _. ⌜ HoldsRun (now (ws .entry)) (now (ws .exit)) k (now (s .entry)) ⌝ }
+{
+    write_slot(ws, k, s, Origin::Start, 0);
+    ws[SLOT * k + 5] = index::hash(s);
 }
 
 // Notes a run in slot `k`: the slot leads to the newest older one in its bucket, and is the head of the bucket from now on.
