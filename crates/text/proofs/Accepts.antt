@@ -24,11 +24,10 @@ use Rattle.words.specs.declared.candidate.Lengths.{Lengths}
 use Rattle.words.proofs.Coded.{code-orient}
 use Rattle.words.proofs.Parts.{front-stored}
 use Rattle.search.specs.Line.{Limits}
-use Rattle.search.specs.Runs.{Runs, Shows, Enters}
+use Rattle.search.specs.Runs.{HeldRuns, Shows, HoldsRun}
 use Rattle.search.specs.Searched.{limits-of}
 use Rattle.search.specs.declared.bounded_search.Limits as limits
-use Rattle.search.specs.declared.slots.Origin.{Origin}
-use Rattle.search.proofs.Indexing.{no-runs, entered}
+use Rattle.search.proofs.Holding.{none-held, held-more}
 use Rattle.text.specs.declared.job.rights.Test.{Test}
 use Rattle.text.specs.declared.job.rights.Test.the-variants.{Few, Differs, After}
 use Rattle.text.specs.declared.job.accept.Reading.the-variants.{Refused, Accepted}
@@ -109,17 +108,17 @@ module _ {xs ys left right left′ right′ : List ℕ} {k : Lengths} (h : Keeps
       )
 
 -- the smaller of left and the only right side is kept as left, and the other goes to slot 0
-module _ {xs ys zs left other left′ other′ rights rights′ : List ℕ} {k : Lengths} {o : Origin} {v : ℕ} where
+module _ {xs ys zs left other left′ other′ rights rights′ : List ℕ} {k : Lengths} where
   pub kept-in-order : Shows rights 0 ys → 31 ≤ length other → Keeps xs ys left other k left′ other′ → length left′ ≡ length left
-      → zs ≡ take (k .right) other′ → Enters rights rights′ 0 zs o v → Orients xs left rights (k .left) left′ rights′
-  kept-in-order shown room keeps same e E =
+      → zs ≡ take (k .right) other′ → HoldsRun rights rights′ 0 zs → Orients xs left rights (k .left) left′ rights′
+  kept-in-order shown room keeps same e H =
       record {
         exact = λ s t u runs small l.
             let right = runs .spelled 0 (omega arith) in
             let w = shown .exact t right in
             let kept =
             kept-runs keeps u w (record { first = omega (arith, size-of u); second = omega (arith, size-of w, right .small); left-room = l; right-room = room }) in
-            (omega (arith, keeps .within .left-side), kept .0, entered [] (orient order s t .right) E (no-runs rights) (rw e (kept .1)));
+            (omega (arith, keeps .within .left-side), kept .0, held-more [] (orient order s t .right) H (none-held rights) (rw e (kept .1)));
       }
 
 -- refusals 3 to 6 and 10
@@ -186,7 +185,7 @@ in-place-after s ts h = go (several ts)
 -- what the code found of left, the right sides and the limits
 
 found : {test : Test} {xs rights : List ℕ} {n : ℕ} {f b : Bool} → AllPass test xs rights n f → f ≡ b
-    → {s : Term} {ts : List Term} → IsRun xs s → Runs rights ts → length ts ≡ n → every (asked test s) ts ≡ b
+    → {s : Term} {ts : List Term} → IsRun xs s → HeldRuns rights ts → length ts ≡ n → every (asked test s) ts ≡ b
 found h k {s} {ts} u v e = sym (h .exact s ts u v e) ∙ k
 
 ranged : (m : limits.Limits) (y : Limits) {g b : Bool} → g ≡ in-range (limits-of m) → limits-of m ≡ capped y → g ≡ b → in-range y ≡ b
@@ -250,7 +249,7 @@ module _ (m : limits.Limits) {xs rights : List ℕ} {n : ℕ} {f : Bool} (letter
             → AcceptsSides xs n m left rights (Accepted (record { left = r; rights = n; limits = m })) left′ rights′
         accept-one one room {r} {rights′} orients = record { exact = go }
           where
-            go : (s : Term) (ts : List Term) (y : Limits) → IsRun xs s → Runs rights ts → length ts ≡ n → size s ≤ 31 → all-small ts ≡ true → limits-of m ≡ capped y
+            go : (s : Term) (ts : List Term) (y : Limits) → IsRun xs s → HeldRuns rights ts → length ts ≡ n → size s ≤ 31 → all-small ts ≡ true → limits-of m ≡ capped y
                 → Takes (accept-each s ts y) (record { left = r; rights = n; limits = m }) left′ rights′
             go s [] y u v c a b e = absurd (omega (arith, c, one))
             go s (t ∷ []) y u v c a b e =

@@ -11,7 +11,7 @@ use Rattle.terms.specs.Held.{IsRun}
 use Rattle.words.specs.Words.{words}
 use Rattle.words.specs.Rename.{canonical-terms}
 use Rattle.search.specs.Line as line
-use Rattle.search.specs.Runs.{Runs, Shows}
+use Rattle.search.specs.Runs.{HeldRuns, Shows}
 use Rattle.search.specs.Searched.{limits-of, slots-of}
 use Rattle.text.specs.Answer.{Answer, _>>=_, refused, accepted, fitting}
 use Rattle.text.specs.Job.{Job, read-job, Fit, Accepted}
@@ -89,7 +89,7 @@ find-late bs {js} slots room e =
 -- they are answered from left's run and those of the right sides
 module _ (bs : List ℕ) {left rights xs : List ℕ} {j : Read} (h : Takes (read-find bs) j left rights) (e : xs ≡ take (j .left) left) where
   pub find-answered : {r : ℕ} (out : List ℕ) {out′ work work′ : List ℕ}
-      → ((bs : List ℕ) (s : Term) (ts : List Term) (m : line.Limits) → read-find bs ≡ accepted (jobs-of s ts m) → IsRun xs s → Runs rights ts
+      → ((bs : List ℕ) (s : Term) (ts : List Term) (m : line.Limits) → read-find bs ≡ accepted (jobs-of s ts m) → IsRun xs s → HeldRuns rights ts
       → length ts ≡ j .rights → limits-of (j .limits) ≡ m → Call (find bs (slots-of (length work)) (length out)) out r out′)
       → FindCall bs out work r out′ work′
   find-answered out {work = work} answer =

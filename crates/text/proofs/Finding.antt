@@ -16,7 +16,7 @@ use Rattle.terms.specs.Theory.Order.{irreflexive}
 use Rattle.terms.specs.Theory.TermOrder.{term-order}
 use Rattle.search.specs.Law.{semiring}
 use Rattle.search.specs.Line as line
-use Rattle.search.specs.Runs.{term-at, Runs}
+use Rattle.search.specs.Runs.{term-at, HeldRuns}
 use Rattle.search.specs.Replied.{reply-of}
 use Rattle.search.specs.Searched.{limits-of, slots-of, Answers, Searches}
 use Rattle.search.specs.declared.replies.Reply.{Reply}
@@ -66,7 +66,7 @@ module _ (bs : List ℕ) (s : Term) (ts : List Term) (m : line.Limits) (read : r
 
   -- what the search leaves of them
   pub all-known : {left rights ws ws′ replies replies′ : List ℕ} {limits : Limits} {ended : Ended} → Searches semiring left rights limits ws ws′ replies replies′ ended
-      → 0 < length ts → IsRun left s → Runs rights ts → length ts ≡ length replies → limits-of limits ≡ m
+      → 0 < length ts → IsRun left s → HeldRuns rights ts → length ts ≡ length replies → limits-of limits ≡ m
       → AllKnown left rights replies′ ended (limits .nodes) ws′ (slots-of (length ws)) s ts m
   all-known {ws = ws} {ws′} {replies′ = replies′} {ended = ended} found some-rights run runs count is =
       let first = accepted-at (term-at ts 0) (getD-in zero ts 0 some-rights) in

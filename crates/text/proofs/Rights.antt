@@ -19,9 +19,8 @@ use Rattle.terms.specs.declared.term.Comparison.{Comparison}
 use Rattle.terms.specs.declared.term.Comparison.the-variants.{Less, Equal, Greater}
 use Rattle.terms.specs.declared.term.Listed.{Listed}
 use Rattle.terms.specs.declared.term.Listed.the-variants.{All, TooMany}
-use Rattle.search.specs.Runs.{term-at, Runs, Shows, Enters}
-use Rattle.search.specs.declared.slots.Origin.{Origin}
-use Rattle.search.proofs.Indexing.{no-runs, entered}
+use Rattle.search.specs.Runs.{term-at, HeldRuns, Shows, HoldsRun}
+use Rattle.search.proofs.Holding.{none-held, held-more}
 use Rattle.text.specs.declared.job.rights.Test.{Test}
 use Rattle.text.specs.declared.job.rights.Test.the-variants.{Few, Differs, After}
 use Rattle.text.specs.declared.job.rights.Rights.{Rights}
@@ -79,7 +78,7 @@ module _ {test : Test} {xs ys : List ℕ} where
 
 -- those before r pass
 pub record PassedTo (test : Test) (xs rights : List ℕ) (n r : ℕ) : Type 0 where
-  pub exact : (s : Term) (ts : List Term) → IsRun xs s → Runs rights ts → length ts ≡ n → every (asked test s) ts ≡ every (asked test s) (drop r ts)
+  pub exact : (s : Term) (ts : List Term) → IsRun xs s → HeldRuns rights ts → length ts ≡ n → every (asked test s) ts ≡ every (asked test s) (drop r ts)
 
 module _ {test : Test} {xs rights : List ℕ} {n r : ℕ} (before : PassedTo test xs rights n r) where
   pub all-passed : n ≤ r → AllPass test xs rights n true
@@ -89,7 +88,7 @@ module _ {test : Test} {xs rights : List ℕ} {n r : ℕ} (before : PassedTo tes
 
   module _ {ys : List ℕ} {b : Bool} (h : r < n) (shown : Shows rights r ys) (passes : Passes test xs ys b) where
     -- this one and the rest
-    split : (s : Term) (ts : List Term) → IsRun xs s → Runs rights ts → length ts ≡ n → every (asked test s) ts ≡ b && every (asked test s) (drop (r + 1) ts)
+    split : (s : Term) (ts : List Term) → IsRun xs s → HeldRuns rights ts → length ts ≡ n → every (asked test s) ts ≡ b && every (asked test s) (drop (r + 1) ts)
     unfolding every
     split s ts u v e =
         let inside : r < length ts = omega arith in
@@ -161,7 +160,7 @@ small-more ts t = every-parts (λ t. leb (size t) 31) ts (t ∷ []) ∙ rw (and-
 abbrev SoFar : List Term → List ℕ → Rights → Type 0
 SoFar ts rights NoTerm = ⊥
 SoFar ts rights Large = all-small ts ≡ false
-SoFar ts rights Small = (all-small ts ≡ true) × Runs rights ts
+SoFar ts rights Small = (all-small ts ≡ true) × HeldRuns rights ts
 
 -- the right sides before r are read
 pub record ReadTo (s places : List ℕ) (n r : ℕ) (rights : List ℕ) (read : Rights) : Type 0 where
@@ -170,7 +169,7 @@ pub record ReadTo (s places : List ℕ) (n r : ℕ) (rights : List ℕ) (read : 
 
 pub none-read : (s places rights : List ℕ) (n : ℕ) → ReadTo s places n 0 rights Small
 unfolding read-terms every
-none-read s places rights n = record { exact = λ values p e. ([], refl, (refl, no-runs rights)) }
+none-read s places rights n = record { exact = λ values p e. ([], refl, (refl, none-held rights)) }
 
 pub all-read : {s places rights₀ rights : List ℕ} {n r : ℕ} {read : Rights} → ReadTo s places n r rights read → n ≤ r
     → length rights ≡ length rights₀ → ReadsRights s places n rights₀ rights read
@@ -215,8 +214,8 @@ module _ {s places : List ℕ} {n r : ℕ} (h : r < n) (room : 2 * n ≤ length 
               );
         }
 
-    pub small-side : {rights′ : List ℕ} {o : Origin} {v : ℕ} → m ≤ 31 → Enters rights rights′ r (take m run) o v → ReadTo s places n (r + 1) rights′ read
-    small-side {rights′} {o} {v} l E =
+    pub small-side : {rights′ : List ℕ} → m ≤ 31 → HoldsRun rights rights′ r (take m run) → ReadTo s places n (r + 1) rights′ read
+    small-side {rights′} l H =
         record {
           exact = λ values p e.
               let b = before .exact values p e in (
@@ -234,5 +233,5 @@ module _ {s places : List ℕ} {n r : ℕ} (h : r < n) (room : 2 * n ≤ length 
         go Large ts k f = small-more ts (term .term) ∙ rw f
         go Small ts k f = (
           small-more ts (term .term) ∙ rw (f .0, fits),
-          entered ts (term .term) (subst (λ i. Enters rights rights′ i (take m run) o v) (sym k) E) (f .1) (term .whole),
+          held-more ts (term .term) (subst (λ i. HoldsRun rights rights′ i (take m run)) (sym k) H) (f .1) (term .whole),
         )

@@ -11,7 +11,7 @@ use Rattle.terms.specs.Letters.{letters}
 use Rattle.terms.specs.Held.{IsRun}
 use Rattle.search.specs.Line as line
 use Rattle.search.specs.Searched.{limits-of}
-use Rattle.search.specs.Runs.{Spells, Runs}
+use Rattle.search.specs.Runs.{Spells, HeldRuns}
 use Rattle.search.specs.declared.bounded_search.Limits.{Limits}
 use Rattle.text.specs.declared.job.rights.Test.{Test}
 use Rattle.text.specs.declared.job.rights.Test.the-variants.{Few, Differs, After}
@@ -34,7 +34,7 @@ pub record Takes (answer : Answer (List Job)) (j : Read) (left rights : List ℕ
   pub accepted : answer ≡ accepted (jobs-of side others limits)
   pub room : j .left ≤ length left
   pub run : IsRun (take (j .left) left) side
-  pub runs : Runs rights others
+  pub runs : HeldRuns rights others
   pub count : length others ≡ j .rights
   pub some-rights : 0 < j .rights
   pub few-rights : j .rights ≤ 16
@@ -65,7 +65,7 @@ pub record Passes (test : Test) (xs ys : List ℕ) (r : Bool) : Type 0 where
 
 -- of `all_pass`
 pub record AllPass (test : Test) (xs rights : List ℕ) (n : ℕ) (r : Bool) : Type 0 where
-  pub exact : (s : Term) (ts : List Term) → IsRun xs s → Runs rights ts → length ts ≡ n → r ≡ every (asked test s) ts
+  pub exact : (s : Term) (ts : List Term) → IsRun xs s → HeldRuns rights ts → length ts ≡ n → r ≡ every (asked test s) ts
 
 -- each place lies in the text
 abbrev pub Inside : List ℕ → List ℕ → ℕ → Type 0
@@ -75,7 +75,7 @@ Inside s places n = (k : ℕ) → k < n → (starts-at places k ≤ ends-at plac
 abbrev pub RightsRead : List (List ℕ) → List ℕ → Rights → Type 0
 RightsRead values out rights.NoTerm = read-terms values ≡ none
 RightsRead values out rights.Large = (ts : List Term) × (read-terms values ≡ some ts) × (all-small ts ≡ false)
-RightsRead values out rights.Small = (ts : List Term) × (read-terms values ≡ some ts) × (all-small ts ≡ true) × Runs out ts
+RightsRead values out rights.Small = (ts : List Term) × (read-terms values ≡ some ts) × (all-small ts ≡ true) × HeldRuns out ts
 
 -- of `read_rights`
 pub record ReadsRights (s places : List ℕ) (n : ℕ) (out out′ : List ℕ) (r : Rights) : Type 0 where
@@ -84,12 +84,12 @@ pub record ReadsRights (s places : List ℕ) (n : ℕ) (out out′ : List ℕ) (
 
 -- of `orient`: xs is left as it is written, and slot 0 has the right side
 pub record Orients (xs left rights : List ℕ) (r : ℕ) (left′ rights′ : List ℕ) : Type 0 where
-  pub exact : (s t : Term) → IsRun xs s → Runs rights (t ∷ []) → size s ≤ 31 → 31 ≤ length left
-      → (r ≤ length left′) × IsRun (take r left′) (orient order s t .left) × Runs rights′ (orient order s t .right ∷ [])
+  pub exact : (s t : Term) → IsRun xs s → HeldRuns rights (t ∷ []) → size s ≤ 31 → 31 ≤ length left
+      → (r ≤ length left′) × IsRun (take r left′) (orient order s t .left) × HeldRuns rights′ (orient order s t .right ∷ [])
 
 -- of `accept_sides`: xs is left as it is written, and slots have the right sides
 pub record AcceptsSides (xs : List ℕ) (n : ℕ) (m : Limits) (left rights : List ℕ) (r : Reading) (left′ rights′ : List ℕ) : Type 0 where
-  pub exact : (s : Term) (ts : List Term) (limits : line.Limits) → IsRun xs s → Runs rights ts → length ts ≡ n → size s ≤ 31
+  pub exact : (s : Term) (ts : List Term) (limits : line.Limits) → IsRun xs s → HeldRuns rights ts → length ts ≡ n → size s ≤ 31
       → all-small ts ≡ true → limits-of m ≡ capped limits → Answers (accept-each s ts limits) r left′ rights′
 
 -- of `read_sides`

@@ -13,7 +13,7 @@ use Rattle.search.specs.Line as line
 use Rattle.search.specs.Line.{Line}
 use Rattle.search.specs.Search.{Noted, terms, direct}
 use Rattle.search.specs.Serve as serve
-use Rattle.search.specs.Runs.{Runs}
+use Rattle.search.specs.Runs.{HeldRuns}
 use Rattle.search.specs.Slots.{noted-at, Slots}
 use Rattle.search.specs.Replied.{reply-of, Replied}
 use Rattle.search.specs.Searched.{Ends, Answers}
@@ -74,7 +74,7 @@ pub record Unmet (ended : Ended) (nodes slots : ℕ) (j : Job) : Type 0 where
 pub record AllKnown (left rights replies : List ℕ) (ended : Ended) (nodes : ℕ) (ws : List ℕ) (slots : ℕ) (s : Term) (ts : List Term) (m : line.Limits) : Type 0 where
   pub known : (j : Job) → j ∈ jobs-of s ts m → Accepted j
   pub left-run : IsRun left s
-  pub runs : Runs rights ts
+  pub runs : HeldRuns rights ts
   pub count : length ts ≡ length replies
   pub answers : Answers semiring m slots s ts ws replies ended
   pub limit : nodes ≡ m .nodes

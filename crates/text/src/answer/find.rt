@@ -7,7 +7,7 @@ ghost use Rattle.terms.specs.Term.{Term};
 ghost use Rattle.terms.specs.Held.{IsRun};
 ghost use Rattle.search.specs.Line as line;
 ghost use Rattle.search.specs.Index.{SLOT};
-ghost use Rattle.search.specs.Runs.{Runs};
+ghost use Rattle.search.specs.Runs.{HeldRuns};
 ghost use Rattle.search.specs.Searched.{limits-of, slots-of};
 ghost use Rattle.text.specs.Answer.{accepted, fitting};
 ghost use Rattle.text.specs.FindJob.{read-find, jobs-of};
@@ -68,7 +68,7 @@ pub fn answer_find(
     ws: &mut [u32],
 ) -> usize
     requires { ⌜ (0 < n) × (n ≤ 16) × (SLOT * n ≤ length (now rights)) ⌝ }
-    ensures { λ r. ⌜ ((bs : List ℕ) (s : Term) (ts : List Term) (m : line.Limits) → read-find bs ≡ accepted (jobs-of s ts m) → IsRun (now (left .entry)) s → Runs (now (rights .entry)) ts → length ts ≡ n → limits-of limits ≡ m → Call (find bs (slots-of (length (now (ws .entry)))) (length (now (out .entry)))) (now (out .entry)) r (now (out .exit))) ⌝ }
+    ensures { λ r. ⌜ ((bs : List ℕ) (s : Term) (ts : List Term) (m : line.Limits) → read-find bs ≡ accepted (jobs-of s ts m) → IsRun (now (left .entry)) s → HeldRuns (now (rights .entry)) ts → length ts ≡ n → limits-of limits ≡ m → Call (find bs (slots-of (length (now (ws .entry)))) (length (now (out .entry)))) (now (out .entry)) r (now (out .exit))) ⌝ }
 {
     let mut room = [0u32; 16];
     let replies = &mut room[..n];

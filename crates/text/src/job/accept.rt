@@ -18,7 +18,6 @@ use super::rights::read_rights;
 use super::side::read_term;
 use search::bounded_search::Limits;
 use search::slots;
-use search::slots::Origin;
 use words::candidate::keep;
 use words::normal_form::copy;
 use words::normal_form::front;
@@ -63,7 +62,7 @@ fn orient(a: &[u32], left: &mut [u32], rights: &mut [u32]) -> usize
     let mut b = [0u32; 31];
     let kept = keep(a, slots::run_of(rights, 0), left, &mut b);
     let n = kept.right;
-    slots::note_slot(rights, 0, front(&b, n), Origin::Start, 0);
+    slots::hold_slot(rights, 0, front(&b, n));
     kept.left
 }
 

@@ -6,7 +6,6 @@ ghost use Rattle.text.specs.Accepting.{FewLetters, Passes, AllPass, Insi
 use super::Found;
 use super::side::read_term;
 use search::slots;
-use search::slots::Origin;
 use terms::term;
 use terms::term::Comparison;
 use terms::term::Listed;
@@ -88,7 +87,7 @@ pub fn read_rights(
         if 31 < m {
             read = Rights::Large;
         } else {
-            slots::note_slot(rights, r, &run[..m], Origin::Start, 0);
+            slots::hold_slot(rights, r, &run[..m]);
         }
         r += 1;
     }

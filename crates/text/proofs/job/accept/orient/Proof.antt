@@ -1,4 +1,4 @@
--- `orient` meets its contract: the smaller side is kept as left, the other is entered anew in slot 0.
+-- `orient` meets its contract: the smaller side is kept as left, the other is held in slot 0.
 use native.Mathlib.Omega.{arith}
 use mathlib.Core.Path.{ap}
 use lib.ListN.{length, length-take}
@@ -22,9 +22,9 @@ slice-aggregate-front c = search needs
 front-requires : tie.Need-front-requires
 front-requires c κs = search needs
 
-note-slot-requires : tie.Need-note-slot-requires
-note-slot-requires c κs =
-    (omega arith, omega (arith, simp length-take at (ap length (c .front .ensures))), omega arith)
+hold-slot-requires : tie.Need-hold-slot-requires
+hold-slot-requires c κs =
+    (omega arith, omega (arith, simp length-take at (ap length (c .front .ensures))))
 
 same-length : tie.Need-same-length
 same-length c = search needs
@@ -36,7 +36,7 @@ returns : tie.Need-returns
 returns c =
     let f = c .before .before .before in
     let k = f .before .before .before .before .before .before in
-    kept-in-order (k .before .before .before .run-of .ensures) (omega arith) (k .keep .ensures) (k .keep .kept .1 .1 .0) (f .front .ensures) (c .before .before .note-slot .ensures)
+    kept-in-order (k .before .before .before .run-of .ensures) (omega arith) (k .keep .ensures) (k .keep .kept .1 .1 .0) (f .front .ensures) (c .before .before .hold-slot .ensures)
 
 pub orient-spec : {M : Type 1} → statement M
 orient-spec =
@@ -47,7 +47,7 @@ orient-spec =
     keep-requires
     slice-aggregate-front
     front-requires
-    note-slot-requires
+    hold-slot-requires
     same-length
     same-length-2
     returns)

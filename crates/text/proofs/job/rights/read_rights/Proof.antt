@@ -80,18 +80,18 @@ term : (c : tie.After-known-told Inv-loop μ-loop) →
     TermRead (slice (starts-at (a .places .now) (l .loop .r)) (ends-at (a .places .now) (l .loop .r)) (a .s .now)) (m .read-term .last .1 .1 .1 .0) (c .before .m .given .0 .0)
 term c = rw (c .before .m .given .1) at (c .before .before .before .before .before .read-term .ensures)
 
-slice-reshare-prefix-note-slot : tie.Need-slice-reshare-prefix-note-slot Inv-loop μ-loop
-slice-reshare-prefix-note-slot c = term (c .before .before) .room
+slice-reshare-prefix-hold-slot : tie.Need-slice-reshare-prefix-hold-slot Inv-loop μ-loop
+slice-reshare-prefix-hold-slot c = term (c .before .before) .room
 
-slice-aggregate-note-slot : tie.Need-slice-aggregate-note-slot Inv-loop μ-loop
-slice-aggregate-note-slot c = sym (length-take-le _ _ (term (c .before .before .before) .room))
+slice-aggregate-hold-slot : tie.Need-slice-aggregate-hold-slot Inv-loop μ-loop
+slice-aggregate-hold-slot c = sym (length-take-le _ _ (term (c .before .before .before) .room))
 
-note-slot-requires : tie.Need-note-slot-requires Inv-loop μ-loop
-note-slot-requires c κs =
+hold-slot-requires : tie.Need-hold-slot-requires Inv-loop μ-loop
+hold-slot-requires c κs =
     let k = c .before .before .before in
     let l = k .before .before .before .before .before .before .before .before .before .before in
     let run = k .before .before .before .before .before .read-term .last .1 .1 .1 .0 in
-    (omega (arith, l .loop .inv .2), omega (arith, length-take-le (k .before .m .given .0 .0) run (term k .room)), omega arith)
+    (omega (arith, l .loop .inv .2), omega (arith, length-take-le (k .before .m .given .0 .0) run (term k .room)))
 
 add-r : tie.Need-add-r Inv-loop μ-loop
 add-r c = search needs
@@ -140,9 +140,9 @@ read-rights-spec =
     same-length
     same-length-2
     returns
-    slice-reshare-prefix-note-slot
-    slice-aggregate-note-slot
-    note-slot-requires
+    slice-reshare-prefix-hold-slot
+    slice-aggregate-hold-slot
+    hold-slot-requires
     add-r
     loop-less
     loop-again
