@@ -20,17 +20,18 @@
  *
  * A TERM is written operator first, items parted by one space: +, *, 0, 1, or v and a number 0 to 999.
  *
- * A job of puvainy_find may have up to 16 `right=` lines, one after the other, and at most 4,096 bytes in
- * all. With one right side the smaller side is taken as left, whichever it is. With several left stays
- * left, and one search serves all. The answer is then one block for each right side, in the job's order,
- * and nothing between them: each block is what the job with this right side alone answers with as many
- * slots. Where that job would be refused by 7, the block is the two lines `answer=refused` and `number=7`;
- * the call still answers. A block begins with its line `answer=..`, and no other line begins so.
+ * A job of puvainy_find may have up to 16 `right=` lines, one after the other between left and steps, and
+ * at most 4,096 bytes in all. With one right side the smaller side is taken as left, whichever it is. With
+ * several left stays left, and one search serves all. The answer is then one block for each right side, in
+ * the job's order, and nothing between them: each block is what the job with this right side alone answers
+ * with as many slots. Where that job would be refused by 7, the block is the two lines `answer=refused` and
+ * `number=7`; the call still answers. A block begins with its line `answer=..`, and no other line begins so.
  *
  * An entry returns 100 plus the length of its answer, or the number of a refusal. Of those that apply the
  * one that stands first here is given; 7, 9 and 10 are puvainy_find's alone:
  *
- *     1   the job has too many bytes, or lines, keys or a limit's digits are malformed
+ *     1   the job has too many bytes, or lines, keys or a limit's digits are malformed; such is a
+ *         second `right=` line in puvainy_words and puvainy_rename, and one behind steps in any
  *     9   over 16 `right=` lines
  *     2   a side is no term
  *     3   a side has over 31 nodes
@@ -48,7 +49,13 @@
  *
  *     job        is not written to.
  *     output     An answer fills the front, and the rest keeps its bytes. It is text, each line ended
- *                by byte 10, with no byte 0 behind it. A refusal leaves the output untouched.
+ *                by byte 10, with no byte 0 behind it. A refusal leaves the output untouched: 8 gives
+ *                none of the blocks, though some would fit.
+ *
+ *                An answer has up to sixteen blocks, each of some 0.5 MB at the very most (an estimate).
+ *                The longest stored one, that to call 4 of examples/deep.calls, has 1,594,509 bytes in
+ *                sixteen blocks. After 8 call again with more room or with fewer right sides.
+ *
  *     workspace  1 to 6, 9 and 10 leave it untouched. After any other return its contents are free,
  *                and no later answer depends on them: it need not be cleared.
  *

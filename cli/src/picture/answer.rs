@@ -151,7 +151,10 @@ impl<'a> Found<'a> {
                 let [left, right] = sides.map(|(key, found)| side(self.given(found, key)?, key));
                 Ok(Block::None([left?.0, right?.0]))
             }
-            Some((_, "refused")) => Ok(Block::Refused),
+            Some((_, "refused")) => {
+                self.given(self.number, "number")?;
+                Ok(Block::Refused)
+            }
             _ => {
                 self.check_proved()?;
                 Ok(Block::Proved(self.derivation()?))

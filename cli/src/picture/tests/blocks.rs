@@ -200,6 +200,7 @@ fn a_block_that_is_not_whole_is_told() {
     let lacks = |key: &str| format!("line 9: this block has no line {key}={WHOLE}");
     assert_eq!(told("answer=none\n"), lacks("left"));
     assert_eq!(told("answer=none\nleft=+ v0 v1\n"), lacks("right"));
+    assert_eq!(told("answer=refused\n"), lacks("number"));
     assert_eq!(
         told("answer=proved\nleft=+ v0 v1\nright=v0\n"),
         lacks("steps")
