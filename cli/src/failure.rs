@@ -74,6 +74,24 @@ pub fn brief(text: &str) -> String {
     shown(&begin) + rest
 }
 
+/// The words as `a, b or c`.
+pub fn joined(words: &[impl AsRef<str>], or: &str) -> String {
+    let words: Vec<_> = words.iter().map(AsRef::as_ref).collect();
+    match &words[..] {
+        [others @ .., last] if !others.is_empty() => format!("{} {or} {last}", others.join(", ")),
+        _ => words.concat(),
+    }
+}
+
+/// The numbers as `1, 2 and 4`.
+pub fn counted(numbers: impl IntoIterator<Item = usize>) -> String {
+    let numbers: Vec<_> = numbers
+        .into_iter()
+        .map(|number| number.to_string())
+        .collect();
+    joined(&numbers, "and")
+}
+
 #[cfg(test)]
 mod tests {
     use super::*;

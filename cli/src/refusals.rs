@@ -9,23 +9,29 @@ pub enum Fault {
     Missing,
     Key,
     Second,
+    Stray,
     End,
     More,
     Digits,
     Rights,
+    Return,
     Empty,
     Space,
     Item,
     Part,
     Left,
     Nodes,
+    NodesRight,
     Letters,
+    LettersRight,
     Bound,
     Same,
     SameRight,
     Before,
     Slots,
+    SlotsRight,
     Room,
+    RoomRights,
 }
 
 /// A fault, and in words where it is.
@@ -33,8 +39,8 @@ pub enum Fault {
 pub struct Found {
     pub fault: Fault,
     pub place: String,
-    /// The side that it is in, where it is in one: 0 is left, K right side K.
-    pub side: Option<usize>,
+    /// The sides that it is in, if any: 0 is left, K right side K.
+    pub sides: Vec<usize>,
 }
 
 /// A row of the table, in which the numbers stand in the order in which they are looked at. Back quotes are for the guide.
@@ -54,14 +60,15 @@ const fn row(number: usize, fault: Fault, wrong: &'static str, to_do: &'static s
     }
 }
 
-const SHARED: &str = "give a part that both plans share a letter of its own";
+const SHARED: &str = "give a part that all plans of the job share a letter of its own";
+const SHARED_ALONE: &str = "ask for such a one in a job of its own, and there give a part that both plans share a letter of its own";
 
-pub const ROWS: [Row; 23] = [
+pub const ROWS: [Row; 29] = [
     row(
         1,
         Fault::Long,
         "the job has over 4,096 bytes, or of WORDS or RENAME over 1,024",
-        "write nothing but the job's lines, and no space or 0 that is not needed",
+        "write nothing but the job's lines, of which at most 16 are right lines, with WORDS and RENAME one, and no space or 0 that is not needed",
     ),
     row(
         1,
@@ -95,6 +102,12 @@ pub const ROWS: [Row; 23] = [
     ),
     row(
         1,
+        Fault::Stray,
+        "a right line stands behind steps",
+        "write all right lines between left and steps",
+    ),
+    row(
+        1,
         Fault::End,
         "the line has no line feed at its end",
         "end every line, the last one too",
@@ -116,6 +129,12 @@ pub const ROWS: [Row; 23] = [
         Fault::Rights,
         "the job has over 16 right lines",
         "ask for the rest in another job",
+    ),
+    row(
+        2,
+        Fault::Return,
+        "the side's line ends the Windows way",
+        "save with Unix line ends",
     ),
     row(2, Fault::Empty, "the side is empty", "write a term"),
     row(
@@ -144,10 +163,22 @@ pub const ROWS: [Row; 23] = [
     ),
     row(3, Fault::Nodes, "the side has over 31 nodes", SHARED),
     row(
+        3,
+        Fault::NodesRight,
+        "of several right sides none may have over 31 nodes",
+        SHARED_ALONE,
+    ),
+    row(
         4,
         Fault::Letters,
         "both sides together have over six different letters",
         SHARED,
+    ),
+    row(
+        4,
+        Fault::LettersRight,
+        "of several right sides none may have over six different letters together with left",
+        SHARED_ALONE,
     ),
     row(
         5,
@@ -164,14 +195,14 @@ pub const ROWS: [Row; 23] = [
     row(
         6,
         Fault::SameRight,
-        "of several right sides this one is the same term as left",
-        "leave its line out: there is nothing to derive",
+        "of several right sides none may be the same term as left",
+        "leave such a line out: there is nothing to derive",
     ),
     row(
         10,
         Fault::Before,
-        "of several right sides this one comes before left in the order of terms",
-        "ask for it in a job of its own, where the smaller plan becomes left by itself",
+        "of several right sides none may come before left in the order of terms",
+        "ask for such a one in a job of its own, where the smaller plan becomes left by itself",
     ),
     row(
         7,
@@ -180,10 +211,22 @@ pub const ROWS: [Row; 23] = [
         "narrow `size` and `depth`, then `steps` and `nodes`; or give more slots, where they are below 65535",
     ),
     row(
+        7,
+        Fault::SlotsRight,
+        "of several right sides not all came up before the slots ran out",
+        "ask for such a one in a job of its own, with narrower `size` and `depth`, or with more slots, where they are below 65535",
+    ),
+    row(
         8,
         Fault::Room,
         "the answer is longer than the output room",
-        "give more room; or, with FIND, ask for fewer right sides at a time, or go by a plan in between, with a job for each half",
+        "give more room; or, with FIND, go by a plan in between, with a job for each half",
+    ),
+    row(
+        8,
+        Fault::RoomRights,
+        "of several right sides the blocks together are longer than the output room",
+        "give more room; or ask for fewer right sides at a time",
     ),
 ];
 

@@ -4,6 +4,7 @@ use puvainy::MOST_SLOTS;
 
 use super::Asking;
 use super::blocks::Block;
+use crate::failure::{counted, joined};
 use crate::job::Job;
 use crate::names::Names;
 use crate::refusals::{self, Fault, Found};
@@ -38,21 +39,21 @@ pub fn sentences(name: &str, job: &Job, blocks: &[Block], asking: &Asking) -> Ve
         said.extend(of_several(name, job, &rights, &told, &asking.names));
     }
     let refused = numbers(blocks, |block| block.is_refused());
-    let told = refusals::sentence(FULL, Some(too_few(asking.slots)));
+    let told = refusals::sentence(FULL, Some(too_few(Fault::SlotsRight, asking.slots)));
     said.extend(of_several(name, job, &refused, &told, &asking.names));
     said
 }
 
 /// What is wrong where the slots are too few, with those that were given.
-pub fn too_few(slots: usize) -> Found {
+pub fn too_few(fault: Fault, slots: usize) -> Found {
     let place = match slots {
         MOST_SLOTS => format!("with all {MOST_SLOTS} slots"),
         _ => format!("with --slots {slots}"),
     };
     Found {
-        fault: Fault::Slots,
+        fault,
         place,
-        side: None,
+        sides: Vec::new(),
     }
 }
 
@@ -84,8 +85,8 @@ fn of_several(name: &str, job: &Job, rights: &[usize], told: &str, names: &Names
     if rights.is_empty() {
         return Vec::new();
     }
-    let numbers: Vec<_> = rights.iter().map(usize::to_string).collect();
-    let mut said = vec![format!("{name}: right {}: {told}", joined(&numbers, "and"))];
+    let numbers = counted(rights.iter().copied());
+    let mut said = vec![format!("{name}: right {numbers}: {told}")];
     for (key, side) in job.sides(|right| rights.contains(&right)) {
         said.extend(names.side(&key, side));
     }
@@ -111,15 +112,6 @@ fn advice(job: &Job, keys: &[&str]) -> String {
     match low.is_empty() {
         true => format!("no limit that helps can be raised: {ask}, or go by a plan in between"),
         false => format!("raise {}, or {ask}", joined(&low, "or")),
-    }
-}
-
-/// The words as `a, b or c`.
-fn joined(words: &[impl AsRef<str>], or: &str) -> String {
-    let words: Vec<_> = words.iter().map(AsRef::as_ref).collect();
-    match &words[..] {
-        [others @ .., last] if !others.is_empty() => format!("{} {or} {last}", others.join(", ")),
-        _ => words.concat(),
     }
 }
 
@@ -223,9 +215,9 @@ mod tests {
         let (refused, proved) = ("answer=refused\nnumber=7\n", "answer=proved\nleft=v0\n");
         let answer = [proved, proved, refused, proved].concat();
         let told = |given: &str| {
-            let wrong = "FIND would note more terms than there are slots";
-            let to_do = "narrow size and depth, then steps and nodes; \
-                         or give more slots, where they are below 65535";
+            let wrong = "of several right sides not all came up before the slots ran out";
+            let to_do = "ask for such a one in a job of its own, with narrower size and depth, \
+                         or with more slots, where they are below 65535";
             format!(
                 "a.job: right 3: with {given}: {wrong}; {to_do} (refusal 7)\nleft: Orders\nright 3: v3"
             )

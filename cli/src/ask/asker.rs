@@ -103,25 +103,27 @@ fn status(blocks: &[Block]) -> Status {
     }
 }
 
-/// What is said of a refused job. Of several right sides only the one at fault is shown, if there is one.
+/// What is said of a refused job. Of several right sides only those at fault are shown, if there are any.
 fn refused(name: &str, number: usize, job: &Job, asking: &Asking) -> Vec<String> {
-    let found = job.fault(number).or_else(|| lacking(number, asking));
-    let at = found.as_ref().and_then(|found| found.side);
+    let found = job.fault(number).or_else(|| lacking(number, job, asking));
+    let at = found
+        .as_ref()
+        .map_or_else(Vec::new, |found| found.sides.clone());
     let mut said = vec![format!("{name}: {}", refusals::sentence(number, found))];
-    for (key, side) in job.sides(|right| at.is_none_or(|at| at == right)) {
+    for (key, side) in job.sides(|right| at.is_empty() || at.contains(&right)) {
         said.extend(asking.names.side(&key, side));
     }
     said
 }
 
 /// What the job was given too little of.
-fn lacking(number: usize, asking: &Asking) -> Option<Found> {
+fn lacking(number: usize, job: &Job, asking: &Asking) -> Option<Found> {
     match (number, asking.room) {
-        (7, _) => Some(advice::too_few(asking.slots)),
+        (7, _) => Some(advice::too_few(Fault::Slots, asking.slots)),
         (8, Room::Bytes(bytes)) => Some(Found {
-            fault: Fault::Room,
+            fault: job.one_or_several(Fault::Room, Fault::RoomRights),
             place: format!("with --room {bytes}"),
-            side: None,
+            sides: Vec::new(),
         }),
         _ => None,
     }

@@ -6,6 +6,7 @@ use std::collections::BTreeSet;
 
 use puvainy::{Entry, MOST_RIGHTS};
 
+use crate::failure::counted;
 use crate::refusals::{Fault, Found};
 use crate::term::{is_letter, ranks};
 
@@ -47,6 +48,11 @@ impl<'a> Job<'a> {
     /// Whether it has several right sides.
     pub fn has_several(&self) -> bool {
         self.rights > 1
+    }
+
+    /// The one fault with one right side, the other with several.
+    pub fn one_or_several(&self, one: Fault, several: Fault) -> Fault {
+        if self.has_several() { several } else { one }
     }
 
     /// Left, and of several right sides the wanted ones, each with its name, where they can be shown as text; none of a text that is
@@ -102,12 +108,12 @@ impl<'a> Job<'a> {
             .strip_prefix(b"=")
     }
 
-    /// The first fault that the number stands for, if it is one that can be placed.
+    /// The first fault that the number stands for, if it is one that can be placed; for 4, 6 and 10 in all right sides that have it.
     pub fn fault(&self, number: usize) -> Option<Found> {
         match number {
             1 => self.in_text().or_else(|| self.in_lines()),
             2 => self.in_sides(side::in_term),
-            3 => self.in_sides(side::in_size),
+            3 => self.in_size(),
             4 => self.in_letters(),
             5 => self.in_bounds(),
             6 => self.in_same(),
@@ -119,7 +125,7 @@ impl<'a> Job<'a> {
 
     /// A fault of the text as a whole.
     fn in_text(&self) -> Option<Found> {
-        let whole = |fault| Some(found(fault, "the whole text".to_owned(), None));
+        let whole = |fault| Some(found(fault, "the whole text".to_owned(), Vec::new()));
         if self.bytes.len() > self.entry.most_job() {
             return whole(Fault::Long);
         }
@@ -144,20 +150,30 @@ impl<'a> Job<'a> {
             };
             return Some(self.in_line(fault, line));
         }
-        (self.lines.len() > count).then(|| at(Fault::More, count))
+        let more = self.lines.get(count)?;
+        Some(self.in_stray(count, more).unwrap_or(at(Fault::More, count)))
     }
 
     /// A line with another key than is due. Behind the right sides of FIND one more could stand.
     fn in_key(&self, line: usize, text: &[u8]) -> Found {
-        let is_behind = line == 1 + self.rights;
-        if is_behind && text.starts_with(b"right=") {
-            return at(Fault::Second, line);
+        if let Some(stray) = self.in_stray(line, text) {
+            return stray;
         }
-        if is_behind && self.entry.most_rights() > 1 {
+        if line == 1 + self.rights && self.entry.most_rights() > 1 {
             let place = format!("line {} (right or steps)", line + 1);
-            return found(Fault::Key, place, None);
+            return found(Fault::Key, place, Vec::new());
         }
         self.in_line(Fault::Key, line)
+    }
+
+    /// A right line behind the right sides.
+    fn in_stray(&self, line: usize, text: &[u8]) -> Option<Found> {
+        let fault = match self.entry.most_rights() {
+            1 => Fault::Second,
+            _ => Fault::Stray,
+        };
+        let is_stray = line > self.rights && text.starts_with(b"right=");
+        is_stray.then(|| at(fault, line))
     }
 
     /// The first right side that is one too many.
@@ -171,18 +187,28 @@ impl<'a> Job<'a> {
         (0..=self.rights).find_map(|line| {
             let (fault, place) = find(self.value(line)?)?;
             let Found { place: begin, .. } = self.in_line(fault, line);
-            Some(found(fault, begin + &place, Some(line)))
+            Some(found(fault, begin + &place, vec![line]))
         })
     }
 
-    /// The first right side that has too many letters together with left.
+    /// The first side that has too many nodes. Left is shared, so that another advice holds for it than for one of several right sides.
+    fn in_size(&self) -> Option<Found> {
+        let found = self.in_sides(side::in_size)?;
+        let fault = match found.sides[..] {
+            [0] => Fault::Nodes,
+            _ => self.one_or_several(Fault::Nodes, Fault::NodesRight),
+        };
+        Some(Found { fault, ..found })
+    }
+
+    /// The right sides that have too many letters together with left.
     fn in_letters(&self) -> Option<Found> {
-        self.in_rights(|left, right| {
-            let items = left.split(' ').chain(right.split(' '));
-            let letters: BTreeSet<_> = items.filter(|item| is_letter(item)).collect();
-            let more = format!(", {} letters", letters.len());
-            (letters.len() > MOST_LETTERS).then_some((Fault::Letters, more))
-        })
+        let fault = self.one_or_several(Fault::Letters, Fault::LettersRight);
+        let mut found = self.in_rights(fault, |left, right| letters(left, right) > MOST_LETTERS)?;
+        let counts = found.sides.iter();
+        let counts = counts.filter_map(|&line| Some(letters(self.text(0)?, self.text(line)?)));
+        found.place += &format!(", {} letters", counted(counts));
+        Some(found)
     }
 
     fn in_bounds(&self) -> Option<Found> {
@@ -194,47 +220,63 @@ impl<'a> Job<'a> {
         })
     }
 
-    /// The first right side that is left's term. A term has one text.
+    /// The right sides that are left's term. A term has one text.
     fn in_same(&self) -> Option<Found> {
-        let fault = match self.has_several() {
-            true => Fault::SameRight,
-            false => Fault::Same,
-        };
-        self.in_rights(|left, right| (left == right).then_some((fault, String::new())))
+        let fault = self.one_or_several(Fault::Same, Fault::SameRight);
+        self.in_rights(fault, |left, right| left == right)
     }
 
-    /// The first right side that comes before left.
+    /// The right sides that come before left.
     fn in_order(&self) -> Option<Found> {
-        self.in_rights(|left, right| {
-            (ranks(right) < ranks(left)).then_some((Fault::Before, String::new()))
-        })
+        self.in_rights(Fault::Before, |left, right| ranks(right) < ranks(left))
     }
 
-    /// The first right side with a fault beside left, and what is told of its place.
-    fn in_rights(&self, find: impl Fn(&str, &str) -> Option<(Fault, String)>) -> Option<Found> {
-        let text = |line| str::from_utf8(self.value(line)?).ok();
-        let left = text(0)?;
-        (1..=self.rights).find_map(|line| {
-            let (fault, more) = find(left, text(line)?)?;
-            let place = format!("lines 1 and {}{more}", line + 1);
-            Some(found(fault, place, Some(line)))
-        })
+    /// The fault of all right sides that are such beside left, if there are any.
+    fn in_rights(&self, fault: Fault, is_such: impl Fn(&str, &str) -> bool) -> Option<Found> {
+        let left = self.text(0)?;
+        let is_at_fault = |&line: &usize| self.text(line).is_some_and(|right| is_such(left, right));
+        let rights: Vec<_> = (1..=self.rights).filter(is_at_fault).collect();
+        let lines = counted(rights.iter().map(|line| line + 1));
+        let place = match rights[..] {
+            [] => return None,
+            [_] if !self.has_several() => "lines 1 and 2".to_owned(),
+            [right] => format!("line {lines} (right {right})"),
+            _ => format!("lines {lines} (right {})", counted(rights.iter().copied())),
+        };
+        Some(found(fault, place, rights))
+    }
+
+    /// The text of that side.
+    fn text(&self, line: usize) -> Option<&'a str> {
+        str::from_utf8(self.value(line)?).ok()
     }
 
     /// A fault of that line, with the line's name.
     fn in_line(&self, fault: Fault, line: usize) -> Found {
         let place = format!("line {} ({})", line + 1, self.name(line));
-        found(fault, place, (line <= self.rights).then_some(line))
+        let side = (line <= self.rights).then_some(line);
+        found(fault, place, side.into_iter().collect())
     }
 }
 
-fn found(fault: Fault, place: String, side: Option<usize>) -> Found {
-    Found { fault, place, side }
+/// How many different letters both sides have together.
+fn letters(left: &str, right: &str) -> usize {
+    let items = left.split(' ').chain(right.split(' '));
+    let letters: BTreeSet<_> = items.filter(|item| is_letter(item)).collect();
+    letters.len()
+}
+
+fn found(fault: Fault, place: String, sides: Vec<usize>) -> Found {
+    Found {
+        fault,
+        place,
+        sides,
+    }
 }
 
 /// A fault of that line; the first is 0.
 fn at(fault: Fault, line: usize) -> Found {
-    found(fault, format!("line {}", line + 1), None)
+    found(fault, format!("line {}", line + 1), Vec::new())
 }
 
 fn is_number(digits: &[u8]) -> bool {

@@ -6,6 +6,9 @@ use crate::term::{MOST_NODES, is_atom};
 
 /// Why a side is no term, and at which of its items.
 pub fn in_term(side: &[u8]) -> Option<(Fault, String)> {
+    if side.ends_with(b"\r") {
+        return Some((Fault::Return, String::new()));
+    }
     let side = String::from_utf8_lossy(side);
     if side.is_empty() {
         return Some((Fault::Empty, String::new()));

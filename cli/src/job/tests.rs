@@ -63,7 +63,7 @@ const WIDE: &str =
 const MANY: &str = "left=+ v6 + v5 + v4 + v3 + v2 ";
 
 /// Of `THREE`, by FIND.
-const OF_THREE: [Case; 15] = [
+const OF_THREE: [Case; 18] = [
     (Fault::Windows, "3\n", "3\r\n", "line 5"),
     (Fault::Missing, "nodes=1000\n", "", "line 8 (nodes)"),
     (
@@ -73,10 +73,18 @@ const OF_THREE: [Case; 15] = [
         "line 3 (right or steps)",
     ),
     (Fault::Key, "steps", "Steps", "line 5 (right or steps)"),
-    (Fault::Key, "size", "right", "line 6 (size)"),
+    (Fault::Key, "size", "sizes", "line 6 (size)"),
+    (Fault::Stray, "size", "right=0\nsize", "line 6"),
     (Fault::End, "1000\n", "1000", "line 8 (nodes)"),
-    (Fault::More, "1000\n", "1000\nright=0\n", "line 9"),
+    (Fault::Stray, "1000\n", "1000\nright=0\n", "line 9"),
+    (Fault::More, "1000\n", "1000\nsteps=3\n", "line 9"),
     (Fault::Digits, "depth=4", "depth=04", "line 7 (depth)"),
+    (
+        Fault::Return,
+        "* v0 v1\n",
+        "* v0 v1\r\n",
+        "line 3 (right 2)",
+    ),
     (Fault::Empty, "=* v0 v1", "=", "line 3 (right 2)"),
     (
         Fault::Part,
@@ -85,20 +93,25 @@ const OF_THREE: [Case; 15] = [
         "line 3 (right 2), behind item 2",
     ),
     (
-        Fault::Nodes,
+        Fault::NodesRight,
         "right=* v0 v1",
         WIDE,
         "line 3 (right 2), 33 nodes",
     ),
     (
-        Fault::Letters,
+        Fault::LettersRight,
         "=* v0 v1",
         "=* v0 * v6 * v2 * v3 * v4 v5",
-        "lines 1 and 3, 7 letters",
+        "line 3 (right 2), 7 letters",
     ),
     (Fault::Bound, "size=9", "size=32", "line 6 (size)"),
-    (Fault::SameRight, "* v0 v1\n", "+ v1 0\n", "lines 1 and 3"),
-    (Fault::Before, "* v0 v1\n", "+ v1 v0\n", "lines 1 and 3"),
+    (
+        Fault::SameRight,
+        "* v0 v1\n",
+        "+ v1 0\n",
+        "line 3 (right 2)",
+    ),
+    (Fault::Before, "* v0 v1\n", "+ v1 v0\n", "line 3 (right 2)"),
 ];
 
 /// The fault for which the entry refuses the job.
@@ -149,17 +162,61 @@ fn of_several_right_sides_the_place_of_each_fault_is_told() {
     let due = (Fault::Rights, "line 18 (right 17)".to_owned());
     assert_eq!(told(Entry::Find, &job), due);
     for entry in [Entry::Words, Entry::Rename] {
-        let due = (Fault::Second, "line 3".to_owned());
-        assert_eq!(told(entry, THREE), due);
+        let due = |place: &str| (Fault::Second, place.to_owned());
+        assert_eq!(told(entry, THREE), due("line 3"));
+        let behind = JOB.replacen("size", "right=0\nsize", 1);
+        assert_eq!(told(entry, &behind), due("line 4"));
+        assert_eq!(told(entry, &format!("{JOB}right=0\n")), due("line 7"));
+    }
+    let left = THREE.replacen("left=+ v1 0", &WIDE.replacen("right", "left", 1), 1);
+    let due = (Fault::Nodes, "line 1 (left), 33 nodes".to_owned());
+    assert_eq!(told(Entry::Find, &left), due);
+}
+
+/// Of what stands between left and one right side, all that are at fault are told.
+#[test]
+fn all_right_sides_at_fault_are_told() {
+    let many = |count: usize| {
+        let parts: String = (2..=count).map(|letter| format!("+ v{letter} ")).collect();
+        format!("+ v1 {parts}0")
+    };
+    for (fault, first, second, place) in [
+        (
+            Fault::LettersRight,
+            many(7),
+            many(8),
+            "lines 2 and 4 (right 1 and 3), 7 and 8 letters",
+        ),
+        (
+            Fault::SameRight,
+            "+ v1 0".to_owned(),
+            "+ v1 0".to_owned(),
+            "lines 2 and 4 (right 1 and 3)",
+        ),
+        (
+            Fault::Before,
+            "v1".to_owned(),
+            "+ v0 1".to_owned(),
+            "lines 2 and 4 (right 1 and 3)",
+        ),
+    ] {
+        let job = THREE.replacen("=+ 0 v1\n", &format!("={first}\n"), 1);
+        let job = job.replacen("=+ * v0 v1 0\n", &format!("={second}\n"), 1);
+        let due = Found {
+            fault,
+            place: place.to_owned(),
+            sides: vec![1, 3],
+        };
+        assert_eq!(self::fault(Entry::Find, &job), due);
     }
 }
 
 #[test]
-fn of_several_right_sides_the_one_at_fault_is_known() {
-    let side = |from, to| fault(Entry::Find, &THREE.replacen(from, to, 1)).side;
-    assert_eq!(side("=+ v1 0", "=+ v1"), Some(0));
-    assert_eq!(side("* v0 v1\n", "+ v1 v0\n"), Some(2));
-    assert_eq!(side("size=9", "size=32"), None);
+fn of_several_right_sides_those_at_fault_are_known() {
+    let sides = |from, to| fault(Entry::Find, &THREE.replacen(from, to, 1)).sides;
+    assert_eq!(sides("=+ v1 0", "=+ v1"), [0]);
+    assert_eq!(sides("* v0 v1\n", "+ v1 v0\n"), [2]);
+    assert_eq!(sides("size=9", "size=32"), []);
     let job = Job::new(Entry::Find, THREE.as_bytes());
     let due = [("left", "+ v1 0"), ("right 2", "* v0 v1")];
     let due: Vec<_> = due.map(|(key, side)| (key.to_owned(), side)).into();
