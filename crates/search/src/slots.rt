@@ -137,7 +137,7 @@ pub fn has_run(ws: &[u32], k: u32, s: &[u32], h: u32) -> bool
     ensures { λ r. ⌜ Compares (now (ws .entry)) k (now (s .entry)) h r ⌝ }
 {
     if ws[SLOT * (k as usize) + 5] == h {
-        return term::equal(s, run_of(ws, k));
+        return term::equal_by_fours(s, run_of(ws, k));
     }
     false
 }

@@ -1,63 +1,166 @@
--- Two lists compared from a position on: what the first number that differs says of the whole.
-use Prim.Native.Nat.{ℕ, _+_, _<_, _≤_, compare}
+-- Two lists compared number by number: how they differ, and what the first number that differs says of the whole.
+use Prim.Native.Nat.{ℕ, _+_, _-_, _<_, _≤_, compare}
 use native.Mathlib.Omega.{arith}
-use mathlib.Core.Path.{_≡_, sym, ap, _∙_}
-use mathlib.Core.Bool.{Bool}
-use mathlib.Core.List.{List}
-use lib.Dec.{isEq}
-use lib.ListN.{length, drop, getD, drop-of-length-le}
-use Rattle.terms.specs.Compare.{Ordering, lt, eq, gt, then, lexicographic, order-numbers}
+use native.Mathlib.Numerals.{add-one}
+use mathlib.Core.Path.{_≡_, refl, sym, ap, ap₂, _∙_}
+use mathlib.Core.Bool.{Bool, true, false, not, _&&_}
+use mathlib.Core.Logic.{⊎-elim}
+use mathlib.Core.List.{List, [], _∷_, _++_}
+use lib.Dec.{isEq, eqb, eqb→eq}
+use lib.ListN.{length, take, drop, getD, drop-of-length-le}
+use lib.Seq.{take-suc, take-all, take-add}
+use borrow.Author.Tests.{not-false}
+use Rattle.terms.specs.Compare.{Ordering, lt, eq, gt, order-numbers}
+use Rattle.terms.specs.Differ.{Agree, Part, PartAt}
 use Rattle.terms.specs.Term.{same}
-use Rattle.terms.specs.Promises.{ordering-of, smaller-of, Compares, Equals, Smaller}
-use Rattle.terms.specs.Theory.Reflects.{Reflects}
-use Rattle.terms.specs.Theory.Order.{flip-lt, tie-reflects, compare-order, compare-below}
+use Rattle.terms.specs.Promises.{ListsDiffer, Differs, is-same, ordering-of, smaller-of, Compares, Equals, Smaller}
+use Rattle.terms.specs.Theory.Reflects.{Reflects, both}
+use Rattle.terms.specs.Theory.Order.{flip-lt, tie-reflects, compare-order, compare-below, below?}
 use Rattle.terms.specs.Theory.Coding.{numbers-order}
-use Rattle.terms.specs.Theory.Held.{order-of}
+use Rattle.terms.specs.Theory.Differ.{part-once, part-apart, part-swap, first-order, part-at, part-order}
+use Rattle.terms.specs.Theory.TermOrder.{term-order}
+use Rattle.terms.specs.Theory.Held.{order-of, size-of, place-of}
+use Rattle.terms.specs.declared.difference.Difference.{Difference}
+use Rattle.terms.specs.declared.difference.Difference.the-variants.{At, Same}
 use Rattle.terms.specs.declared.term.Comparison.{Comparison}
+use Rattle.terms.specs.declared.term.Comparison.the-variants.{Less, Equal, Greater}
 use Rattle.terms.proofs.Positions.{drop-one}
 
-module _ (a b : List ℕ) (i : ℕ) (o : Ordering) (e : order-numbers (drop i a) (drop i b) ≡ o) where
-  both-here : i < length a → i < length b → then (compare (getD a i 0) (getD b i 0)) (order-numbers (drop (i + 1) a) (drop (i + 1) b)) ≡ o
-  unfolding lexicographic
-  both-here ha hb = rw (drop-one a i ha, drop-one b i hb) at e
-
-  pub less-here : i < length a → i < length b → getD a i 0 < getD b i 0 → lt ≡ o
-  unfolding then
-  less-here ha hb h = rw (compare-below (getD a i 0) (getD b i 0) h) at (both-here ha hb)
-
-  pub greater-here : i < length a → i < length b → getD b i 0 < getD a i 0 → gt ≡ o
-  unfolding then
-  greater-here ha hb h = rw (flip-lt compare-order (compare-below (getD b i 0) (getD a i 0) h)) at (both-here ha hb)
-
-  pub equal-here : i < length a → i < length b → getD b i 0 ≤ getD a i 0 → getD a i 0 ≤ getD b i 0 → order-numbers (drop (i + 1) a) (drop (i + 1) b) ≡ o
-  unfolding then
-  equal-here ha hb g h = let d : getD a i 0 ≡ getD b i 0 = omega arith in rw (d, compare-order .reflexive) at (both-here ha hb)
-
-  pub second-ended : i < length a → length b ≤ i → gt ≡ o
-  unfolding lexicographic
-  second-ended ha hb = rw (drop-one a i ha, drop-of-length-le b hb) at e
-
-  pub first-ended : length a ≤ i → i < length b → lt ≡ o
-  unfolding lexicographic
-  first-ended ha hb = rw (drop-of-length-le a ha, drop-one b i hb) at e
-
-  pub both-ended : length a ≤ i → length b ≤ i → eq ≡ o
-  unfolding lexicographic
-  both-ended ha hb = rw (drop-of-length-le a ha, drop-of-length-le b hb) at e
-
--- the promises, from what was found of the numbers
+-- the promise of `first_difference`, from what was found of the numbers
 
 module _ {xs ys : List ℕ} where
-  pub compares : {r : Comparison} → ordering-of r ≡ order-numbers xs ys → Compares xs ys r
+  differs-at : (k : ℕ) → PartAt xs ys k → Differs xs ys (At k)
+  differs-at k p =
+      let apart = part-apart xs ys k p in
+      record {
+        numbers = (apart, part-once xs ys p (part-at compare-order xs ys apart));
+        terms =
+            λ s t m n. (
+              rw (← m .whole, ← n .whole) p,
+              rw (← size-of m) (place-of k m n p),
+              rw (← size-of n) (place-of k n m (part-swap p)),
+            );
+      }
+
+  same-all : xs ≡ ys → Differs xs ys Same
+  same-all e = record { numbers = e; terms = λ s t m n. term-order .tie (sym (order-of m n) ∙ rw e (numbers-order .reflexive ys)) }
+
+-- the first i numbers agree: what the next one says
+
+module _ (a b : List ℕ) (i : ℕ) (A : Agree a b i) where
+  parted : Part (drop i a) (drop i b) → Differs a b (At i)
+  parted p = differs-at i (record { agree = A; part = p })
+
+  module _ (ha : i < length a) where
+    pub second-shorter : length b ≤ i → Differs a b (At i)
+    second-shorter h = parted (rw (drop-one a i ha, drop-of-length-le b h) tt)
+
+    module _ (hb : i < length b) where
+      pub differ-here : (getD a i 0 ≡ getD b i 0 → ⊥) → Differs a b (At i)
+      differ-here d = parted (rw (drop-one a i ha, drop-one b i hb) d)
+
+      pub one-more : getD a i 0 ≡ getD b i 0 → Agree a b (i + 1)
+      one-more e =
+          record {
+            within = (omega arith, omega arith);
+            front = rw (add-one, take-suc a i 0 ha, take-suc b i 0 hb) (ap₂ (λ xs x. xs ++ (x ∷ [])) (A .front) e);
+          }
+
+  module _ (ha : length a ≤ i) where
+    pub first-shorter : i < length b → Differs a b (At i)
+    first-shorter h = parted (rw (drop-of-length-le a ha, drop-one b i h) tt)
+
+    pub both-ended : length b ≤ i → Differs a b Same
+    both-ended h = same-all (sym (take-all i a ha) ∙ A .front ∙ take-all i b h)
+
+-- four numbers at once
+
+drop-to : (xs : List ℕ) (i j : ℕ) → j ≡ i + 1 → i < length xs → drop i xs ≡ getD xs i 0 ∷ drop j xs
+drop-to xs i j e h = rw e (drop-one xs i h)
+
+next-four : (xs : List ℕ) (i : ℕ) → i + 4 ≤ length xs
+    → take 4 (drop i xs) ≡ getD xs i 0 ∷ getD xs (i + 1) 0 ∷ getD xs (i + 2) 0 ∷ getD xs (i + 3) 0 ∷ []
+next-four xs i h =
+    rw (
+      drop-to xs i (i + 1) refl (omega arith),
+      drop-to xs (i + 1) (i + 2) (omega arith) (omega arith),
+      drop-to xs (i + 2) (i + 3) (omega arith) (omega arith),
+      drop-to xs (i + 3) (i + 4) (omega arith) (omega arith),
+    )
+
+pub four-agree : (a b : List ℕ) (i : ℕ) → i + 4 ≤ length a → i + 4 ≤ length b
+    → eqb (getD a i 0) (getD b i 0)
+    && eqb (getD a (i + 1) 0) (getD b (i + 1) 0)
+    && eqb (getD a (i + 2) 0) (getD b (i + 2) 0)
+    && eqb (getD a (i + 3) 0) (getD b (i + 3) 0)
+    ≡ true
+    → take 4 (drop i a) ≡ take 4 (drop i b)
+four-agree a b i ha hb e = rw (next-four a i ha, next-four b i hb) (go _ _ _ _ _ _ _ _ e)
+  where
+    go : (p q r s w x y z : ℕ) → eqb p w && eqb q x && eqb r y && eqb s z ≡ true → p ∷ q ∷ r ∷ s ∷ [] ≡ w ∷ x ∷ y ∷ z ∷ []
+    go p q r s w x y z e =
+        let t = both (eqb p w && eqb q x && eqb r y) (eqb s z) (rw e tt) in
+        let u = both (eqb p w && eqb q x) (eqb r y) (t .0) in
+        let v = both (eqb p w) (eqb q x) (u .0) in
+        rw (eqb→eq p w (v .0), eqb→eq q x (v .1), eqb→eq r y (u .1), eqb→eq s z (t .1))
+
+pub four-more : (a b : List ℕ) (i : ℕ) (r : Bool) → length a ≡ length b → 4 ≤ length a - i → Agree a b i
+    → (r ≡ true → take 4 (drop i a) ≡ take 4 (drop i b)) → not r ≡ false → Agree a b (i + 4)
+four-more a b i r e h A f t =
+    record { within = (omega arith, omega arith); front = rw (take-add i 4 a, take-add i 4 b, A .front, f (not-false r t)) }
+
+-- the promise of `compare`, from what the first difference says of the order
+
+module _ (a b : List ℕ) (r : Difference) (D : Differs a b r) where
+  compares : {c : Comparison} → ordering-of c ≡ order-numbers a b → Compares a b c
   compares e = record { numbers = e; terms = λ s t p q. e ∙ order-of p q }
 
-  pub equals : {c r : Comparison} → Compares xs ys c → c ≡ r → Equals xs ys (isEq (ordering-of r))
+  pub equal-all : r ≡ Same → Compares a b Equal
+  equal-all e = let d = rw e at (D .numbers) in compares (rw d (sym (numbers-order .reflexive b)))
+
+  module _ (k : ℕ) (e : r ≡ At k) where
+    parts : PartAt a b k
+    parts = let d = rw e at (D .numbers) in rw (d .1) (part-at compare-order a b (d .0))
+
+    decided : {c : Ordering} → first-order compare (drop k a) (drop k b) ≡ c → c ≡ order-numbers a b
+    decided f = sym (part-order compare-order a b k parts ∙ f)
+
+    pub first-ended : length a ≤ k → Compares a b Less
+    first-ended h = compares (decided (rw (drop-of-length-le a h) (go (drop k b) (rw (drop-of-length-le a h) at (parts .part)))))
+      where
+        go : (ys : List ℕ) → Part [] ys → first-order compare [] ys ≡ lt
+        go [] z = absurd z
+        go (y ∷ ys) z = refl
+
+    module _ (ha : k < length a) where
+      pub second-ended : length b ≤ k → Compares a b Greater
+      second-ended h = compares (decided (rw (drop-one a k ha, drop-of-length-le b h)))
+
+      module _ (hb : k < length b) where
+        pub less-here : getD a k 0 < getD b k 0 → Compares a b Less
+        less-here h = compares (decided (rw (drop-one a k ha, drop-one b k hb) (compare-below (getD a k 0) (getD b k 0) h)))
+
+        pub greater-here : getD b k 0 ≤ getD a k 0 → Compares a b Greater
+        greater-here h =
+            let apart : getD a k 0 ≡ getD b k 0 → ⊥ = rw (drop-one a k ha, drop-one b k hb) at (parts .part) in
+            let above : getD b k 0 < getD a k 0 = ⊎-elim (λ p. p) (λ p. absurd (apart (omega arith))) (below? (getD b k 0) (getD a k 0)) in
+            compares (decided (rw (drop-one a k ha, drop-one b k hb) (flip-lt compare-order (compare-below (getD b k 0) (getD a k 0) above))))
+
+-- the promises of `equal` and `smaller`
+
+module _ {xs ys : List ℕ} where
+  pub equals : {d : Difference} {r : Bool} → Differs xs ys d → r ≡ is-same d → Equals xs ys r
   unfolding same
-  equals h e =
-      record {
-        numbers = ap isEq (ap ordering-of (sym e) ∙ h .numbers);
-        terms = λ s t p q. ap isEq (ap ordering-of (sym e) ∙ h .terms s t p q);
-      }
+  equals {d} h e = record { numbers = e ∙ is; terms = λ s t p q. e ∙ is ∙ ap isEq (order-of p q) }
+    where
+      told : (d : Difference) → ListsDiffer xs ys d → (b : Bool) → Reflects (xs ≡ ys) b → is-same d ≡ b
+      told (At k) p true q = absurd (p .0 q)
+      told (At k) p false q = refl
+      told Same p true q = refl
+      told Same p false q = absurd (q p)
+
+      is : is-same d ≡ isEq (order-numbers xs ys)
+      is = told d (h .numbers) (isEq (order-numbers xs ys)) (tie-reflects numbers-order xs ys)
 
   pub smaller : {A : Type 0} (a b : A) {c r : Comparison} → Compares xs ys c → c ≡ r → Smaller xs ys a b (smaller-of (ordering-of r) a b)
   smaller a b h e =

@@ -1,20 +1,43 @@
 -- What each function promises of its answer r, on lists of numbers and on the runs of terms.
-use Prim.Native.Nat.{ℕ, _+_, _<_, _≤_}
+use Prim.Native.Nat.{ℕ, _+_, _<_, _≤_, compare}
 use mathlib.Core.Path.{_≡_}
-use mathlib.Core.Bool.{Bool, true}
+use mathlib.Core.Bool.{Bool, true, false}
 use mathlib.Core.List.{List, _++_}
 use lib.Dec.{isEq}
 use lib.ListN.{length, drop}
 use Rattle.terms.specs.Compare.{Ordering, lt, eq, gt, order-numbers}
+use Rattle.terms.specs.Differ.{differ-at, PartAt}
 use Rattle.terms.specs.Term.{Term, size, depth, order, same}
 use Rattle.terms.specs.Letters.{letters, rising}
+use Rattle.terms.specs.Run.{run}
 use Rattle.terms.specs.Held.{IsRun, Holds}
 use Rattle.terms.specs.Numbers.{read-run, is-some, end-at, depth-of, letters-of}
+use Rattle.terms.specs.declared.difference.Difference.{Difference}
+use Rattle.terms.specs.declared.difference.Difference.the-variants.{At, Same}
 use Rattle.terms.specs.declared.term.Comparison.{Comparison}
 use Rattle.terms.specs.declared.term.Comparison.the-variants.{Less, Equal, Greater}
 use Rattle.terms.specs.declared.term.Listed.{Listed}
 use Rattle.terms.specs.declared.term.Listed.the-variants.{All, TooMany}
 use Rattle.terms.specs.declared.term.Extent.{Extent}
+
+-- how two lists of numbers differ: first at a place, or not at all; a list that is a beginning of the other differs from it at its end
+abbrev pub ListsDiffer : List ℕ → List ℕ → Difference → Type 0
+ListsDiffer xs ys (At k) = (xs ≡ ys → ⊥) × (k ≡ differ-at compare xs ys)
+ListsDiffer xs ys Same = xs ≡ ys
+
+-- how two terms differ: first at a place of both their runs, or they are the same term
+abbrev pub TermsDiffer : Term → Term → Difference → Type 0
+TermsDiffer s t (At k) = PartAt (run s) (run t) k × (k < size s) × (k < size t)
+TermsDiffer s t Same = s ≡ t
+
+-- of `first_difference` and `difference_by_fours`
+pub record Differs (xs ys : List ℕ) (r : Difference) : Type 0 where
+  pub numbers : ListsDiffer xs ys r
+  pub terms : (s t : Term) → IsRun xs s → IsRun ys t → TermsDiffer s t r
+
+abbrev pub is-same : Difference → Bool
+is-same (At k) = false
+is-same Same = true
 
 abbrev pub ordering-of : Comparison → Ordering
 ordering-of Less = lt

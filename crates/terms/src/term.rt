@@ -5,6 +5,10 @@ ghost use lib.ListN.{take};
 ghost use Rattle.terms.specs.Sort.{lost, insert, insert-all};
 ghost use Rattle.terms.specs.Numbers.{put-in, letters-of};
 ghost use Rattle.terms.specs.Promises.{Compares, Equals, Ends, Sized, Extends, Deep, Reads, Fills, Lists};
+use crate::difference::Difference;
+use crate::difference::difference_by_fours;
+use crate::difference::first_difference;
+use crate::difference::is_same;
 
 // The numbers of a run that are no letters: 0, 1, a sum and a product. Those below ZERO are letters, and those below ADD atoms.
 pub const ZERO: u32 = 4096;
@@ -25,36 +29,33 @@ pub enum Comparison {
 pub fn compare(a: &[u32], b: &[u32]) -> Comparison
     ensures { λ r. ⌜ Compares (now (a .entry)) (now (b .entry)) r ⌝ }
 {
-    let mut i = 0;
-    while i < a.len() {
-        if b.len() <= i {
-            return Comparison::Greater;
-        }
-        let x = a[i];
-        let y = b[i];
-        if x < y {
-            return Comparison::Less;
-        }
-        if y < x {
-            return Comparison::Greater;
-        }
-        i += 1;
-    }
-    if i < b.len() {
+    let Difference::At(k) = first_difference(a, b) else {
+        return Comparison::Equal;
+    };
+    if a.len() <= k {
         return Comparison::Less;
     }
-    Comparison::Equal
+    if b.len() <= k {
+        return Comparison::Greater;
+    }
+    if a[k] < b[k] {
+        return Comparison::Less;
+    }
+    Comparison::Greater
 }
 
 // Whether two runs are the same.
 pub fn equal(a: &[u32], b: &[u32]) -> bool
     ensures { λ r. ⌜ Equals (now (a .entry)) (now (b .entry)) r ⌝ }
 {
-    match compare(a, b) {
-        Comparison::Less => false,
-        Comparison::Equal => true,
-        Comparison::Greater => false,
-    }
+    is_same(first_difference(a, b))
+}
+
+// The same, for runs that most likely are the same.
+pub fn equal_by_fours(a: &[u32], b: &[u32]) -> bool
+    ensures { λ r. ⌜ Equals (now (a .entry)) (now (b .entry)) r ⌝ }
+{
+    is_same(difference_by_fours(a, b))
 }
 
 // Where the term that starts at `at` ends: where the list ends, if that comes first, and `at` itself past that.

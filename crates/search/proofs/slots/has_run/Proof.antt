@@ -19,11 +19,11 @@ shared-slice-read-if1 c = search needs
 run-of-requires : tie.Need-run-of-requires
 run-of-requires c κs = search needs
 
-equal-requires : tie.Need-equal-requires
-equal-requires c κs = search needs
+equal-by-fours-requires : tie.Need-equal-by-fours-requires
+equal-by-fours-requires c κs = search needs
 
 returns : tie.Need-returns
-returns c = compared (c .before .run-of .ensures) (c .equal .ensures)
+returns c = compared (c .before .run-of .ensures) (c .equal-by-fours .ensures)
 
 returns-2 : tie.Need-returns-2
 returns-2 c = hash-differs (c .if1 .left)
@@ -37,6 +37,6 @@ has-run-spec =
     mul-if1-2
     shared-slice-read-if1
     run-of-requires
-    equal-requires
+    equal-by-fours-requires
     returns
     returns-2)

@@ -1,74 +1,58 @@
--- `compare` meets its contract. The loop's invariant: the two lists from `i` on compare as the whole lists do.
-use Prim.Native.Nat.{_≤_, _-_}
-use mathlib.Core.Path.{_≡_}
-use lib.ListN.{length, drop}
+-- `compare` meets its contract: the first number that differs decides.
 use borrow.Author.Needs.{needs}
-use Rattle.terms.specs.Compare.{order-numbers}
-use Rattle.terms.proofs.Compared.{less-here, greater-here, equal-here, second-ended, first-ended, both-ended, compares}
+use Rattle.terms.proofs.Compared.{equal-all, first-ended, second-ended, less-here, greater-here}
 use Rattle.terms.proofs.term.compare.Statement.{statement}
 use Rattle.terms.proofs.term.compare.Tie as tie
 
-abbrev Inv-loop : tie.InvT-loop
-Inv-loop a b i₀ i = (i ≤ length a) × (i ≤ length b) × (order-numbers (drop i a) (drop i b) ≡ order-numbers a b)
+first-difference-requires : tie.Need-first-difference-requires
+first-difference-requires c κs = search needs
 
-abbrev μ-loop : tie.MeasureT-loop
-μ-loop a b i₀ i = length a - i
+enum-known-k : tie.Need-enum-known-k
+enum-known-k c = search needs
 
-loop-holds : tie.Need-loop-holds Inv-loop μ-loop
-loop-holds c = search needs
+enum-told : tie.Need-enum-told
+enum-told c = search needs
 
-returns : tie.Need-returns Inv-loop μ-loop
-returns c = compares (search (second-ended, needs))
+returns : tie.Need-returns
+returns c = search (equal-all, needs)
 
-mul-x : tie.Need-mul-x Inv-loop μ-loop
-mul-x c = search needs
+returns-2 : tie.Need-returns-2
+returns-2 c = search (first-ended, needs)
 
-shared-slice-read-x : tie.Need-shared-slice-read-x Inv-loop μ-loop
-shared-slice-read-x c = search needs
+returns-3 : tie.Need-returns-3
+returns-3 c = search (second-ended, needs)
 
-mul-y : tie.Need-mul-y Inv-loop μ-loop
-mul-y c = search needs
+mul-if3 : tie.Need-mul-if3
+mul-if3 c = search needs
 
-shared-slice-read-y : tie.Need-shared-slice-read-y Inv-loop μ-loop
-shared-slice-read-y c = search needs
+shared-slice-read-if3 : tie.Need-shared-slice-read-if3
+shared-slice-read-if3 c = search needs
 
-returns-2 : tie.Need-returns-2 Inv-loop μ-loop
-returns-2 c = compares (search (less-here, needs))
+mul-if3-2 : tie.Need-mul-if3-2
+mul-if3-2 c = search needs
 
-returns-3 : tie.Need-returns-3 Inv-loop μ-loop
-returns-3 c = compares (search (greater-here, needs))
+shared-slice-read-if3-2 : tie.Need-shared-slice-read-if3-2
+shared-slice-read-if3-2 c = search needs
 
-add-i : tie.Need-add-i Inv-loop μ-loop
-add-i c = search needs
+returns-4 : tie.Need-returns-4
+returns-4 c = search (less-here, needs)
 
-loop-less : tie.Need-loop-less Inv-loop μ-loop
-loop-less c = search needs
-
-loop-again : tie.Need-loop-again Inv-loop μ-loop
-loop-again c = search (equal-here, needs)
-
-returns-4 : tie.Need-returns-4 Inv-loop μ-loop
-returns-4 c = compares (search (first-ended, needs))
-
-returns-5 : tie.Need-returns-5 Inv-loop μ-loop
-returns-5 c = compares (search (both-ended, needs))
+returns-5 : tie.Need-returns-5
+returns-5 c = search (greater-here, needs)
 
 pub compare-spec : {M : Type 1} → statement M
 compare-spec =
     tie.close
     (tie.spec
-    Inv-loop
-    μ-loop
-    loop-holds
+    first-difference-requires
+    enum-known-k
+    enum-told
     returns
-    mul-x
-    shared-slice-read-x
-    mul-y
-    shared-slice-read-y
     returns-2
     returns-3
-    add-i
-    loop-less
-    loop-again
+    mul-if3
+    shared-slice-read-if3
+    mul-if3-2
+    shared-slice-read-if3-2
     returns-4
     returns-5)

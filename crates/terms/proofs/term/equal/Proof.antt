@@ -1,31 +1,17 @@
--- `equal` meets its contract: its answer tells what `compare` found.
-use borrow.Author.Needs.{needs}
+-- `equal` meets its contract.
 use Rattle.terms.proofs.Compared.{equals}
+use borrow.Author.Needs.{needs}
 use Rattle.terms.proofs.term.equal.Statement.{statement}
 use Rattle.terms.proofs.term.equal.Tie as tie
 
-compare-requires : tie.Need-compare-requires
-compare-requires c κs = search needs
+first-difference-requires : tie.Need-first-difference-requires
+first-difference-requires c κs = search needs
 
-enum-told : tie.Need-enum-told
-enum-told c = search needs
-
-enum-told-2 : tie.Need-enum-told-2
-enum-told-2 c = search needs
-
-enum-told-3 : tie.Need-enum-told-3
-enum-told-3 c = search needs
+is-same-requires : tie.Need-is-same-requires
+is-same-requires c κs = search needs
 
 returns : tie.Need-returns
-returns c = equals (c .before .before .compare .ensures) (c .enum-told .given .1)
-
-returns-2 : tie.Need-returns-2
-returns-2 c = equals (c .before .before .compare .ensures) (c .enum-told2 .given .1)
-
-returns-3 : tie.Need-returns-3
-returns-3 c = equals (c .before .before .compare .ensures) (c .enum-told3 .given .1)
+returns c = equals (c .before .first-difference .ensures) (c .is-same .ensures)
 
 pub equal-spec : {M : Type 1} → statement M
-equal-spec =
-    tie.close
-    (tie.spec compare-requires enum-told enum-told-2 enum-told-3 returns returns-2 returns-3)
+equal-spec = tie.close (tie.spec first-difference-requires is-same-requires returns)
