@@ -1,5 +1,5 @@
-//! Our entries beside those of an earlier release, on the same jobs and buffers. The earlier ones come as a shared library made of that
-//! release's archive.
+//! The entries of two releases, on the same jobs and buffers. Both come as shared libraries made of the releases' archives, so that neither
+//! gains by where the linker has put it.
 
 use std::ffi::{CString, c_char, c_int, c_void};
 use std::hint::black_box;
@@ -23,15 +23,15 @@ unsafe extern "C" {
 type Find = unsafe extern "C" fn(*const u8, usize, *mut u8, usize, *mut u32, usize) -> usize;
 type Lists = unsafe extern "C" fn(*const u8, usize, *mut u8, usize) -> usize;
 
-/// The entries of the earlier release.
-struct Earlier {
+/// The entries of a release.
+struct Release {
     find: Find,
     words: Lists,
     rename: Lists,
 }
 
-impl Earlier {
-    fn load(file: &Path) -> Option<Earlier> {
+impl Release {
+    fn load(file: &Path) -> Option<Release> {
         const NOW: c_int = 2;
         let name = CString::new(file.as_os_str().as_bytes()).ok()?;
         let library = unsafe { dlopen(name.as_ptr(), NOW) };
@@ -45,7 +45,7 @@ impl Earlier {
         };
         // The header has declared the three so since the first release.
         unsafe {
-            Some(Earlier {
+            Some(Release {
                 find: std::mem::transmute::<*mut c_void, Find>(named("puvainy_find")?),
                 words: std::mem::transmute::<*mut c_void, Lists>(named("puvainy_words")?),
                 rename: std::mem::transmute::<*mut c_void, Lists>(named("puvainy_rename")?),
@@ -73,19 +73,12 @@ impl Earlier {
 /// Rounds for the jobs at the largest limits: more than beside the Rust, which takes seconds there, since they wait for memory and vary.
 const LEAST_ROUNDS: usize = 100;
 
-pub fn rows(library: Option<&str>, workspace: &mut Workspace) {
-    let Some(file) = library else {
-        eprintln!("bench: beside which library? cargo run --release -- beside LIBRARY");
+pub fn rows(before: Option<&str>, now: Option<&str>, workspace: &mut Workspace) {
+    let (Some(before), Some(now)) = (before, now) else {
+        eprintln!("bench: which two libraries? cargo run --release -- beside BEFORE NOW");
         exit(2);
     };
-    let path = std::fs::canonicalize(file).unwrap_or_else(|error| {
-        eprintln!("bench: {file}: {error}");
-        exit(2);
-    });
-    let Some(earlier) = Earlier::load(&path) else {
-        eprintln!("bench: {file} is no shared library with the three entries");
-        exit(2);
-    };
+    let (before, now) = (named(before), named(now));
     head("before");
     for Timed {
         what,
@@ -101,7 +94,7 @@ pub fn rows(library: Option<&str>, workspace: &mut Workspace) {
             &job.text(),
             slots,
             rounds,
-            &earlier,
+            [&before, &now],
             workspace,
         );
     }
@@ -110,8 +103,20 @@ pub fn rows(library: Option<&str>, workspace: &mut Workspace) {
         ("RENAME, 324 words a side", Entry::Rename, MANY_WORDS),
         ("RENAME, the same, letters alike", Entry::Rename, ALIKE),
     ] {
-        one(what, entry, &job.text(), 0, 100, &earlier, workspace);
+        let releases = [&before, &now];
+        one(what, entry, &job.text(), 0, 100, releases, workspace);
     }
+}
+
+fn named(file: &str) -> Release {
+    let path = std::fs::canonicalize(file).unwrap_or_else(|error| {
+        eprintln!("bench: {file}: {error}");
+        exit(2);
+    });
+    Release::load(&path).unwrap_or_else(|| {
+        eprintln!("bench: {file} is no shared library with the three entries");
+        exit(2);
+    })
 }
 
 fn one(
@@ -120,13 +125,13 @@ fn one(
     text: &[u8],
     slots: usize,
     rounds: usize,
-    earlier: &Earlier,
+    [before, now]: [&Release; 2],
     workspace: &mut Workspace,
 ) {
-    let given = earlier.call(entry, text, slots, workspace);
-    let before = workspace.output.clone();
-    let same = workspace.call(entry, text, slots, PROGRAM_ROOM) == given;
-    let note = if same && workspace.output == before {
+    let given = before.call(entry, text, slots, workspace);
+    let output = workspace.output.clone();
+    let same = now.call(entry, text, slots, workspace) == given;
+    let note = if same && workspace.output == output {
         ""
     } else {
         " (another answer)"
@@ -135,11 +140,7 @@ fn one(
     row(
         &format!("{what}{note}"),
         rounds,
-        || earlier.call(entry, black_box(text), slots, &mut workspace.borrow_mut()),
-        || {
-            workspace
-                .borrow_mut()
-                .call(entry, black_box(text), slots, PROGRAM_ROOM)
-        },
+        || before.call(entry, black_box(text), slots, &mut workspace.borrow_mut()),
+        || now.call(entry, black_box(text), slots, &mut workspace.borrow_mut()),
     );
 }

@@ -1,7 +1,7 @@
 //! The three entries beside the Rust, in one process, on the same jobs. Each pair's answers are compared first.
 //!
 //! With an argument, one part alone: `find`, `many`, `lists`, `noted`, or `ours`, the search at the largest limits on our side, for a profiler.
-//! `beside LIBRARY` times our entries beside those of an earlier release.
+//! `beside BEFORE NOW` times the entries of two releases, each a shared library.
 
 mod beside;
 mod find;
@@ -27,10 +27,13 @@ fn main() {
         Some("lists") => lists::rows(&mut workspace),
         Some("noted") => noted::rows(&mut workspace),
         Some("ours") => find::ours_alone(&mut workspace),
-        Some("beside") => beside::rows(words.next().as_deref(), &mut workspace),
+        Some("beside") => {
+            let (before, now) = (words.next(), words.next());
+            beside::rows(before.as_deref(), now.as_deref(), &mut workspace);
+        }
         Some(other) => {
             eprintln!(
-                "bench: no part is called {other}: find, many, lists, noted, ours or beside LIBRARY"
+                "bench: no part is called {other}: find, many, lists, noted, ours or beside BEFORE NOW"
             );
             std::process::exit(2);
         }
