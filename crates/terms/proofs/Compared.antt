@@ -10,36 +10,31 @@ use lib.Dec.{isEq, eqb, eqb→eq}
 use lib.ListN.{length, take, drop, getD, drop-of-length-le}
 use lib.Seq.{take-suc, take-all, take-add}
 use borrow.Author.Tests.{not-false}
-use Rattle.terms.specs.Compare.{Ordering, lt, eq, gt, order-numbers}
-use Rattle.terms.specs.Differ.{Agree, Part, PartAt}
+use Rattle.terms.specs.Compare.{Ordering, lt, order-numbers}
+use Rattle.terms.specs.Differ.{Agree, Unlike, DifferAt}
 use Rattle.terms.specs.Term.{same}
 use Rattle.terms.specs.Promises.{ListsDiffer, Differs, is-same, ordering-of, smaller-of, Compares, Equals, Smaller}
 use Rattle.terms.specs.Theory.Reflects.{Reflects, both}
 use Rattle.terms.specs.Theory.Order.{flip-lt, tie-reflects, compare-order, compare-below, below?}
 use Rattle.terms.specs.Theory.Coding.{numbers-order}
-use Rattle.terms.specs.Theory.Differ.{part-once, part-apart, part-swap, first-order, part-at, part-order}
+use Rattle.terms.specs.Theory.Differ.{differ-once, differ-apart, first-order, differ-first, differ-order}
 use Rattle.terms.specs.Theory.TermOrder.{term-order}
-use Rattle.terms.specs.Theory.Held.{order-of, size-of, place-of}
+use Rattle.terms.specs.Theory.Held.{order-of, place-of}
 use Rattle.terms.specs.declared.difference.Difference.{Difference}
 use Rattle.terms.specs.declared.difference.Difference.the-variants.{At, Same}
 use Rattle.terms.specs.declared.term.Comparison.{Comparison}
 use Rattle.terms.specs.declared.term.Comparison.the-variants.{Less, Equal, Greater}
 use Rattle.terms.proofs.Positions.{drop-one}
 
--- the promise of `first_difference`, from what was found of the numbers
+-- the promise of `difference_from`, from what was found of the numbers
 
 module _ {xs ys : List ℕ} where
-  differs-at : (k : ℕ) → PartAt xs ys k → Differs xs ys (At k)
+  differs-at : (k : ℕ) → DifferAt xs ys k → Differs xs ys (At k)
   differs-at k p =
-      let apart = part-apart xs ys k p in
+      let apart = differ-apart xs ys k p in
       record {
-        numbers = (apart, part-once xs ys p (part-at compare-order xs ys apart));
-        terms =
-            λ s t m n. (
-              rw (← m .whole, ← n .whole) p,
-              rw (← size-of m) (place-of k m n p),
-              rw (← size-of n) (place-of k n m (part-swap p)),
-            );
+        numbers = (apart, differ-once xs ys p (differ-first compare-order xs ys apart));
+        terms = λ s t m n. let (i, j) = place-of k m n p in (rw (← m .whole, ← n .whole) p, i, j);
       }
 
   same-all : xs ≡ ys → Differs xs ys Same
@@ -48,19 +43,19 @@ module _ {xs ys : List ℕ} where
 -- the first i numbers agree: what the next one says
 
 module _ (a b : List ℕ) (i : ℕ) (A : Agree a b i) where
-  parted : Part (drop i a) (drop i b) → Differs a b (At i)
-  parted p = differs-at i (record { agree = A; part = p })
+  unlike-here : Unlike (drop i a) (drop i b) → Differs a b (At i)
+  unlike-here p = differs-at i (record { agree = A; here = p })
 
   module _ (ha : i < length a) where
     pub second-shorter : length b ≤ i → Differs a b (At i)
-    second-shorter h = parted (rw (drop-one a i ha, drop-of-length-le b h) tt)
+    second-shorter h = unlike-here (rw (drop-one a i ha, drop-of-length-le b h) tt)
 
     module _ (hb : i < length b) where
       pub differ-here : (getD a i 0 ≡ getD b i 0 → ⊥) → Differs a b (At i)
-      differ-here d = parted (rw (drop-one a i ha, drop-one b i hb) d)
+      differ-here d = unlike-here (rw (drop-one a i ha, drop-one b i hb) d)
 
-      pub one-more : getD a i 0 ≡ getD b i 0 → Agree a b (i + 1)
-      one-more e =
+      pub one-further : getD a i 0 ≡ getD b i 0 → Agree a b (i + 1)
+      one-further e =
           record {
             within = (omega arith, omega arith);
             front = rw (add-one, take-suc a i 0 ha, take-suc b i 0 hb) (ap₂ (λ xs x. xs ++ (x ∷ [])) (A .front) e);
@@ -68,7 +63,7 @@ module _ (a b : List ℕ) (i : ℕ) (A : Agree a b i) where
 
   module _ (ha : length a ≤ i) where
     pub first-shorter : i < length b → Differs a b (At i)
-    first-shorter h = parted (rw (drop-of-length-le a ha, drop-one b i h) tt)
+    first-shorter h = unlike-here (rw (drop-of-length-le a ha, drop-one b i h) tt)
 
     pub both-ended : length b ≤ i → Differs a b Same
     both-ended h = same-all (sym (take-all i a ha) ∙ A .front ∙ take-all i b h)
@@ -111,24 +106,24 @@ four-more a b i r e h A f t =
 
 -- the promise of `compare`, from what the first difference says of the order
 
-module _ (a b : List ℕ) (r : Difference) (D : Differs a b r) where
-  compares : {c : Comparison} → ordering-of c ≡ order-numbers a b → Compares a b c
-  compares e = record { numbers = e; terms = λ s t p q. e ∙ order-of p q }
+compares : {xs ys : List ℕ} {c : Comparison} → ordering-of c ≡ order-numbers xs ys → Compares xs ys c
+compares e = record { numbers = e; terms = λ s t p q. e ∙ order-of p q }
 
+module _ (a b : List ℕ) (r : Difference) (D : Differs a b r) where
   pub equal-all : r ≡ Same → Compares a b Equal
   equal-all e = let d = rw e at (D .numbers) in compares (rw d (sym (numbers-order .reflexive b)))
 
   module _ (k : ℕ) (e : r ≡ At k) where
-    parts : PartAt a b k
-    parts = let d = rw e at (D .numbers) in rw (d .1) (part-at compare-order a b (d .0))
+    first : DifferAt a b k
+    first = let d = rw e at (D .numbers) in rw (d .1) (differ-first compare-order a b (d .0))
 
     decided : {c : Ordering} → first-order compare (drop k a) (drop k b) ≡ c → c ≡ order-numbers a b
-    decided f = sym (part-order compare-order a b k parts ∙ f)
+    decided f = sym (differ-order compare-order a b k first ∙ f)
 
     pub first-ended : length a ≤ k → Compares a b Less
-    first-ended h = compares (decided (rw (drop-of-length-le a h) (go (drop k b) (rw (drop-of-length-le a h) at (parts .part)))))
+    first-ended h = compares (decided (rw (drop-of-length-le a h) (go (drop k b) (rw (drop-of-length-le a h) at (first .here)))))
       where
-        go : (ys : List ℕ) → Part [] ys → first-order compare [] ys ≡ lt
+        go : (ys : List ℕ) → Unlike [] ys → first-order compare [] ys ≡ lt
         go [] z = absurd z
         go (y ∷ ys) z = refl
 
@@ -142,11 +137,11 @@ module _ (a b : List ℕ) (r : Difference) (D : Differs a b r) where
 
         pub greater-here : getD b k 0 ≤ getD a k 0 → Compares a b Greater
         greater-here h =
-            let apart : getD a k 0 ≡ getD b k 0 → ⊥ = rw (drop-one a k ha, drop-one b k hb) at (parts .part) in
+            let apart : getD a k 0 ≡ getD b k 0 → ⊥ = rw (drop-one a k ha, drop-one b k hb) at (first .here) in
             let above : getD b k 0 < getD a k 0 = ⊎-elim (λ p. p) (λ p. absurd (apart (omega arith))) (below? (getD b k 0) (getD a k 0)) in
             compares (decided (rw (drop-one a k ha, drop-one b k hb) (flip-lt compare-order (compare-below (getD b k 0) (getD a k 0) above))))
 
--- the promises of `equal` and `smaller`
+-- the promises of `equal`, `equal_by_fours` and `smaller`
 
 module _ {xs ys : List ℕ} where
   pub equals : {d : Difference} {r : Bool} → Differs xs ys d → r ≡ is-same d → Equals xs ys r

@@ -17,13 +17,13 @@ pub record Agree {A : Type 0} (xs ys : List A) (k : ℕ) : Type 0 where
   pub front : take k xs ≡ take k ys
 
 -- two lists do not begin alike: just one has ended, or the first items differ
-abbrev pub Part : {A : Type 0} → List A → List A → Type 0
-Part [] [] = ⊥
-Part [] (y ∷ ys) = Unit {0}
-Part (x ∷ xs) [] = Unit {0}
-Part (x ∷ xs) (y ∷ ys) = x ≡ y → ⊥
+abbrev pub Unlike : {A : Type 0} → List A → List A → Type 0
+Unlike [] [] = ⊥
+Unlike [] (y ∷ ys) = Unit {0}
+Unlike (x ∷ xs) [] = Unit {0}
+Unlike (x ∷ xs) (y ∷ ys) = x ≡ y → ⊥
 
--- k is the first place where two lists differ: all before it agrees, and there they part
-pub record PartAt {A : Type 0} (xs ys : List A) (k : ℕ) : Type 0 where
+-- k is the first place where two lists differ: all before it agrees, and from there on they do not begin alike
+pub record DifferAt {A : Type 0} (xs ys : List A) (k : ℕ) : Type 0 where
   pub agree : Agree xs ys k
-  pub part : Part (drop k xs) (drop k ys)
+  pub here : Unlike (drop k xs) (drop k ys)

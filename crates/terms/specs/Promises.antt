@@ -6,7 +6,7 @@ use mathlib.Core.List.{List, _++_}
 use lib.Dec.{isEq}
 use lib.ListN.{length, drop}
 use Rattle.terms.specs.Compare.{Ordering, lt, eq, gt, order-numbers}
-use Rattle.terms.specs.Differ.{differ-at, PartAt}
+use Rattle.terms.specs.Differ.{differ-at, DifferAt}
 use Rattle.terms.specs.Term.{Term, size, depth, order, same}
 use Rattle.terms.specs.Letters.{letters, rising}
 use Rattle.terms.specs.Run.{run}
@@ -27,7 +27,7 @@ ListsDiffer xs ys Same = xs ≡ ys
 
 -- how two terms differ: first at a place of both their runs, or they are the same term
 abbrev pub TermsDiffer : Term → Term → Difference → Type 0
-TermsDiffer s t (At k) = PartAt (run s) (run t) k × (k < size s) × (k < size t)
+TermsDiffer s t (At k) = DifferAt (run s) (run t) k × (k < size s) × (k < size t)
 TermsDiffer s t Same = s ≡ t
 
 -- of `first_difference` and `difference_by_fours`
@@ -49,7 +49,7 @@ pub record Compares (xs ys : List ℕ) (r : Comparison) : Type 0 where
   pub numbers : ordering-of r ≡ order-numbers xs ys
   pub terms : (s t : Term) → IsRun xs s → IsRun ys t → ordering-of r ≡ order s t
 
--- of `equal`
+-- of `equal` and `equal_by_fours`
 pub record Equals (xs ys : List ℕ) (r : Bool) : Type 0 where
   pub numbers : r ≡ isEq (order-numbers xs ys)
   pub terms : (s t : Term) → IsRun xs s → IsRun ys t → r ≡ same s t

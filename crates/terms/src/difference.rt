@@ -1,4 +1,4 @@
-// How two runs differ: at which number first, or not at all.
+// How two runs differ: at which number first, if at all.
 ghost use mathlib.Core.Path.{_≡_};
 ghost use mathlib.Core.Bool.{true};
 ghost use Prim.Native.Nat.{_+_, _≤_};
@@ -6,6 +6,7 @@ ghost use lib.ListN.{length, take, drop};
 ghost use Rattle.terms.specs.Differ.{Agree};
 ghost use Rattle.terms.specs.Promises.{is-same, Differs};
 
+// The place of the first number that differs, or that both are the same.
 pub enum Difference {
     At(usize),
     Same,
@@ -20,7 +21,7 @@ pub fn is_same(d: Difference) -> bool
     }
 }
 
-// How two runs differ whose first `from` numbers agree. A list that is a beginning of the other, as no run is, differs from it at its end.
+// How two runs differ whose first `from` numbers agree.
 fn difference_from(a: &[u32], b: &[u32], from: usize) -> Difference
     requires { ⌜ Agree (now a) (now b) from ⌝ }
     ensures { λ r. ⌜ Differs (now (a .entry)) (now (b .entry)) r ⌝ }
@@ -41,14 +42,14 @@ fn difference_from(a: &[u32], b: &[u32], from: usize) -> Difference
     Difference::At(i)
 }
 
-// How two runs differ.
+// How two runs differ. A list that is a beginning of the other, as no run is, differs from it at its end.
 pub fn first_difference(a: &[u32], b: &[u32]) -> Difference
     ensures { λ r. ⌜ Differs (now (a .entry)) (now (b .entry)) r ⌝ }
 {
     difference_from(a, b, 0)
 }
 
-// Whether the four numbers from `i` on agree. They are compared at once.
+// Whether the four numbers from `i` on surely agree, told without a branch between them.
 fn four_agree(a: &[u32], b: &[u32], i: usize) -> bool
     requires { ⌜ (i + 4 ≤ length (now a)) × (i + 4 ≤ length (now b)) ⌝ }
     ensures { λ r. ⌜ (r ≡ true → take 4 (drop i (now (a .entry))) ≡ take 4 (drop i (now (b .entry)))) ⌝ }
@@ -60,7 +61,7 @@ fn four_agree(a: &[u32], b: &[u32], i: usize) -> bool
     p & q & r & s
 }
 
-// How many numbers agree at the front of two lists of one length, counted by fours.
+// So many numbers at the front agree, a multiple of four; 0 where the lists are not of one length.
 fn fours_agree(a: &[u32], b: &[u32]) -> usize
     ensures { λ r. ⌜ Agree (now (a .entry)) (now (b .entry)) r ⌝ }
 {

@@ -51,7 +51,7 @@ pub fn equal(a: &[u32], b: &[u32]) -> bool
     is_same(first_difference(a, b))
 }
 
-// The same, for runs that most likely are the same.
+// Whether two runs are the same, told sooner than by `equal` where they are.
 pub fn equal_by_fours(a: &[u32], b: &[u32]) -> bool
     ensures { λ r. ⌜ Equals (now (a .entry)) (now (b .entry)) r ⌝ }
 {

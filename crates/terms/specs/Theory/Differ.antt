@@ -5,56 +5,56 @@ use mathlib.Core.Path.{_≡_, refl, sym, _∙_, ap, ap₂}
 use mathlib.Core.List.{List, [], _∷_, _++_}
 use lib.ListN.{length, drop}
 use Rattle.terms.specs.Compare.{Ordering, lt, eq, gt, then, lexicographic}
-use Rattle.terms.specs.Differ.{differ-at, Agree, Part, PartAt}
+use Rattle.terms.specs.Differ.{differ-at, Agree, Unlike, DifferAt}
 use Rattle.terms.specs.Theory.Order.{IsOrder, cases, lt≢eq, gt≢eq}
 
 module _ {A : Type 0} where
   pub agree-none : (xs ys : List A) → Agree xs ys 0
   agree-none xs ys = record { within = (omega arith, omega arith); front = refl }
 
-  part-later : {x y : A} {xs ys : List A} {k : ℕ} → x ≡ y → PartAt xs ys k → PartAt (x ∷ xs) (y ∷ ys) (suc k)
-  part-later e p =
+  differ-later : {x y : A} {xs ys : List A} {k : ℕ} → x ≡ y → DifferAt xs ys k → DifferAt (x ∷ xs) (y ∷ ys) (suc k)
+  differ-later e p =
       let (a, b) = p .agree .within in
-      record { agree = record { within = (omega arith, omega arith); front = ap₂ _∷_ e (p .agree .front) }; part = p .part }
+      record { agree = record { within = (omega arith, omega arith); front = ap₂ _∷_ e (p .agree .front) }; here = p .here }
 
-  part-earlier : {x y : A} {xs ys : List A} {k : ℕ} → PartAt (x ∷ xs) (y ∷ ys) (suc k) → (x ≡ y) × PartAt xs ys k
-  part-earlier p =
+  differ-earlier : {x y : A} {xs ys : List A} {k : ℕ} → DifferAt (x ∷ xs) (y ∷ ys) (suc k) → (x ≡ y) × DifferAt xs ys k
+  differ-earlier p =
       let e = p .agree .front in
       let (a, b) = p .agree .within in
-      (cc, record { agree = record { within = (omega arith, omega arith); front = cc }; part = p .part })
+      (cc, record { agree = record { within = (omega arith, omega arith); front = cc }; here = p .here })
 
   -- there is one such place at most
-  pub part-once : (xs ys : List A) {j k : ℕ} → PartAt xs ys j → PartAt xs ys k → j ≡ k
-  part-once xs ys {j = zero} {k = zero} p q = refl
-  part-once [] ys {j = zero} {k = suc k} p q = absurd (omega (arith, q .agree .within .0))
-  part-once (x ∷ xs) [] {j = zero} {k = suc k} p q = absurd (omega (arith, q .agree .within .1))
-  part-once (x ∷ xs) (y ∷ ys) {j = zero} {k = suc k} p q = absurd (p .part (part-earlier q .0))
-  part-once [] ys {j = suc j} p q = absurd (omega (arith, p .agree .within .0))
-  part-once (x ∷ xs) [] {j = suc j} p q = absurd (omega (arith, p .agree .within .1))
-  part-once (x ∷ xs) (y ∷ ys) {j = suc j} {k = zero} p q = absurd (q .part (part-earlier p .0))
-  part-once (x ∷ xs) (y ∷ ys) {j = suc j} {k = suc k} p q = ap suc (part-once xs ys (part-earlier p .1) (part-earlier q .1))
+  pub differ-once : (xs ys : List A) {j k : ℕ} → DifferAt xs ys j → DifferAt xs ys k → j ≡ k
+  differ-once xs ys {j = zero} {k = zero} p q = refl
+  differ-once [] ys {j = zero} {k = suc k} p q = absurd (omega (arith, q .agree .within .0))
+  differ-once (x ∷ xs) [] {j = zero} {k = suc k} p q = absurd (omega (arith, q .agree .within .1))
+  differ-once (x ∷ xs) (y ∷ ys) {j = zero} {k = suc k} p q = absurd (p .here (differ-earlier q .0))
+  differ-once [] ys {j = suc j} p q = absurd (omega (arith, p .agree .within .0))
+  differ-once (x ∷ xs) [] {j = suc j} p q = absurd (omega (arith, p .agree .within .1))
+  differ-once (x ∷ xs) (y ∷ ys) {j = suc j} {k = zero} p q = absurd (q .here (differ-earlier p .0))
+  differ-once (x ∷ xs) (y ∷ ys) {j = suc j} {k = suc k} p q = ap suc (differ-once xs ys (differ-earlier p .1) (differ-earlier q .1))
 
-  part-self : (xs : List A) → Part xs xs → ⊥
-  part-self [] p = p
-  part-self (x ∷ xs) p = p refl
+  unlike-self : (xs : List A) → Unlike xs xs → ⊥
+  unlike-self [] p = p
+  unlike-self (x ∷ xs) p = p refl
 
-  -- lists that part somewhere are not the same
-  pub part-apart : (xs ys : List A) (k : ℕ) → PartAt xs ys k → xs ≡ ys → ⊥
-  part-apart xs ys k p e = part-self (drop k ys) (rw e at (p .part))
+  -- lists that differ somewhere are not the same
+  pub differ-apart : (xs ys : List A) (k : ℕ) → DifferAt xs ys k → xs ≡ ys → ⊥
+  differ-apart xs ys k p e = unlike-self (drop k ys) (rw e at (p .here))
 
-  part-other : (xs ys : List A) → Part xs ys → Part ys xs
-  part-other [] [] p = p
-  part-other [] (y ∷ ys) p = tt
-  part-other (x ∷ xs) [] p = tt
-  part-other (x ∷ xs) (y ∷ ys) p = λ e. p (sym e)
+  unlike-swap : (xs ys : List A) → Unlike xs ys → Unlike ys xs
+  unlike-swap [] [] p = p
+  unlike-swap [] (y ∷ ys) p = tt
+  unlike-swap (x ∷ xs) [] p = tt
+  unlike-swap (x ∷ xs) (y ∷ ys) p = λ e. p (sym e)
 
   -- whichever list comes first
-  pub part-swap : {xs ys : List A} {k : ℕ} → PartAt xs ys k → PartAt ys xs k
-  part-swap {xs} {ys} {k} p =
+  pub differ-swap : {xs ys : List A} {k : ℕ} → DifferAt xs ys k → DifferAt ys xs k
+  differ-swap {xs} {ys} {k} p =
       let e = p .agree in
       record {
         agree = record { within = (e .within .1, e .within .0); front = sym (e .front) };
-        part = part-other (drop k xs) (drop k ys) (p .part);
+        here = unlike-swap (drop k xs) (drop k ys) (p .here);
       }
 
 -- what the first items decide
@@ -65,41 +65,42 @@ first-order o (x ∷ xs) [] = gt
 first-order o (x ∷ xs) (y ∷ ys) = o x y
 
 -- one more item, if two compare as equal
-abbrev one-more : Ordering → ℕ → ℕ
-one-more c k = elim c [ lt ↦ 0 | eq ↦ suc k | gt ↦ 0 ]
+abbrev counted : Ordering → ℕ → ℕ
+counted c k = elim c [ lt ↦ 0 | eq ↦ suc k | gt ↦ 0 ]
 
 module _ {A : Type 0} {o : A → A → Ordering} (O : IsOrder o) where
   -- of two different lists `differ-at` is the place
-  pub part-at : (xs ys : List A) → (xs ≡ ys → ⊥) → PartAt xs ys (differ-at o xs ys)
+  pub differ-first : (xs ys : List A) → (xs ≡ ys → ⊥) → DifferAt xs ys (differ-at o xs ys)
   unfolding differ-at
-  part-at [] [] differ = absurd (differ refl)
-  part-at [] (y ∷ ys) differ = record { agree = agree-none [] (y ∷ ys); part = tt }
-  part-at (x ∷ xs) [] differ = record { agree = agree-none (x ∷ xs) []; part = tt }
-  part-at (x ∷ xs) (y ∷ ys) differ = go (o x y) refl (part-at xs ys)
+  differ-first [] [] differ = absurd (differ refl)
+  differ-first [] (y ∷ ys) differ = record { agree = agree-none [] (y ∷ ys); here = tt }
+  differ-first (x ∷ xs) [] differ = record { agree = agree-none (x ∷ xs) []; here = tt }
+  differ-first (x ∷ xs) (y ∷ ys) differ = go (o x y) refl (differ-first xs ys)
     where
-      here : (o x y ≡ eq → ⊥) → PartAt (x ∷ xs) (y ∷ ys) 0
-      here h = record { agree = agree-none (x ∷ xs) (y ∷ ys); part = λ e. h (rw e (O .reflexive y)) }
+      here : (o x y ≡ eq → ⊥) → DifferAt (x ∷ xs) (y ∷ ys) 0
+      here h = record { agree = agree-none (x ∷ xs) (y ∷ ys); here = λ e. h (rw e (O .reflexive y)) }
 
-      go : (c : Ordering) → o x y ≡ c → ((xs ≡ ys → ⊥) → PartAt xs ys (differ-at o xs ys))
-          → PartAt (x ∷ xs) (y ∷ ys) (one-more c (differ-at o xs ys))
+      go : (c : Ordering) → o x y ≡ c → ((xs ≡ ys → ⊥) → DifferAt xs ys (differ-at o xs ys))
+          → DifferAt (x ∷ xs) (y ∷ ys) (counted c (differ-at o xs ys))
       go lt e rest = here (λ d. lt≢eq (sym e ∙ d))
-      go eq e rest = part-later (O .tie e) (rest (λ d. differ (ap₂ _∷_ (O .tie e) d)))
+      go eq e rest = differ-later (O .tie e) (rest (λ d. differ (ap₂ _∷_ (O .tie e) d)))
       go gt e rest = here (λ d. gt≢eq (sym e ∙ d))
 
   -- and their order is decided there
-  pub part-order : (xs ys : List A) (k : ℕ) → PartAt xs ys k → lexicographic o xs ys ≡ first-order o (drop k xs) (drop k ys)
+  pub differ-order : (xs ys : List A) (k : ℕ) → DifferAt xs ys k → lexicographic o xs ys ≡ first-order o (drop k xs) (drop k ys)
   unfolding lexicographic then
-  part-order [] [] zero p = absurd (p .part)
-  part-order [] (y ∷ ys) zero p = refl
-  part-order (x ∷ xs) [] zero p = refl
-  part-order (x ∷ xs) (y ∷ ys) zero p = cases (o x y) (λ c. rw c) (λ c. absurd (p .part (O .tie c))) (λ c. rw c)
-  part-order [] ys (suc k) p = absurd (omega (arith, p .agree .within .0))
-  part-order (x ∷ xs) [] (suc k) p = absurd (omega (arith, p .agree .within .1))
-  part-order (x ∷ xs) (y ∷ ys) (suc k) p =
-      let q = part-earlier p in rw (q .0, O .reflexive y) (part-order xs ys k (q .1))
+  differ-order [] [] zero p = absurd (p .here)
+  differ-order [] (y ∷ ys) zero p = refl
+  differ-order (x ∷ xs) [] zero p = refl
+  differ-order (x ∷ xs) (y ∷ ys) zero p = cases (o x y) (λ c. rw c) (λ c. absurd (p .here (O .tie c))) (λ c. rw c)
+  differ-order [] ys (suc k) p = absurd (omega (arith, p .agree .within .0))
+  differ-order (x ∷ xs) [] (suc k) p = absurd (omega (arith, p .agree .within .1))
+  differ-order (x ∷ xs) (y ∷ ys) (suc k) p =
+      let q = differ-earlier p in rw (q .0, O .reflexive y) (differ-order xs ys k (q .1))
 
-  -- a list that is a beginning of another differs from it at its end
-  pub beginning-at : (xs : List A) (y : A) (ys : List A) → differ-at o xs (xs ++ (y ∷ ys)) ≡ length xs
+  -- a list that is a beginning of another differs from it at its end, whichever comes first
+  pub beginning-at : (xs : List A) (y : A) (ys : List A)
+      → (differ-at o xs (xs ++ (y ∷ ys)) ≡ length xs) × (differ-at o (xs ++ (y ∷ ys)) xs ≡ length xs)
   unfolding differ-at
-  beginning-at [] y ys = refl
-  beginning-at (x ∷ xs) y ys = rw (O .reflexive x, differ-at) (ap suc (beginning-at xs y ys))
+  beginning-at [] y ys = (refl, refl)
+  beginning-at (x ∷ xs) y ys = let (e, f) = beginning-at xs y ys in (rw (O .reflexive x) (ap suc e), rw (O .reflexive x) (ap suc f))

@@ -1,4 +1,4 @@
--- Runs as they stand in lists: `Fine` speaks of each letter, and runs are as long and ordered as their terms.
+-- Runs as they stand in lists: `Fine` speaks of each letter, runs are as long and ordered as their terms, and none is a beginning of another.
 use Prim.Native.Nat.{ℕ, _<_, _≤_}
 use native.Mathlib.Omega.{arith}
 use mathlib.Core.Path.{_≡_, refl, sym, _∙_, ap}
@@ -8,13 +8,14 @@ use lib.ListN.{length, take, drop, length-append, take-append-drop, drop-of-leng
 use lib.Seq.{take-all}
 use Rattle.terms.specs.Lists.{not-in-nil, only-one, append-cases}
 use Rattle.terms.specs.Compare.{gt, lexicographic, order-numbers}
-use Rattle.terms.specs.Differ.{PartAt}
+use Rattle.terms.specs.Differ.{DifferAt}
 use Rattle.terms.specs.Term.{Term, letter, zero, one, add, mul, size, order}
 use Rattle.terms.specs.Letters.{letters, EachLetter}
 use Rattle.terms.specs.Run.{ZERO, run}
 use Rattle.terms.specs.Held.{Fine, IsRun}
 use Rattle.terms.specs.Theory.Order.{gt≢eq, below?}
 use Rattle.terms.specs.Theory.Lexicographic.{then-eq}
+use Rattle.terms.specs.Theory.Differ.{differ-swap}
 use Rattle.terms.specs.Theory.Coding.{numbers-order}
 use Rattle.terms.specs.Theory.Run.{run-then, run-order}
 
@@ -46,16 +47,19 @@ run-ends : {xs ys : List ℕ} {s t : Term} → IsRun xs s → IsRun ys t → (re
 unfolding lexicographic
 run-ends p q [] e = refl
 run-ends {s = s} {t = t} p q (x ∷ rest) e =
-    let same : run s ++ (x ∷ rest) ≡ run t ++ [] = rw (← p .whole, ← q .whole, append-nil) e in
+    let longer : run s ++ (x ∷ rest) ≡ run t ++ [] = rw (← p .whole, ← q .whole, append-nil) e in
     let h = run-then s t (fine-letters s (p .fine)) (fine-letters t (q .fine)) (x ∷ rest) [] in
-    absurd (gt≢eq (then-eq (order s t) gt (sym (rw (same, numbers-order .reflexive) at h)) .1))
+    absurd (gt≢eq (then-eq (order s t) gt (sym (rw (longer, numbers-order .reflexive) at h)) .1))
 
--- so the first place where the runs of two terms differ is a place of both
-pub place-of : {xs ys : List ℕ} {s t : Term} (k : ℕ) → IsRun xs s → IsRun ys t → PartAt xs ys k → k < length xs
-place-of {xs} {ys} k p q r = ⊎-elim (λ h. h) (λ h. absurd (ends h)) (below? k (length xs))
+place-in : {xs ys : List ℕ} {s t : Term} (k : ℕ) → IsRun xs s → IsRun ys t → DifferAt xs ys k → k < length xs
+place-in {xs} {ys} k p q d = ⊎-elim (λ h. h) (λ h. absurd (ends h)) (below? k (length xs))
   where
     ends : length xs ≤ k → ⊥
     ends h =
-        let front : xs ≡ take k ys = sym (take-all k xs h) ∙ r .agree .front in
+        let front : xs ≡ take k ys = sym (take-all k xs h) ∙ d .agree .front in
         let none : drop k ys ≡ [] = run-ends p q (drop k ys) (rw front (take-append-drop k ys)) in
-        rw (drop-of-length-le xs h, none) at (r .part)
+        rw (drop-of-length-le xs h, none) at (d .here)
+
+-- so the first place where the runs of two terms differ is a place of both
+pub place-of : {xs ys : List ℕ} {s t : Term} (k : ℕ) → IsRun xs s → IsRun ys t → DifferAt xs ys k → (k < size s) × (k < size t)
+place-of k p q d = (rw (← size-of p) (place-in k p q d), rw (← size-of q) (place-in k q p (differ-swap d)))

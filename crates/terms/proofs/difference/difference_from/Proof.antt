@@ -2,7 +2,7 @@
 use Prim.Native.Nat.{_-_}
 use lib.ListN.{length}
 use Rattle.terms.specs.Differ.{Agree}
-use Rattle.terms.proofs.Compared.{second-shorter, differ-here, one-more, first-shorter, both-ended}
+use Rattle.terms.proofs.Compared.{second-shorter, differ-here, one-further, first-shorter, both-ended}
 use borrow.Author.Needs.{needs}
 use Rattle.terms.proofs.difference.difference_from.Statement.{statement}
 use Rattle.terms.proofs.difference.difference_from.Tie as tie
@@ -41,7 +41,7 @@ loop-less : tie.Need-loop-less Inv-loop μ-loop
 loop-less c = search needs
 
 loop-again : tie.Need-loop-again Inv-loop μ-loop
-loop-again c = search (one-more, needs)
+loop-again c = search (one-further, needs)
 
 returns-3 : tie.Need-returns-3 Inv-loop μ-loop
 returns-3 c = search (both-ended, needs)
