@@ -1,5 +1,5 @@
 //! The entries of two releases, on the same jobs and buffers. Both come as shared libraries made of the releases' archives, so that neither
-//! gains by where the linker has put it.
+//! gains by being linked into the bench.
 
 use std::ffi::{CString, c_char, c_int, c_void};
 use std::hint::black_box;
@@ -32,9 +32,9 @@ struct Release {
 
 impl Release {
     fn load(file: &Path) -> Option<Release> {
-        const NOW: c_int = 2;
+        const RTLD_NOW: c_int = 2;
         let name = CString::new(file.as_os_str().as_bytes()).ok()?;
-        let library = unsafe { dlopen(name.as_ptr(), NOW) };
+        let library = unsafe { dlopen(name.as_ptr(), RTLD_NOW) };
         if library.is_null() {
             return None;
         }
@@ -78,8 +78,8 @@ pub fn rows(before: Option<&str>, now: Option<&str>, workspace: &mut Workspace) 
         eprintln!("bench: which two libraries? cargo run --release -- beside BEFORE NOW");
         exit(2);
     };
-    let (before, now) = (named(before), named(now));
-    head("before");
+    let releases = [&loaded(before), &loaded(now)];
+    head("before", "now");
     for Timed {
         what,
         job,
@@ -94,7 +94,7 @@ pub fn rows(before: Option<&str>, now: Option<&str>, workspace: &mut Workspace) 
             &job.text(),
             slots,
             rounds,
-            [&before, &now],
+            releases,
             workspace,
         );
     }
@@ -103,18 +103,17 @@ pub fn rows(before: Option<&str>, now: Option<&str>, workspace: &mut Workspace) 
         ("RENAME, 324 words a side", Entry::Rename, MANY_WORDS),
         ("RENAME, the same, letters alike", Entry::Rename, ALIKE),
     ] {
-        let releases = [&before, &now];
         one(what, entry, &job.text(), 0, 100, releases, workspace);
     }
 }
 
-fn named(file: &str) -> Release {
+fn loaded(file: &str) -> Release {
     let path = std::fs::canonicalize(file).unwrap_or_else(|error| {
         eprintln!("bench: {file}: {error}");
         exit(2);
     });
     Release::load(&path).unwrap_or_else(|| {
-        eprintln!("bench: {file} is no shared library with the three entries");
+        eprintln!("bench: {file} cannot be loaded as a shared library with the three entries");
         exit(2);
     })
 }
@@ -128,10 +127,12 @@ fn one(
     [before, now]: [&Release; 2],
     workspace: &mut Workspace,
 ) {
-    let given = before.call(entry, text, slots, workspace);
-    let output = workspace.output.clone();
-    let same = now.call(entry, text, slots, workspace) == given;
-    let note = if same && workspace.output == output {
+    let given = [before, now].map(|release| {
+        workspace.output.fill(0);
+        let told = release.call(entry, text, slots, workspace);
+        (told, workspace.output.clone())
+    });
+    let note = if given[0] == given[1] {
         ""
     } else {
         " (another answer)"

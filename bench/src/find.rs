@@ -97,7 +97,7 @@ fn timed(&(what, left, right): &Case, (name, limits, slots, rounds): Settings) -
 }
 
 pub fn rows(workspace: &mut Workspace) {
-    head("Rust");
+    head("Rust", "ours");
     for Timed {
         what,
         job,

@@ -23,7 +23,7 @@ pub const ALIKE: Job = Job {
 };
 
 pub fn rows(workspace: &mut Workspace) {
-    head("Rust");
+    head("Rust", "ours");
     words("WORDS, 324 words a side", &MANY_WORDS, workspace);
     rename(
         "RENAME, six letters, 324 words a side",

@@ -1,32 +1,32 @@
-//! The table of times: another side's, ours, and how many times faster ours is. Times are this thread's on the processor, so that other
+//! The table of times: one side's, another's, and how many times faster the second is. Times are this thread's on the processor, so that other
 //! work on the machine counts for less.
 
 use std::hint::black_box;
 use std::time::Duration;
 
-pub fn head(other: &str) {
-    let (other, ours, ratio) = (format!("{other} µs"), "ours µs", "ratio");
-    println!("\n{:<56} {other:>14} {ours:>12} {ratio:>8}", "");
+pub fn head(one: &str, other: &str) {
+    let (one, other, ratio) = (format!("{one} µs"), format!("{other} µs"), "ratio");
+    println!("\n{:<56} {one:>14} {other:>12} {ratio:>8}", "");
 }
 
 /// One line of the table: the best of several rounds of each, turn by turn.
 pub fn row<R, O>(
     what: &str,
     rounds: usize,
-    mut other: impl FnMut() -> R,
-    mut ours: impl FnMut() -> O,
+    mut one: impl FnMut() -> R,
+    mut other: impl FnMut() -> O,
 ) {
-    let (many, often) = (batch(&mut other), batch(&mut ours));
-    let (mut theirs, mut own) = (Duration::MAX, Duration::MAX);
+    let (many, often) = (batch(&mut one), batch(&mut other));
+    let (mut first, mut second) = (Duration::MAX, Duration::MAX);
     for _ in 0..rounds {
-        theirs = theirs.min(time(many, &mut other));
-        own = own.min(time(often, &mut ours));
+        first = first.min(time(many, &mut one));
+        second = second.min(time(often, &mut other));
     }
-    let theirs = theirs.as_secs_f64() * 1e6 / f64::from(many);
-    let own = own.as_secs_f64() * 1e6 / f64::from(often);
+    let first = first.as_secs_f64() * 1e6 / f64::from(many);
+    let second = second.as_secs_f64() * 1e6 / f64::from(often);
     println!(
-        "{what:<56} {theirs:>14.1} {own:>12.1} {:>8.2}",
-        theirs / own
+        "{what:<56} {first:>14.1} {second:>12.1} {:>8.2}",
+        first / second
     );
 }
 
