@@ -38,3 +38,5 @@ pub mod InTurn
 pub mod Taking
 pub mod Standing
 pub mod Searching
+pub mod RunLine
+pub mod Using
