@@ -1,3 +1,2 @@
--- What the program prints.
-pub mod Prints
+-- Of a longer input the beginning is enough.
 pub mod Cut

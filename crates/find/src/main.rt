@@ -2,7 +2,7 @@
 ghost use mathlib.Core.Path.{_≡_};
 ghost use lib.ListN.{length};
 ghost use Rattle.text.specs.Entry.{program};
-ghost use Rattle.find.specs.Prints.{Prints};
+ghost use Rattle.text.specs.Prints.{Prints};
 use libc::STDERR_FILENO;
 use libc::STDIN_FILENO;
 use libc::STDOUT_FILENO;

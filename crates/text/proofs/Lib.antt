@@ -31,3 +31,5 @@ pub mod Starting
 pub mod Blocks
 pub mod Finding
 pub mod Walks
+-- what a program prints
+pub mod Programs

@@ -13,7 +13,7 @@ use borrow.Author.Tests.{eq-eqb, ne-eqb}
 use Rattle.text.specs.declared.job.Found.{Found}
 use Rattle.text.specs.declared.job.Found.the-variants.{At, Nothing}
 use Rattle.text.specs.declared.job.Value.the-variants.{Between, Missing}
-use Rattle.text.specs.Bytes.{Split, ascii, after, line}
+use Rattle.text.specs.Bytes.{Split, ascii, after, up-to, line}
 use Rattle.text.specs.Layout.{keyed}
 use Rattle.text.specs.Reading.{Lines, Keys, Values}
 
@@ -23,18 +23,18 @@ longer b o = elim o [ none ↦ none | some c ↦ some (record { front = b ∷ c 
 
 module _ (s : List ℕ) (i : ℕ) where
   pub no-line : length s ≤ i → Lines s i Nothing
-  unfolding line
+  unfolding line up-to
   no-line h = rw (drop-of-length-le s h)
 
   module _ (h : i < length s) where
     pub line-ends : getD s i 0 ≡ 10 → Lines s i (At i)
-    unfolding line
+    unfolding line up-to
     line-ends e = record { starts = omega arith; ends = h; parts = rw (add-one, drop-cons s i 0 h, e, slice-empty i s) }
 
     module _ (other : getD s i 0 ≡ 10 → ⊥) where
       passed : line (drop i s) ≡ longer (getD s i 0) (line (drop (i + 1) s))
-      unfolding line
-      passed = rw (add-one, drop-cons s i 0 h, ne-eqb (getD s i 0) 10 other, line)
+      unfolding line up-to
+      passed = rw (add-one, drop-cons s i 0 h, ne-eqb (getD s i 0) 10 other, up-to)
 
       pub line-goes-on : (r : Found) → Lines s (i + 1) r → Lines s i r
       line-goes-on (At e) l =

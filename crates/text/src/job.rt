@@ -134,7 +134,7 @@ fn line_end(s: &[u8], from: usize) -> Found
 }
 
 // Whether a key stands at a position.
-fn has_key(s: &[u8], from: usize, key: &[u8]) -> bool
+pub fn has_key(s: &[u8], from: usize, key: &[u8]) -> bool
     requires { ⌜ from ≤ length (now s) ⌝ }
     ensures { λ r. ⌜ Keys (now (s .entry)) from (now (key .entry)) r ⌝ }
 {

@@ -14,7 +14,7 @@ use Rattle.terms.specs.Lists.{_∈_, here, there, not-in-nil, cons-cases}
 use Rattle.terms.specs.Term.{Term, size, same}
 use Rattle.terms.specs.Letters.{letters}
 use Rattle.search.specs.Line.{Limits}
-use Rattle.text.specs.Bytes.{ascii, after, line, Split}
+use Rattle.text.specs.Bytes.{ascii, after, up-to, line, Split}
 use Rattle.text.specs.Layout.{keyed, limit-lines, layout}
 use Rattle.text.specs.TermText.{read-term}
 use Rattle.text.specs.Answer.{Answer, refused, accepted, _>>=_, require, or-refuse, fitting, field, printed}
@@ -53,7 +53,7 @@ repeated-parts key (suc k) bs = go (keyed key bs) refl (λ c. repeated-parts key
 
 -- as many lines as the text has bytes are enough: no line with the key is left
 keyed-empty : (key : String) → keyed key [] ≡ none
-unfolding keyed _then_ after line
+unfolding keyed _then_ after line up-to
 keyed-empty key = go (ascii key)
   where
     go : (ks : List ℕ) → _then_ (after ks []) line ≡ none

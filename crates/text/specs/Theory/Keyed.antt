@@ -1,15 +1,18 @@
 -- A line that was read with its key is the key, the value and byte 10, and it is read so again whatever follows it.
 use Prim.Native.Nat.{ℕ}
 use Prim.Native.String.{String}
-use mathlib.Core.Path.{_≡_, refl, _∙_, ap}
+use mathlib.Core.Path.{_≡_, refl, sym, _∙_, ap}
 use mathlib.Core.Bool.{Bool, true, false}
 use mathlib.Core.Option.{Option, none, some, bind, bind-eq-some-iff, Option·none-ne-some}
 use mathlib.Core.List.{List, [], _∷_, _++_, append-assoc}
 use lib.Dec.{eqb}
+use Rattle.terms.specs.Lists.{_∈_, here, there, not-in-nil}
 use Rattle.terms.specs.Theory.Reflects.{Reflects, eqb-reflects}
-use Rattle.text.specs.Bytes.{ascii, after, end, Split, line}
+use Rattle.text.specs.Bytes.{ascii, after, end, Split, up-to, line}
 use Rattle.text.specs.Layout.{keyed}
 use Rattle.text.specs.Answer.{field}
+use Rattle.text.specs.Theory.AtLeast.{Printable, free}
+use native.Mathlib.Omega.{arith}
 
 -- of what is read in two steps, each gives something
 pub some-then : {A B : Type 0} {P : Type 0} (o : Option A) (g : A → Option B) {x : B} → bind o g ≡ some x → ((y : A) → o ≡ some y → g y ≡ some x → P) → P
@@ -44,41 +47,57 @@ end-only x (b ∷ bs) e = absurd (Option·none-ne-some _ e)
 abbrev parts-of : List ℕ → List ℕ → Option Split
 parts-of v rest = some (record { front = v; rest = rest })
 
--- a line was read
-pub record LineParts (bs : List ℕ) (c : Split) : Type 0 where
-  pub parts : bs ≡ c .front ++ (10 ∷ c .rest)
-  pub again : (rest : List ℕ) → line (c .front ++ (10 ∷ rest)) ≡ parts-of (c .front) rest
+-- up to a byte s
+module _ (s : ℕ) where
+  -- a text was cut at the byte
+  pub record UpToParts (bs : List ℕ) (c : Split) : Type 0 where
+    pub parts : bs ≡ c .front ++ (s ∷ c .rest)
+    pub again : (rest : List ℕ) → up-to s (c .front ++ (s ∷ rest)) ≡ parts-of (c .front) rest
 
--- the parts with a byte more in front
-abbrev one-more : ℕ → List ℕ → Bool → Option Split → Option Split
-one-more b bs t o =
-    elim t [
-      | true ↦ parts-of [] bs
-      | false ↦ elim o [ none ↦ none | some c ↦ parts-of (b ∷ c .front) (c .rest) ]
-    ]
+  -- the parts with a byte more in front
+  abbrev one-more : ℕ → List ℕ → Bool → Option Split → Option Split
+  one-more b bs t o =
+      elim t [
+        | true ↦ parts-of [] bs
+        | false ↦ elim o [ none ↦ none | some c ↦ parts-of (b ∷ c .front) (c .rest) ]
+      ]
 
-line-more : (b : ℕ) (v rest : List ℕ) → (b ≡ 10 → ⊥) → line (v ++ (10 ∷ rest)) ≡ parts-of v rest → line (b ∷ (v ++ (10 ∷ rest))) ≡ parts-of (b ∷ v) rest
-unfolding line
-line-more b v rest h e = go (eqb b 10) (eqb-reflects b 10)
-  where
-    go : (t : Bool) → Reflects (b ≡ 10) t → one-more b (v ++ (10 ∷ rest)) t (line (v ++ (10 ∷ rest))) ≡ parts-of (b ∷ v) rest
-    go true k = absurd (h k)
-    go false k = rw e
+  up-to-more : (b : ℕ) (v rest : List ℕ) → (b ≡ s → ⊥) → up-to s (v ++ (s ∷ rest)) ≡ parts-of v rest
+      → up-to s (b ∷ (v ++ (s ∷ rest))) ≡ parts-of (b ∷ v) rest
+  unfolding up-to
+  up-to-more b v rest h e = go (eqb b s) (eqb-reflects b s)
+    where
+      go : (t : Bool) → Reflects (b ≡ s) t → one-more b (v ++ (s ∷ rest)) t (up-to s (v ++ (s ∷ rest))) ≡ parts-of (b ∷ v) rest
+      go true k = absurd (h k)
+      go false k = rw e
 
-pub line-parts : (bs : List ℕ) {c : Split} → line bs ≡ some c → LineParts bs c
-unfolding line
-line-parts [] {c} e = absurd (Option·none-ne-some c e)
-line-parts (b ∷ bs) {c} e = go (eqb b 10) (eqb-reflects b 10) (line bs) (λ d h. line-parts bs {c = d} h) e
-  where
-    go : (t : Bool) → Reflects (b ≡ 10) t → (o : Option Split) → ((d : Split) → o ≡ some d → LineParts bs d) → one-more b bs t o ≡ some c → LineParts (b ∷ bs) c
-    go true k o h e =
-        let f : _≡_ {A = Split} (record { front = []; rest = bs }) c = cc in
-        rw (← f) (record { parts = ap (λ n. n ∷ bs) k; again = λ rest. refl })
-    go false k none h e = absurd (Option·none-ne-some c e)
-    go false k (some d) h e =
-        let f : _≡_ {A = Split} (record { front = b ∷ d .front; rest = d .rest }) c = cc in
-        let p = h d refl in
-        rw (← f) (record { parts = ap (λ l. b ∷ l) (p .parts); again = λ rest. line-more b (d .front) rest k (p .again rest) })
+  -- a text without the byte, in front of it
+  pub up-to-at : (v rest : List ℕ) → (s ∈ v → ⊥) → up-to s (v ++ (s ∷ rest)) ≡ parts-of v rest
+  unfolding up-to
+  up-to-at [] rest free = go (eqb s s) (eqb-reflects s s)
+    where
+      go : (t : Bool) → Reflects (s ≡ s) t → one-more s rest t (up-to s rest) ≡ parts-of [] rest
+      go true k = refl
+      go false k = absurd (k refl)
+  up-to-at (b ∷ v) rest free = up-to-more b v rest (λ e. free (here (sym e))) (up-to-at v rest (λ i. free (there i)))
+
+  pub up-to-parts : (bs : List ℕ) {c : Split} → up-to s bs ≡ some c → UpToParts bs c
+  unfolding up-to
+  up-to-parts [] {c} e = absurd (Option·none-ne-some c e)
+  up-to-parts (b ∷ bs) {c} e = go (eqb b s) (eqb-reflects b s) (up-to s bs) (λ d h. up-to-parts bs {c = d} h) e
+    where
+      empty : (rest : List ℕ) → up-to s (s ∷ rest) ≡ parts-of [] rest
+      empty rest = up-to-at [] rest (λ i. not-in-nil i)
+
+      go : (t : Bool) → Reflects (b ≡ s) t → (o : Option Split) → ((d : Split) → o ≡ some d → UpToParts bs d) → one-more b bs t o ≡ some c → UpToParts (b ∷ bs) c
+      go true k o h e =
+          let f : _≡_ {A = Split} (record { front = []; rest = bs }) c = cc in
+          rw (← f) (record { parts = ap (λ n. n ∷ bs) k; again = empty })
+      go false k none h e = absurd (Option·none-ne-some c e)
+      go false k (some d) h e =
+          let f : _≡_ {A = Split} (record { front = b ∷ d .front; rest = d .rest }) c = cc in
+          let p = h d refl in
+          rw (← f) (record { parts = ap (λ l. b ∷ l) (p .parts); again = λ rest. up-to-more b (d .front) rest k (p .again rest) })
 
 -- a value that is read in its line, whatever follows
 abbrev pub Read : String → List ℕ → Type 0
@@ -94,11 +113,16 @@ unfolding field
 field-before key v rest = simp append-assoc
 
 pub keyed-parts : (key : String) (bs : List ℕ) {c : Split} → keyed key bs ≡ some c → KeyedParts key bs c
-unfolding keyed bind
+unfolding keyed line bind
 keyed-parts key bs {c} e =
     some-then (after (ascii key) bs) line e λ rest behind e.
-    let p = line-parts rest e in
+    let p = up-to-parts 10 rest e in
     record {
       parts = after-only (ascii key) bs behind ∙ ap (λ l. ascii key ++ l) (p .parts) ∙ rw (field-before key (c .front) (c .rest));
       again = λ more. rw (field-before key (c .front) more, after-key (ascii key) (c .front ++ (10 ∷ more))) (p .again more);
     }
+
+-- a printable value in its line, in front of a text
+pub keyed-field : (key : String) (v bs : List ℕ) → Printable v → keyed key (field key v ++ bs) ≡ parts-of v bs
+unfolding keyed line bind
+keyed-field key v bs h = rw (field-before key v bs, after-key (ascii key) (v ++ (10 ∷ bs))) (up-to-at 10 v bs (free (omega arith) h))

@@ -15,7 +15,7 @@ use Rattle.terms.specs.Theory.Reflects.{Reflects, eqb-reflects}
 use Rattle.search.specs.Law.{semiring}
 use Rattle.search.specs.Line.{Limits}
 use Rattle.search.specs.Search.{noted}
-use Rattle.text.specs.Bytes.{ascii, after, line, Split}
+use Rattle.text.specs.Bytes.{ascii, after, up-to, line, Split}
 use Rattle.text.specs.TermText.{read-term}
 use Rattle.text.specs.Layout.{keyed, limit-lines, Layout, layout}
 use Rattle.text.specs.Answer.{Answer, refused, accepted, _>>=_, require, or-refuse, fitting}
@@ -33,7 +33,7 @@ repeated-none key (suc k) bs e = rw (e, repeated)
 
 -- where the limits stand, no line with `right=` does
 limits-not-right : (bs : List ℕ) (m : Limits) → limit-lines bs ≡ some m → keyed "right=" bs ≡ none
-unfolding keyed limit-lines ascii after line _then_
+unfolding keyed limit-lines ascii after line up-to _then_
 limits-not-right [] m e = refl
 limits-not-right (b ∷ bs) m e = go (eqb 114 b) (eqb-reflects 114 b)
   where

@@ -31,11 +31,11 @@ which-only {A} text (y ∷ ys) bs {x} e = go (bind (after (text y) bs) (end y)) 
         let found : y ≡ x = cc in
         after-only (text y) bs f ∙ rw (nil, found) (append-nil (text x))
 
-law-only : (ws : List Law) (bs : List ℕ) {n : Name} → read-law ws bs ≡ some n → bs ≡ law-name n
+pub law-only : (ws : List Law) (bs : List ℕ) {n : Name} → read-law ws bs ≡ some n → bs ≡ law-name n
 unfolding read-law
 law-only ws bs e = which-only law-name (names ws) bs e
 
-direction-only : (bs : List ℕ) {d : Direction} → read-direction bs ≡ some d → bs ≡ direction d
+pub direction-only : (bs : List ℕ) {d : Direction} → read-direction bs ≡ some d → bs ≡ direction d
 unfolding read-direction
 direction-only bs e = which-only direction (forward ∷ back ∷ []) bs e
 
@@ -58,7 +58,7 @@ sides-only (b ∷ bs) {p} e =
     let whole : p ≡ d ∷ q = cc in
     rw whole (ap (λ l. b ∷ l) (sides-only bs h) ∙ sym (side-only b f q))
 
-place-only : (bs : List ℕ) {p : List Side} → read-place bs ≡ some p → bs ≡ place p
+pub place-only : (bs : List ℕ) {p : List Side} → read-place bs ≡ some p → bs ≡ place p
 unfolding read-place place sides
 place-only [] e = absurd (Option·none-ne-some _ e)
 place-only (b ∷ bs) {p} e = go (eqb b (code ".")) (eqb-reflects b (code ".")) e

@@ -11,7 +11,7 @@ use super::mark_of;
 use terms::term;
 
 // Where the item that starts at a position ends: the next space, or where the side ends.
-fn item_end(s: &[u8], from: usize, to: usize) -> usize
+pub fn item_end(s: &[u8], from: usize, to: usize) -> usize
     requires { ⌜ (from ≤ to) × (to ≤ length (now s)) ⌝ }
     ensures { λ r. ⌜ ItemEnds (now (s .entry)) from to r ⌝ }
 {

@@ -1,4 +1,4 @@
--- What the program prints.
+-- What a program prints.
 use Prim.Native.Nat.{ℕ, _≤_}
 use mathlib.Core.Path.{_≡_}
 use mathlib.Core.List.{List}
