@@ -4,6 +4,8 @@ ghost use lib.ListN.{length};
 ghost use Rattle.text.specs.Words.{words-entry};
 ghost use Rattle.text.specs.Rename.{rename-entry};
 ghost use Rattle.text.specs.Entry.{Call, FindCall};
+ghost use Rattle.checking.specs.Claims.{CheckCall};
+use checking::entry::check;
 use text::entry;
 
 // FIND. The workspace holds the noted terms, 40 numbers to a slot.
@@ -28,4 +30,12 @@ pub extern "C" fn puvainy_rename(job: &[u8], output: &mut [u8]) -> usize
     ensures { λ r. ⌜ Call (rename-entry (now (job .entry)) (length (now (output .entry)))) (now (output .entry)) r (now (output .exit)) ⌝ }
 {
     entry::rename(job, output)
+}
+
+// CHECK.
+#[no_mangle]
+pub extern "C" fn puvainy_check(text: &[u8], output: &mut [u8]) -> usize
+    ensures { λ r. ⌜ CheckCall (now (text .entry)) (now (output .entry)) r (now (output .exit)) ⌝ }
+{
+    check(text, output)
 }

@@ -10,6 +10,7 @@ use Rattle.terms.specs.Theory.Reflects.{Reflects}
 use Rattle.text.specs.Entry.{Call, FindCall}
 use Rattle.text.specs.Words.{words-entry}
 use Rattle.text.specs.Rename.{rename-entry}
+use Rattle.checking.specs.Check.{check as check-entry}
 use Rattle.replay.specs.Calls.{lent-numbers, due-number, is-searched, changed-to, Made, Verdict, Replayed}
 use Rattle.replay.specs.Records.{part}
 use Rattle.replay.specs.Dirt.{bytes, over, due}
@@ -46,14 +47,35 @@ module _ (entry number lent : ℕ) where
 
 module _ {entry : ℕ} {job out work : List ℕ} {r : ℕ} {out′ work′ : List ℕ} where
   pub made-find : entry ≡ 1 → FindCall job out work r out′ work′ → Made entry job out work r out′ work′
-  made-find e h = record { find = λ _. h; words = λ k. let z : ⊥ = omega arith in absurd z; rename = λ n k. absurd (n e) }
+  made-find e h =
+      record {
+        find = λ _. h;
+        words = λ k. let z : ⊥ = omega arith in absurd z;
+        rename = λ k. let z : ⊥ = omega arith in absurd z;
+        check = λ n _ _. absurd (n e);
+      }
 
 module _ {entry : ℕ} {job out : List ℕ} (work : List ℕ) {r : ℕ} {out′ : List ℕ} where
   pub made-words : entry ≡ 2 → Call (words-entry job (length out)) out r out′ → Made entry job out work r out′ work
-  made-words e h = record { find = λ k. let z : ⊥ = omega arith in absurd z; words = λ _. (h, refl); rename = λ n k. absurd (k e) }
+  made-words e h =
+      record {
+        find = λ k. let z : ⊥ = omega arith in absurd z;
+        words = λ _. (h, refl);
+        rename = λ k. let z : ⊥ = omega arith in absurd z;
+        check = λ _ n _. absurd (n e);
+      }
 
-  pub made-rename : (entry ≡ 1 → ⊥) → (entry ≡ 2 → ⊥) → Call (rename-entry job (length out)) out r out′ → Made entry job out work r out′ work
-  made-rename n m h = record { find = λ k. absurd (n k); words = λ k. absurd (m k); rename = λ _ _. (h, refl) }
+  pub made-rename : entry ≡ 3 → Call (rename-entry job (length out)) out r out′ → Made entry job out work r out′ work
+  made-rename e h =
+      record {
+        find = λ k. let z : ⊥ = omega arith in absurd z;
+        words = λ k. let z : ⊥ = omega arith in absurd z;
+        rename = λ _. (h, refl);
+        check = λ _ _ n. absurd (n e);
+      }
+
+  pub made-check : (entry ≡ 1 → ⊥) → (entry ≡ 2 → ⊥) → (entry ≡ 3 → ⊥) → Call (check-entry job (length out)) out r out′ → Made entry job out work r out′ work
+  made-check n m o h = record { find = λ k. absurd (n k); words = λ k. absurd (m k); rename = λ k. absurd (o k); check = λ _ _ _. (h, refl) }
 
 -- what a test tells after a branch on its contrary
 pub told : {P : Type 0} (r : Bool) → not r ≡ false → Reflects P r → P

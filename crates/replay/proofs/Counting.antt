@@ -21,14 +21,14 @@ module _ (xs : List ℕ) (at : ℕ) where
   more-full h = rw (le-ltb (getD xs at 0) 1000000 h, one-more)
 
 module _ (entry number : ℕ) where
-  pub place-entry : 3 < entry → 0 ≡ place entry number
-  place-entry h = rw (lt-leb entry 3 h, place)
+  pub place-entry : 4 < entry → 0 ≡ place entry number
+  place-entry h = rw (lt-leb entry 4 h, place)
 
-  pub place-number : entry ≤ 3 → 15 < number → 0 ≡ place entry number
-  place-number h l = rw (le-leb entry 3 h, lt-leb number 15 l, place)
+  pub place-number : entry ≤ 4 → 15 < number → 0 ≡ place entry number
+  place-number h l = rw (le-leb entry 4 h, lt-leb number 15 l, place)
 
-  pub place-both : entry ≤ 3 → number ≤ 15 → entry * 16 + number ≡ place entry number
-  place-both h l = rw (le-leb entry 3 h, le-leb number 15 l, place)
+  pub place-both : entry ≤ 4 → number ≤ 15 → entry * 16 + number ≡ place entry number
+  place-both h l = rw (le-leb entry 4 h, le-leb number 15 l, place)
 
 -- a call counted with all calls and at its place, and one that differs with those that do
 module _ (call : Record) (f : Fault) (xs ys zs : List ℕ) (at : ℕ) (r : Bool)

@@ -9,6 +9,7 @@ use lib.ListN.{length, take, drop}
 use Rattle.text.specs.Entry.{Call, FindCall}
 use Rattle.text.specs.Words.{words-entry}
 use Rattle.text.specs.Rename.{rename-entry}
+use Rattle.checking.specs.Check.{check as check-entry}
 use Rattle.replay.specs.Records.{part}
 use Rattle.replay.specs.Dirt.{bytes, over, due}
 use Rattle.replay.specs.declared.record.Record.{Record}
@@ -31,11 +32,12 @@ is-searched number = ltb 6 number && not (eqb number 9) && not (eqb number 10)
 abbrev pub changed-to : (entry number lent : ℕ) → ℕ
 changed-to entry number lent = elim (eqb entry 1 && is-searched number) [ true ↦ lent | false ↦ 0 ]
 
--- a call of the entry with this number: FIND, WORDS or else RENAME
+-- a call of the entry with this number: FIND, WORDS, RENAME or else CHECK
 pub record Made (entry : ℕ) (job out work : List ℕ) (r : ℕ) (out′ work′ : List ℕ) : Type 0 where
   pub find : entry ≡ 1 → FindCall job out work r out′ work′
   pub words : entry ≡ 2 → Call (words-entry job (length out)) out r out′ × (work′ ≡ work)
-  pub rename : (entry ≡ 1 → ⊥) → (entry ≡ 2 → ⊥) → Call (rename-entry job (length out)) out r out′ × (work′ ≡ work)
+  pub rename : entry ≡ 3 → Call (rename-entry job (length out)) out r out′ × (work′ ≡ work)
+  pub check : (entry ≡ 1 → ⊥) → (entry ≡ 2 → ⊥) → (entry ≡ 3 → ⊥) → Call (check-entry job (length out)) out r out′ × (work′ ≡ work)
 
 -- the first that is not as due of a call: its number (r where d is due), its output, its workspace
 abbrev pub Verdict : (r d : ℕ) (output workspace : Type 0) → Fault → Type 0

@@ -14,7 +14,7 @@ one-more at xs = elim (ltb (getD xs at 0) 1000000) [ true ↦ set xs at (getD xs
 
 -- where a call is counted by its entry and its stored number; with all calls where one of them is too large
 abbrev pub place : (entry number : ℕ) → ℕ
-place entry number = elim (leb entry 3 && leb number 15) [ true ↦ entry * 16 + number | false ↦ 0 ]
+place entry number = elim (leb entry 4 && leb number 15) [ true ↦ entry * 16 + number | false ↦ 0 ]
 
 abbrev pub is-fault : Fault → Bool
 is-fault Nothing = false

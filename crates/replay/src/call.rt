@@ -47,10 +47,13 @@ fn made(entry: usize, job: &[u8], output: &mut [u8], workspace: &mut [u32]) -> u
     if entry == 2 {
         return puvainy::puvainy_words(job, output);
     }
-    puvainy::puvainy_rename(job, output)
+    if entry == 3 {
+        return puvainy::puvainy_rename(job, output);
+    }
+    puvainy::puvainy_check(job, output)
 }
 
-// Where the workspace may be changed up to: nowhere by 1 to 6, 9, 10 and by WORDS and RENAME, else in the
+// Where the workspace may be changed up to: nowhere by 1 to 6, 9, 10 and by WORDS, RENAME and CHECK, else in the
 // lent part.
 fn changed_up_to(entry: usize, number: usize, lent: usize) -> usize
     ensures { λ r. ⌜ r ≡ changed-to entry number lent ⌝ }

@@ -85,15 +85,15 @@ fn print_field(name: &[u8], n: u32) {
     io::print_decimal(STDOUT_FILENO, n as u64);
 }
 
-// The answers and the refusals 1 to 10 of an entry.
+// The answers and the refusals 1 to 12 of an entry.
 fn print_entry(counts: &[u32], name: &[u8], entry: usize) {
     io::write_all(STDOUT_FILENO, name);
-    if 3 < entry {
+    if 4 < entry {
         return;
     }
     print_field(b" answers=", tally::count_at(counts, entry * 16));
     let mut n: usize = 1;
-    while n < 11 {
+    while n < 13 {
         io::write_all(STDOUT_FILENO, b" refused_");
         io::print_decimal(STDOUT_FILENO, n as u64);
         print_field(b"=", tally::count_at(counts, entry * 16 + n));
@@ -112,6 +112,7 @@ fn print_counts(counts: &[u32]) {
     print_entry(counts, b"find", 1);
     print_entry(counts, b"words", 2);
     print_entry(counts, b"rename", 3);
+    print_entry(counts, b"check", 4);
 }
 
 fn main() {
@@ -119,7 +120,7 @@ fn main() {
     let mut output = [0u8; 32768];
     let mut workspace = [0u32; 16040];
     let mut former = [0u32; 16040];
-    let mut counts = [0u32; 64];
+    let mut counts = [0u32; 80];
     replay_list(
         &mut input,
         &mut output,

@@ -36,7 +36,7 @@ pub fn count_at(counts: &[u32], at: usize) -> u32
 fn place_of(entry: usize, number: usize) -> usize
     ensures { λ r. ⌜ r ≡ place entry number ⌝ }
 {
-    if 3 < entry {
+    if 4 < entry {
         return 0;
     }
     if 15 < number {

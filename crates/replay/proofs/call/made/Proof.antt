@@ -1,6 +1,6 @@
 -- `made` meets its contract.
 use borrow.Author.Needs.{needs}
-use Rattle.replay.proofs.Calling.{made-find, made-words, made-rename}
+use Rattle.replay.proofs.Calling.{made-find, made-words, made-rename, made-check}
 use Rattle.replay.proofs.call.made.Statement.{statement}
 use Rattle.replay.proofs.call.made.Tie as tie
 
@@ -34,6 +34,15 @@ same-length-4 c = search needs
 returns-3 : tie.Need-returns-3
 returns-3 c = search (made-rename, needs)
 
+puvainy-check-requires : tie.Need-puvainy-check-requires
+puvainy-check-requires c κs = search needs
+
+same-length-5 : tie.Need-same-length-5
+same-length-5 c = search needs
+
+returns-4 : tie.Need-returns-4
+returns-4 c = search (made-check, needs)
+
 pub made-spec : {M : Type 1} → statement M
 made-spec =
     tie.close
@@ -47,4 +56,7 @@ made-spec =
     returns-2
     puvainy-rename-requires
     same-length-4
-    returns-3)
+    returns-3
+    puvainy-check-requires
+    same-length-5
+    returns-4)

@@ -1,0 +1,2 @@
+-- Of a longer input the beginning is enough.
+pub mod Cut
