@@ -1,9 +1,10 @@
 //! The documents' cases, each with the answer that is due.
 
+mod check;
 mod many;
 
 use crate::plain::job;
-use crate::{Call, Entry, Given, PROGRAM_ROOM, PROGRAM_SLOTS, Rights, checked};
+use crate::{About, Call, Entry, Given, PROGRAM_ROOM, PROGRAM_SLOTS, checked};
 
 pub struct Case {
     pub name: &'static str,
@@ -109,17 +110,22 @@ macro_rules! none {
 
 use none;
 
-/// The cases of document 01 with the examples of its table of refusals, and those for several right sides.
-pub fn cases(rights: Option<Rights>) -> Vec<Case> {
+/// The cases about these, or about all if none is said: those of document 01 with the examples of its table of
+/// refusals, those for several right sides, and those for CHECK.
+pub fn cases(about: &[About]) -> Vec<Case> {
+    let is_meant = |one: About| one.is_among(about);
     let mut all = Vec::new();
-    if rights != Some(Rights::Many) {
+    if is_meant(About::One) {
         all.extend(searched());
         all.extend(listed());
         all.extend(refused());
         all.extend(bounds());
     }
-    if rights != Some(Rights::One) {
+    if is_meant(About::Many) {
         all.extend(many::cases());
+    }
+    if is_meant(About::Check) {
+        all.extend(check::cases());
     }
     all
 }

@@ -1,9 +1,12 @@
-//! The plain answer, compared with the Rust's on every job that passes the refusals before the search.
+//! The plain answer, compared with the Rust's on every job that passes the refusals before the search, and with
+//! other judges on every derivation that passes 1 to 4.
+
+mod derived;
 
 use std::fmt;
 
 use crate::plain::{self, Block, MOST_SLOTS, joined};
-use crate::{Call, Given, rust};
+use crate::{Call, Entry, Given, rust};
 
 /// A call on which two answers differ.
 #[derive(Debug)]
@@ -17,6 +20,17 @@ pub struct Difference {
 
 /// What the call gives, or how the answers differ.
 pub fn answer(call: &Call) -> Result<Given, Box<Difference>> {
+    match call.entry {
+        Entry::Check => {
+            derived::hold(call, &plain::check::check(&call.job))?;
+            Ok(plain::answer(call.entry, &call.job, call.slots, call.room))
+        }
+        _ => of_job(call),
+    }
+}
+
+/// What a call with a job gives.
+fn of_job(call: &Call) -> Result<Given, Box<Difference>> {
     let &Call {
         entry,
         slots,
@@ -33,6 +47,9 @@ pub fn answer(call: &Call) -> Result<Given, Box<Difference>> {
         &whole,
         &rusts,
     )?;
+    if entry == Entry::Find {
+        derived::hold_proved(call, &whole)?;
+    }
 
     let is_held = |block: &Block| block.noted <= slots.min(MOST_SLOTS);
     let due = blocks.and_then(|blocks| {
@@ -54,12 +71,16 @@ fn same(
     if plain == other {
         return Ok(());
     }
-    Err(Box::new(Difference {
+    Err(differ(call, what, show(plain), show(other)))
+}
+
+fn differ(call: &Call, what: &'static str, plain: String, other: String) -> Box<Difference> {
+    Box::new(Difference {
         call: call.clone(),
         what,
-        plain: show(plain),
-        other: show(other),
-    }))
+        plain,
+        other,
+    })
 }
 
 /// The answer, or the refusal as the program prints it.

@@ -1,4 +1,4 @@
-//! The oracle: what documents 01 and 02 and the Rust answer to a job.
+//! The oracle: what documents 01 and 02 and the Rust answer to a job or a derivation.
 
 pub mod cases;
 pub mod checked;
@@ -9,19 +9,21 @@ pub mod plain;
 pub mod rust;
 pub mod tally;
 
-/// The three entries that take a job.
+/// The entries: three take a job, CHECK takes a derivation.
 #[derive(Clone, Copy, Debug, Eq, PartialEq)]
 pub enum Entry {
     Find,
     Words,
     Rename,
+    Check,
 }
 
 impl Entry {
-    pub const ALL: [Entry; 3] = [Entry::Find, Entry::Words, Entry::Rename];
+    pub const ALL: [Entry; 4] = [Entry::Find, Entry::Words, Entry::Rename, Entry::Check];
+    pub const OF_JOBS: [Entry; 3] = [Entry::Find, Entry::Words, Entry::Rename];
 
     pub fn name(self) -> &'static str {
-        ["find", "words", "rename"][self as usize]
+        ["find", "words", "rename", "check"][self as usize]
     }
 
     pub fn named(name: &str) -> Option<Entry> {
@@ -29,11 +31,20 @@ impl Entry {
     }
 }
 
-/// Whether a job is about one right side or about several, some of which may be wrong.
+/// What a call is about: a job of one right side or of several, some of which may be wrong, or a
+/// derivation for CHECK.
 #[derive(Clone, Copy, Debug, Eq, PartialEq)]
-pub enum Rights {
+pub enum About {
     One,
     Many,
+    Check,
+}
+
+impl About {
+    /// Whether it is one of these, which are all if none is said.
+    pub fn is_among(self, these: &[About]) -> bool {
+        these.is_empty() || these.contains(&self)
+    }
 }
 
 /// What a call gives: the answer's bytes, or the number of the refusal.
@@ -43,7 +54,7 @@ pub type Given = Result<Vec<u8>, u8>;
 pub const PROGRAM_SLOTS: usize = 400;
 pub const PROGRAM_ROOM: usize = 32_768;
 
-/// One call: the entry, the job's bytes, the whole slots and the output's bytes.
+/// One call: the entry, the whole slots, the output's bytes and the text's: a job or a derivation.
 #[derive(Clone, Debug, Eq, PartialEq)]
 pub struct Call {
     pub entry: Entry,

@@ -6,7 +6,7 @@ use std::io::{self, Write};
 
 use crate::{Call, Given};
 
-/// Writes a call: entry (1 FIND, 2 WORDS, 3 RENAME), slots, room, job's length; then the job.
+/// Writes a call: entry (1 FIND, 2 WORDS, 3 RENAME, 4 CHECK), slots, room, job's length; then the job.
 pub fn write_call(out: &mut impl Write, call: &Call) -> io::Result<()> {
     writeln!(out, "{}", header(call))?;
     out.write_all(&call.job)

@@ -6,16 +6,16 @@ use std::time::Instant;
 
 use oracle::cases::{Case, cases};
 use oracle::generate::{KINDS, Plan};
-use oracle::options::{self, Failure, unknown, value};
+use oracle::options::{self, Failure, about, unknown, value};
 use oracle::tally::Tally;
-use oracle::{Call, Entry, PROGRAM_ROOM, PROGRAM_SLOTS, Rights, checked, list};
+use oracle::{About, Call, Entry, PROGRAM_ROOM, PROGRAM_SLOTS, checked, list};
 
 const HELP: &str = "\
 oracle answer ENTRY [--slots N] [--room N] [--number]
-    Reads one job on standard input and prints what the call gives, or the refusal.
-    ENTRY is find, words or rename. 400 slots and 32768 bytes of room unless said.
+    Reads one job, or one derivation, on standard input and prints what the call gives, or the refusal.
+    ENTRY is find, words, rename or check. 400 slots and 32768 bytes of room unless said.
     --number prints the number that the call returns instead.
-oracle cases [--one | --many] [--list]
+oracle cases [--one] [--many] [--check] [--list]
     Runs the documents' cases; or writes them as `oracle list` does.
 oracle generate OPTIONS
     Writes calls: a line `entry slots room job_length`, then the job's bytes.
@@ -26,11 +26,11 @@ oracle check OPTIONS
     Makes the same calls, compares both implementations and prints counts.
 
 OPTIONS: --seed S (default 1), --count N (default 1000), --kind K (default all, mixed),
-    --one (kinds for one right side only), --many (for several only), --light (no heavy calls),
-    --max-slots N, --max-room N (larger buffers are drawn as this), --max-job N (longer texts are cut).
-Entries in records: 1 find, 2 words, 3 rename. Number: 0, or the refusal's.
+    --one, --many, --check (only kinds for one right side, for several, for CHECK; or for two of them),
+    --light (no heavy calls), --max-slots N, --max-room N (larger buffers are drawn as this), --max-job N (longer texts are cut).
+Entries in records: 1 find, 2 words, 3 rename, 4 check. Number: 0, or the refusal's.
 
-Kinds, with their share in 1,500:
+Kinds, with their share in 2,000:
 ";
 
 fn main() -> ExitCode {
@@ -64,12 +64,13 @@ fn run(words: &[String]) -> Result<bool, Failure> {
 
 fn help() -> String {
     let kinds = KINDS.iter().map(|kind| {
-        let rights = match kind.rights {
-            Rights::One => "one ",
-            Rights::Many => "many",
+        let about = match kind.about {
+            About::One => "one",
+            About::Many => "many",
+            About::Check => "check",
         };
         format!(
-            "    {rights} {:11} {:4}  {}\n",
+            "    {about:5} {:11} {:4}  {}\n",
             kind.name, kind.share, kind.what
         )
     });
@@ -77,7 +78,7 @@ fn help() -> String {
 }
 
 fn answer(entry: &str, words: &[&str]) -> Result<bool, Failure> {
-    let entry = Entry::named(entry).ok_or("ENTRY is find, words or rename")?;
+    let entry = Entry::named(entry).ok_or("ENTRY is find, words, rename or check")?;
     let mut call = Call {
         entry,
         slots: PROGRAM_SLOTS,
@@ -111,16 +112,15 @@ fn answer(entry: &str, words: &[&str]) -> Result<bool, Failure> {
 }
 
 fn cases_command(words: &[&str]) -> Result<bool, Failure> {
-    let mut rights = None;
+    let mut about_these = Vec::new();
     let mut is_list = false;
     for &option in words {
         match option {
-            "--one" | "--many" => rights = options::rights(option),
             "--list" => is_list = true,
-            _ => return Err(unknown(option)),
+            _ => about_these.push(about(option).ok_or_else(|| unknown(option))?),
         }
     }
-    let all = cases(rights);
+    let all = cases(&about_these);
     if is_list {
         list_cases(&all)
     } else {

@@ -3,7 +3,7 @@
 use std::slice::Iter;
 use std::str::FromStr;
 
-use crate::Rights;
+use crate::About;
 use crate::generate::{KINDS, Plan};
 
 pub type Failure = Box<dyn std::error::Error>;
@@ -14,7 +14,7 @@ pub fn take(plan: &mut Plan, option: &str, rest: &mut Iter<&str>) -> Result<bool
         "--seed" => plan.seed = value(option, rest)?,
         "--count" => plan.count = value(option, rest)?,
         "--light" => plan.light = true,
-        "--one" | "--many" => plan.rights = rights(option),
+        "--one" | "--many" | "--check" => plan.about.extend(about(option)),
         "--max-job" => plan.most_bytes = value(option, rest)?,
         "--max-slots" => plan.most_slots = value(option, rest)?,
         "--max-room" => plan.most_room = value(option, rest)?,
@@ -28,11 +28,12 @@ pub fn take(plan: &mut Plan, option: &str, rest: &mut Iter<&str>) -> Result<bool
     Ok(true)
 }
 
-/// Which right sides `--one` or `--many` asks for.
-pub fn rights(option: &str) -> Option<Rights> {
+/// Which calls `--one`, `--many` or `--check` asks for.
+pub fn about(option: &str) -> Option<About> {
     match option {
-        "--one" => Some(Rights::One),
-        "--many" => Some(Rights::Many),
+        "--one" => Some(About::One),
+        "--many" => Some(About::Many),
+        "--check" => Some(About::Check),
         _ => None,
     }
 }

@@ -4,7 +4,7 @@ use std::collections::BTreeMap;
 use std::fmt;
 
 use crate::generate::KINDS;
-use crate::{Call, Given};
+use crate::{Call, Entry, Given};
 
 /// How often each key was counted.
 type Counts = BTreeMap<String, usize>;
@@ -17,6 +17,8 @@ pub struct Tally {
     /// The blocks of answers that have several.
     blocks: Counts,
     paths: BTreeMap<usize, usize>,
+    /// The step lines of good derivations.
+    chains: BTreeMap<usize, usize>,
 }
 
 impl Tally {
@@ -29,6 +31,10 @@ impl Tally {
             *counts.entry(outcome.clone()).or_default() += 1;
         }
         let Ok(text) = given else { return };
+        if call.entry == Entry::Check {
+            let lines = values(&call.job, "step=").count();
+            *self.chains.entry(lines).or_default() += 1;
+        }
         let blocks = outcomes(text);
         if blocks.len() > 1 {
             for block in blocks {
@@ -52,6 +58,7 @@ impl Tally {
         }
         add(&mut self.blocks, other.blocks);
         add(&mut self.paths, other.paths);
+        add(&mut self.chains, other.chains);
     }
 }
 
@@ -61,7 +68,8 @@ fn add<K: Ord>(counts: &mut BTreeMap<K, usize>, others: BTreeMap<K, usize>) {
     }
 }
 
-/// `refused N`, `proved`, `none`, `several` for several blocks, or `answered` for WORDS and RENAME.
+/// `refused N`, `proved`, `none`, `several` for several blocks, `good` for CHECK, or `answered` for WORDS and
+/// RENAME.
 fn outcome(given: &Given) -> String {
     match given {
         Err(number) => format!("refused {number}"),
@@ -73,14 +81,14 @@ fn outcome(given: &Given) -> String {
     }
 }
 
-/// What each block of FIND's answer says first.
+/// What each block of FIND's answer, or CHECK's, says first.
 fn outcomes(text: &[u8]) -> Vec<String> {
     values(text, "answer=").map(str::to_owned).collect()
 }
 
 /// What stands in the lines with this key.
 fn values<'a>(text: &'a [u8], key: &'a str) -> impl Iterator<Item = &'a str> {
-    let text = std::str::from_utf8(text).expect("answers are ASCII");
+    let text = std::str::from_utf8(text).expect("answers and good texts are ASCII");
     text.lines().filter_map(move |line| line.strip_prefix(key))
 }
 
@@ -101,6 +109,12 @@ impl fmt::Display for Tally {
             out,
             "lines in the path of a proved answer or block: {}",
             paths.join(", ")
+        )?;
+        let lines: usize = self.chains.iter().map(|(lines, count)| lines * count).sum();
+        let most = self.chains.keys().max().unwrap_or(&0);
+        writeln!(
+            out,
+            "lines of good derivations: {lines}, up to {most} in one"
         )?;
         write!(out, "{} calls", self.calls)
     }

@@ -3,7 +3,7 @@
 use std::collections::BTreeSet;
 
 use oracle::generate::{KINDS, Plan};
-use oracle::{Call, Entry, Given, Rights, checked, list, plain};
+use oracle::{About, Call, Entry, Given, checked, list, plain};
 
 /// The calls of a plan with what they give.
 fn answers(plan: &Plan) -> Vec<(Entry, Given)> {
@@ -64,6 +64,24 @@ fn refusals_of_several_right_sides_come_from_their_kinds() {
     assert!(numbers("right-lines").is_superset(&BTreeSet::from([0, 1])));
 }
 
+#[test]
+fn refusals_of_derivations_come_from_their_kinds() {
+    for name in ["found", "walks", "returns", "deep", "step-room"] {
+        assert_eq!(numbers(name), BTreeSet::from([0, 8]), "{name}");
+    }
+    assert!(numbers("bent").is_superset(&BTreeSet::from([0, 12])));
+    assert!(numbers("torn").is_superset(&BTreeSet::from([0, 11, 12])));
+    assert!(numbers("twofold").is_superset(&BTreeSet::from([0, 12])));
+    assert!(numbers("step-lines").is_superset(&BTreeSet::from([1])));
+    assert!(numbers("step-terms").is_superset(&BTreeSet::from([2])));
+    assert!(numbers("step-nodes").is_superset(&BTreeSet::from([0, 3, 12])));
+    assert!(numbers("step-names").is_superset(&BTreeSet::from([0, 4, 11, 12])));
+    assert_eq!(numbers("no-step"), BTreeSet::from([11]));
+    assert!(numbers("step-faults").is_superset(&BTreeSet::from([1, 2, 3, 4, 8, 11, 12])));
+    assert!(numbers("step-bytes").is_superset(&BTreeSet::from([0, 1, 2, 12])));
+    assert!(numbers("step-damage").is_superset(&BTreeSet::from([1, 2, 12])));
+}
+
 /// The jobs with each right line by itself.
 fn single_jobs(job: &[u8]) -> Vec<Vec<u8>> {
     let lines: Vec<&[u8]> = job.split_inclusive(|&byte| byte == b'\n').collect();
@@ -102,10 +120,11 @@ fn blocks_are_what_single_jobs_are_answered() {
 }
 
 #[test]
-fn mixed_lists_have_two_thirds_of_one_right_side() {
-    let shares = |rights| KINDS.iter().filter(move |kind| kind.rights == rights);
-    let sum = |rights| shares(rights).map(|kind| kind.share).sum::<usize>();
-    assert_eq!([Rights::One, Rights::Many].map(sum), [1_000, 500]);
+fn half_of_a_mixed_list_is_of_one_right_side() {
+    let shares = |about| KINDS.iter().filter(move |kind| kind.about == about);
+    let sum = |about| shares(about).map(|kind| kind.share).sum::<usize>();
+    let all = [About::One, About::Many, About::Check];
+    assert_eq!(all.map(sum), [1_000, 500, 500]);
 }
 
 #[test]

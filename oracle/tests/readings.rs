@@ -81,7 +81,7 @@ fn sides_are_terms() {
 
 #[test]
 fn lines_stand_alone_and_in_order() {
-    for entry in Entry::ALL {
+    for entry in Entry::OF_JOBS {
         let refused = |text: &[u8]| refused(entry, text);
         let good = job::write(&GOOD);
         assert_eq!(refused(&good), None);
@@ -144,7 +144,7 @@ fn lowest_number_counts() {
         (6, ["v0", "v0", "16", "0", "0", "0"]),
     ];
     for (number, values) in jobs {
-        for entry in Entry::ALL {
+        for entry in Entry::OF_JOBS {
             assert_eq!(given(entry, values).err(), Some(number), "{values:?}");
         }
     }

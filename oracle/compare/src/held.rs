@@ -38,6 +38,7 @@ impl Buffers {
             Entry::Find => entries::find(job, output, self.workspace.part_mut()),
             Entry::Words => entries::words(job, output),
             Entry::Rename => entries::rename(job, output),
+            Entry::Check => entries::check(job, output),
         };
         self.number_fault(number, due)
             .or_else(|| self.output_fault(dirt, due))

@@ -12,7 +12,7 @@ use oracle::cases::cases;
 use oracle::generate::{KINDS, Plan, Random};
 use oracle::options::{self, Failure, unknown, value};
 use oracle::tally::Tally;
-use oracle::{Call, Given, Rights, checked, plain};
+use oracle::{About, Call, Given, checked, plain};
 
 use held::Buffers;
 
@@ -21,7 +21,7 @@ compare OPTIONS
     Makes the documents' cases and then generated calls, and holds the static library to the oracle.
 
 OPTIONS: --seed S (default 1), --count N (default 1000), --first N (default 0, the first call's
-    index), --kind K, --one, --many, --light, --max-job N, --max-slots N, --max-room N as
+    index), --kind K, --one, --many, --check, --light, --max-job N, --max-slots N, --max-room N as
     `oracle check` takes them, --threads N (default 1), --plain (what is due comes from plain
     alone, without the Rust).
 ";
@@ -77,7 +77,7 @@ fn read(words: &[&str]) -> Result<Run, Failure> {
 fn compare(run: &Run) -> ExitCode {
     let start = Instant::now();
     let outcome =
-        run_cases(run.plan.rights).and_then(|cases| run_generated(run).map(|tally| (cases, tally)));
+        run_cases(&run.plan.about).and_then(|cases| run_generated(run).map(|tally| (cases, tally)));
     match outcome {
         Ok((cases, tally)) => {
             println!("{cases} cases");
@@ -92,10 +92,10 @@ fn compare(run: &Run) -> ExitCode {
 }
 
 /// The documents' cases; says how many there are.
-fn run_cases(rights: Option<Rights>) -> Result<usize, String> {
+fn run_cases(about: &[About]) -> Result<usize, String> {
     let mut random = Random::new(0, 0);
     let mut buffers = Buffers::new(&mut random);
-    let all = cases(rights);
+    let all = cases(about);
     for case in &all {
         if let Some(fault) = buffers.fault(&case.call, &case.given(), &mut random) {
             return Err(format!("case {}\n{}", case.name, show(&case.call, &fault)));

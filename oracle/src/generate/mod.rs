@@ -1,22 +1,27 @@
 //! Calls made from a seed, by kind.
 
+mod bent;
 mod broken;
+mod chains;
+mod derived;
 mod draft;
 mod listed;
+mod measured;
 mod plans;
 mod random;
 mod refused;
 mod searched;
 mod spoilt;
 mod terms;
+mod unread;
 
-use crate::{Call, Rights};
+use crate::{About, Call};
 pub use random::Random;
 
 /// A kind of call, its share in a mixed list, and what it is.
 pub struct Kind {
     pub name: &'static str,
-    pub rights: Rights,
+    pub about: About,
     pub share: usize,
     pub what: &'static str,
     make: Make,
@@ -36,7 +41,7 @@ type Make = fn(&mut Random) -> Call;
 const fn one(name: &'static str, share: usize, what: &'static str, make: Make) -> Kind {
     Kind {
         name,
-        rights: Rights::One,
+        about: About::One,
         share,
         what,
         make,
@@ -45,14 +50,22 @@ const fn one(name: &'static str, share: usize, what: &'static str, make: Make) -
 
 const fn many(name: &'static str, share: usize, what: &'static str, make: Make) -> Kind {
     Kind {
-        rights: Rights::Many,
+        about: About::Many,
         ..one(name, share, what, make)
     }
 }
 
-/// The kinds; the shares of those with one right side make a thousand, of the others five hundred.
+const fn check(name: &'static str, share: usize, what: &'static str, make: Make) -> Kind {
+    Kind {
+        about: About::Check,
+        ..one(name, share, what, make)
+    }
+}
+
+/// The kinds; the shares of those with one right side make a thousand, of those with several and of those for
+/// CHECK five hundred each.
 #[rustfmt::skip]
-pub const KINDS: [Kind; 29] = [
+pub const KINDS: [Kind; 45] = [
     one("lines", 60, "malformed lines, keys, digits and lengths", broken::lines),
     one("sides", 80, "a side that is no term", refused::sides),
     one("nodes", 40, "sides of 29 nodes and more", refused::nodes),
@@ -82,6 +95,22 @@ pub const KINDS: [Kind; 29] = [
     many("right-lines", 29, "right lines out of place, malformed lines", spoilt::right_lines),
     many("plan-damage", 20, "good texts with damaged bytes", spoilt::damaged),
     many("plan-heavy", 1, "the largest limits, some ten seconds for each right side", plans::heavy),
+    check("found", 60, "lines of a proved answer of FIND", chains::found),
+    check("walks", 80, "chains of 1 to 40 lines", chains::walks),
+    check("returns", 25, "chains that come back to left", chains::returns),
+    check("deep", 25, "31 nodes, the deepest places", chains::deep),
+    check("bent", 100, "one field of one line changed", bent::bent),
+    check("torn", 40, "lines or sides dropped, exchanged or changed", bent::torn),
+    check("twofold", 25, "a letter of a law that meets two terms", bent::twofold),
+    check("step-lines", 45, "malformed lines, laws, directions and places", unread::lines),
+    check("step-terms", 20, "a side or a result that is no term", unread::terms),
+    check("step-nodes", 15, "terms of 29 nodes and more", measured::nodes),
+    check("step-names", 15, "five to eight letters in all terms", measured::names),
+    check("no-step", 5, "no step line", measured::no_step),
+    check("step-room", 10, "room about the answer's length", chains::room),
+    check("step-faults", 20, "several reasons to refuse", measured::faults),
+    check("step-bytes", 5, "texts of about 8,192 bytes", measured::bytes),
+    check("step-damage", 10, "good texts with damaged bytes", unread::damaged),
 ];
 
 /// Which calls to make.
@@ -91,8 +120,8 @@ pub struct Plan {
     pub count: u64,
     /// One kind, or all by their shares.
     pub kind: Option<usize>,
-    /// Which kinds are among the mixed; all, if not said.
-    pub rights: Option<Rights>,
+    /// Which kinds are among the mixed; all, if none is said.
+    pub about: Vec<About>,
     /// No heavy calls among the mixed.
     pub light: bool,
     pub most_bytes: usize,
@@ -106,7 +135,7 @@ impl Default for Plan {
             seed: 1,
             count: 1_000,
             kind: None,
-            rights: None,
+            about: Vec::new(),
             light: false,
             most_bytes: usize::MAX,
             most_slots: usize::MAX,
@@ -136,8 +165,11 @@ impl Plan {
     fn by_share(&self, random: &mut Random) -> usize {
         let share = |kind: &Kind| {
             let is_light = !(self.light && kind.is_heavy());
-            let is_meant = self.rights.is_none_or(|rights| rights == kind.rights);
-            if is_light && is_meant { kind.share } else { 0 }
+            if is_light && kind.about.is_among(&self.about) {
+                kind.share
+            } else {
+                0
+            }
         };
         let mut drawn = random.below(KINDS.iter().map(share).sum());
         let mut kind = 0;

@@ -42,7 +42,11 @@ pub fn sides(random: &mut Random) -> Call {
 
 /// Makes a side no term.
 pub fn spoil_side(random: &mut Random, draft: &mut Draft, side: usize) {
-    let value = &mut draft.0[side];
+    spoil_term(random, &mut draft.0[side]);
+}
+
+/// Makes what stands for a term none.
+pub fn spoil_term(random: &mut Random, value: &mut Vec<u8>) {
     let mut items: Vec<Vec<u8>> = value
         .split(|&byte| byte == b' ')
         .map(<[u8]>::to_vec)

@@ -5,7 +5,7 @@ use super::draft::{Draft, mostly_find};
 use super::plans;
 use super::random::Random;
 use super::refused::{add_reason, bound, spoil_side};
-use super::terms::{holding, letters, term, term_up_to};
+use super::terms::{holding, letters, shown, term, term_up_to};
 use crate::Call;
 use crate::plain::job::{MOST_BYTES, MOST_FIND_BYTES, MOST_LETTERS, MOST_RIGHTS};
 use crate::plain::term::Term;
@@ -73,10 +73,6 @@ fn come_before(random: &mut Random, draft: &mut Draft, side: usize) {
 
 fn left_of(draft: &Draft) -> Term {
     Term::read(&draft.0[0]).expect("a term")
-}
-
-fn shown(term: &Term) -> Vec<u8> {
-    term.show().into_bytes()
 }
 
 /// A term that makes so many letters together with left's, if left has no more.
@@ -180,7 +176,7 @@ pub fn lengths(random: &mut Random) -> Call {
 
 /// The text of a term with so many bytes, over letters of one, two and three digits and 0; a tight one has
 /// as few nodes as it can.
-fn of_length(random: &mut Random, length: usize, is_tight: bool, pool: &[usize; 3]) -> Vec<u8> {
+pub fn of_length(random: &mut Random, length: usize, is_tight: bool, pool: &[usize; 3]) -> Vec<u8> {
     // one atom more takes its one to four bytes, an operator's and two spaces
     let least = (length + 3).div_ceil(7);
     let most = if is_tight { least } else { length.div_ceil(4) };

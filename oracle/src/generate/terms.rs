@@ -3,6 +3,11 @@
 use super::random::Random;
 use crate::plain::term::{ONE, PRODUCT, SUM, Term, ZERO};
 
+/// The term's text.
+pub fn shown(term: &Term) -> Vec<u8> {
+    term.show().into_bytes()
+}
+
 /// Different letters, small ones likelier, in no order.
 pub fn letters(random: &mut Random, count: usize) -> Vec<u16> {
     let mut found: Vec<u16> = Vec::new();

@@ -105,7 +105,7 @@ impl<'a> Lines<'a> {
     fn read(entry: Entry, text: &'a [u8]) -> Option<Lines<'a>> {
         let (most_bytes, most_rights) = match entry {
             Entry::Find => (MOST_FIND_BYTES, usize::MAX),
-            Entry::Words | Entry::Rename => (MOST_BYTES, 1),
+            _ => (MOST_BYTES, 1),
         };
         if text.len() > most_bytes {
             return None;
@@ -132,7 +132,7 @@ impl<'a> Lines<'a> {
 }
 
 /// Takes a line with this key off the front, and gives what stands after the key.
-fn line<'a>(rest: &mut &'a [u8], key: &str) -> Option<&'a [u8]> {
+pub fn line<'a>(rest: &mut &'a [u8], key: &str) -> Option<&'a [u8]> {
     let line_end = rest.iter().position(|&byte| byte == b'\n')?;
     let value = rest[..line_end].strip_prefix(key.as_bytes())?;
     *rest = &rest[line_end + 1..];

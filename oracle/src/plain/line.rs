@@ -39,6 +39,11 @@ impl Line {
     }
 }
 
+/// The word for a direction.
+pub fn direction(forward: bool) -> &'static str {
+    if forward { "forward" } else { "back" }
+}
+
 /// A node on the way to a place, and the part through which the way goes on.
 pub struct Turn {
     pub node: usize,

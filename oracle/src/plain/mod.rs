@@ -1,5 +1,6 @@
-//! A plain implementation of documents 01 and 02: jobs, refusals, search and answers.
+//! A plain implementation of documents 01 and 02: jobs and derivations, refusals, search and answers.
 
+pub mod check;
 pub mod job;
 pub mod law;
 pub mod line;
@@ -7,6 +8,7 @@ pub mod proof;
 pub mod rename;
 pub mod search;
 pub mod term;
+pub mod tried;
 pub mod words;
 
 use crate::{Entry, Given};
@@ -20,7 +22,7 @@ pub const MOST_SLOTS: usize = 65_535;
 /// A block that lacks slots.
 const OUT_OF_SLOTS: &[u8] = b"answer=refused\nnumber=7\n";
 
-/// What one equation is answered, and the number of terms noted for it.
+/// What one equation or a derivation is answered, and the number of terms noted for it.
 #[derive(Clone, Debug)]
 pub struct Block {
     pub text: Vec<u8>,
@@ -40,8 +42,13 @@ pub fn whole(entry: Entry, job: &[u8]) -> Result<(Vec<u8>, usize), u8> {
     Ok((joined(&blocks, usize::MAX)?, noted.unwrap_or(0)))
 }
 
-/// What each equation is answered by itself; none where more terms would be noted than there are slots.
+/// What each equation is answered by itself; none where more terms would be noted than there are slots. A
+/// derivation is answered by one block.
 pub fn blocks(entry: Entry, job: &[u8], slots: usize) -> Result<Vec<Option<Block>>, u8> {
+    if entry == Entry::Check {
+        let text = check::check(job)?;
+        return Ok(vec![Some(Block { text, noted: 0 })]);
+    }
     let job = Job::read(entry, job)?;
     let equations = job.equations.iter();
     Ok(equations
@@ -70,6 +77,7 @@ fn block(entry: Entry, equation: &Equation, limits: &Limits, slots: usize) -> Op
     let (text, noted) = match entry {
         Entry::Words => (words::words_text(equation), 0),
         Entry::Rename => (rename::rename_text(equation), 0),
+        Entry::Check => unreachable!("CHECK takes no job"),
         Entry::Find => {
             let (left, right) = equation.oriented();
             let outcome = search(left, right, limits, slots)?;
@@ -110,7 +118,7 @@ fn step_line(step: &Step) -> String {
     format!(
         "step={} {} at={} to={}\n",
         law::LAWS[step.line.law].name,
-        if step.line.forward { "forward" } else { "back" },
+        line::direction(step.line.forward),
         step.line.place(&step.source),
         step.target.show()
     )

@@ -1,5 +1,7 @@
-//! Answers made from the Rust sources, for jobs that pass every refusal before the search.
+//! Answers made from the Rust sources, for jobs that pass every refusal before the search, and what the Rust
+//! says of derivations.
 
+pub mod chain;
 mod readback;
 
 use upstream::{
@@ -31,6 +33,7 @@ fn block(entry: Entry, equation: &Equation, limits: &Limits) -> String {
         Entry::Find => find_text(&equation, limits),
         Entry::Words => words_text(&equation),
         Entry::Rename => rename_text(&equation),
+        Entry::Check => unreachable!("CHECK takes no job"),
     }
 }
 
