@@ -1,7 +1,7 @@
-/* Holds the three entries to the stack that puvainy.h grants them, and measures what they take.
+/* Holds the four entries to the stack that puvainy.h grants them, and measures what they take.
  *
- * Standard input has calls as `oracle generate` writes them: a line `entry slots room job_length`,
- * then the job's bytes; examples/deep.calls has those that go deepest. Each call is made on a thread
+ * Standard input has calls as `oracle generate` writes them: a line `entry slots room length`, then the
+ * bytes of the job or derivation; examples/deep.calls has those that go deepest. Each call is made on a thread
  * of its own whose stack ends at pages that cannot be touched, where the header's figure is used up:
  * a call that takes more ends the program, which then names it. The stack is full of one byte before
  * the call; the deepest byte that another stands in afterwards says how much was used.
@@ -22,17 +22,18 @@
 #include "puvainy.h"
 
 /* The guard is larger than any frame, so that no frame reaches past it. */
-enum { PAINT = 0xa5, ENTRIES = 3, GUARD = 1 << 20, MOST = 1 << 19 };
+enum { PAINT = 0xa5, ENTRIES = 4, GUARD = 1 << 20, MOST = 1 << 19 };
 
 /* A thread's first frame may be aligned to so many bytes, a call's to so few. */
 enum { COARSE = 256, FINE = 16 };
 
-static const char *const names[ENTRIES] = {"find", "words", "rename"};
-static const size_t granted[ENTRIES] = {PUVAINY_FIND_STACK, PUVAINY_WORDS_STACK, PUVAINY_RENAME_STACK};
+static const char *const names[ENTRIES] = {"find", "words", "rename", "check"};
+static const size_t granted[ENTRIES] = {PUVAINY_FIND_STACK, PUVAINY_WORDS_STACK, PUVAINY_RENAME_STACK,
+                                        PUVAINY_CHECK_STACK};
 
 struct call {
     size_t entry, slots, room, length;
-    uint8_t *job, *output;
+    uint8_t *text, *output;
     uint32_t *workspace;
     size_t number;
     size_t bytes; /* the stack's size */
@@ -80,11 +81,13 @@ static void *run(void *given)
     if (c->entry == 0)
         nothing(c);
     if (c->entry == 1)
-        c->number = puvainy_find(c->job, c->length, c->output, c->room, c->workspace, numbers);
+        c->number = puvainy_find(c->text, c->length, c->output, c->room, c->workspace, numbers);
     if (c->entry == 2)
-        c->number = puvainy_words(c->job, c->length, c->output, c->room);
+        c->number = puvainy_words(c->text, c->length, c->output, c->room);
     if (c->entry == 3)
-        c->number = puvainy_rename(c->job, c->length, c->output, c->room);
+        c->number = puvainy_rename(c->text, c->length, c->output, c->room);
+    if (c->entry == 4)
+        c->number = puvainy_check(c->text, c->length, c->output, c->room);
     return NULL;
 }
 
@@ -157,11 +160,11 @@ static int next(struct call *c)
         return 0;
     if (fields != 4 || getchar() != '\n' || c->entry < 1 || c->entry > ENTRIES)
         failed("the list has a line that is no call's");
-    c->job = room_for(c->length, 1);
+    c->text = room_for(c->length, 1);
     c->output = room_for(c->room, 1);
     c->workspace = room_for(c->slots * PUVAINY_SLOT, sizeof *c->workspace);
-    if (fread(c->job, 1, c->length, stdin) != c->length)
-        failed("the list ends in a job");
+    if (fread(c->text, 1, c->length, stdin) != c->length)
+        failed("the list ends in a text");
     return 1;
 }
 
@@ -180,7 +183,7 @@ int main(void)
         answered[i] += c.number >= PUVAINY_ANSWER;
         if (bytes > most[i])
             most[i] = bytes;
-        free(c.job);
+        free(c.text);
         free(c.output);
         free(c.workspace);
     }

@@ -1,12 +1,12 @@
-/* Puvainy's three entries. The library is target/staticlib/libpuvainy.a, written by
+/* Puvainy's four entries. The library is target/staticlib/libpuvainy.a, written by
  * `rt staticlib puvainy`.
  *
- * Each entry is proved for every job and for buffers of any length and contents. It keeps no pointer
+ * Each entry is proved for every text and for buffers of any length and contents. It keeps no pointer
  * and no state from call to call, allocates nothing, and makes no call to the system. Calls on
  * different buffers may run at the same time.
  *
- * A buffer is a pointer and its length in elements: bytes for `job` and `output`, 32-bit numbers for
- * `workspace`. The buffers of one call must not overlap, `workspace` must be aligned for uint32_t, and
+ * A buffer is a pointer and its length in elements: bytes for `job`, `text` and `output`, 32-bit numbers
+ * for `workspace`. The buffers of one call must not overlap, `workspace` must be aligned for uint32_t, and
  * no pointer may be NULL, not even where the length is 0.
  *
  * A job is six lines, each ended by byte 10, nothing after; at most 1,024 bytes in all:
@@ -27,18 +27,43 @@
  * with as many slots. Where that job would be refused by 7, the block is the two lines `answer=refused` and
  * `number=7`; the call still answers. A block begins with its line `answer=..`, and no other line begins so.
  *
- * An entry returns 100 plus the length of its answer, or the number of a refusal. Of those that apply the
- * one that stands first here is given; 7, 9 and 10 are puvainy_find's alone:
+ * The text of puvainy_check is a derivation: three kinds of line in the form that puvainy_find prints, in
+ * this order, each ended by byte 10, nothing after; at most 8,192 bytes in all:
  *
- *     1   the job has too many bytes, or lines, keys or a limit's digits are malformed; such is a
- *         second `right=` line in puvainy_words and puvainy_rename, and one behind steps in any
+ *     left=TERM
+ *     right=TERM
+ *     step=LAW DIRECTION at=PLACE to=TERM   any number of times
+ *
+ * LAW is add_assoc, add_comm, add_zero_right, mul_assoc, mul_one_left, mul_one_right, left_distrib,
+ * right_distrib, zero_mul or mul_zero (docs/guide.md says what each is), DIRECTION `forward` or `back`. PLACE
+ * is `.` or at least one of l and r, in any number. One space parts the four. All that stands behind `to=` up
+ * to the end of the line is the TERM.
+ *
+ * The derivation is good if there is a step line, the first leads on from left, each next one from the result
+ * of the one before, and the last result is the same term as right: each is its law, read in its direction, at
+ * its place of the term that it leads on from, with the stated result. zero_mul and mul_zero forward may bring
+ * in any term. Left and right are taken as written, in either order, and may be the same term; no limit of a
+ * job plays a part, nor whether a shorter derivation exists. The left, right and step lines of every block of
+ * puvainy_find that says `answer=proved` are such a text, and it is good.
+ *
+ * An entry returns 100 plus the length of its answer, or the number of a refusal. Of those that apply the
+ * one that stands first here is given; 7, 9 and 10 are puvainy_find's alone, 11 and 12 puvainy_check's,
+ * which has 1 to 4 and 8 as well:
+ *
+ *     1   the text has too many bytes, or lines, keys or a limit's digits are malformed; such is a
+ *         second `right=` line in puvainy_words and puvainy_rename, and one behind steps in any.
+ *         In puvainy_check all that is not as above and stands in no TERM: such is an unknown law
  *     9   over 16 `right=` lines
- *     2   a side is no term
- *     3   a side has over 31 nodes
- *     4   left and one right side have over six different letters together
+ *     2   a side, or the result of a step line, is no term
+ *     3   a side or such a result has over 31 nodes
+ *     4   left and one right side have over six different letters together; in puvainy_check left,
+ *         right and all results
  *     5   a limit is over its bound
  *     6   a right side is the same term as left
  *     10  there are several right sides, and one comes before left in the order of terms
+ *     11  there is no step line
+ *     12  the step lines do not lead from left to right: a place is not in its term, a law does not
+ *         match there, a result is not that line's, or the last result is another term than right
  *     7   the search would note more terms than there are slots, where there is one right side
  *     8   the answer, of all blocks together, is longer than the output
  *
@@ -47,7 +72,7 @@
  *
  * What is left in the buffers:
  *
- *     job        is not written to.
+ *     job, text  are not written to.
  *     output     An answer fills the front, and the rest keeps its bytes. It is text, each line ended
  *                by byte 10, with no byte 0 behind it. A refusal leaves the output untouched: 8 gives
  *                none of the blocks, though some would fit.
@@ -65,10 +90,12 @@
  *                one of its own bucket (crates/search/src/slots.rt), so no answer depends on what was
  *                there. A workspace that is cleared once keeps the checker quiet.
  *
- * Stack: at most 120,000 bytes for puvainy_find, 100,000 for puvainy_words and 190,000 for
- * puvainy_rename on x86-64 (the macros below). That is more than the frames of the deepest calls take
- * together, with a path of 16 lines and terms 15 deep. The gate makes the calls of examples/deep.calls
- * on stacks of just these figures (examples/stack.c). A thread with 256 KiB has enough.
+ * Stack: at most 120,000 bytes for puvainy_find, 100,000 for puvainy_words, 190,000 for puvainy_rename and
+ * 40,000 for puvainy_check on x86-64 (the macros below). That is more than the frames of the deepest calls
+ * take together, with a path of 16 lines and terms 15 deep. puvainy_check takes 34,200 bytes, for one line
+ * as for a text of 8,182 bytes, and 36,392 where the names of memcpy and memset are bound in that call.
+ * The gate makes the calls of examples/deep.calls on stacks of just these figures (examples/stack.c). A
+ * thread with 256 KiB has enough.
  */
 #ifndef PUVAINY_H
 #define PUVAINY_H
@@ -85,10 +112,12 @@ extern "C" {
 #define PUVAINY_SLOT 40
 #define PUVAINY_MOST_SLOTS 65535
 
-/* The most bytes of a job, and of one of puvainy_find; the most right sides of the latter. A host that
- * reads one byte more than a job may have, and hands it over, sees a longer one refused. */
+/* The most bytes of a job, of one of puvainy_find and of a derivation; the most right sides of a job of
+ * puvainy_find. A host that reads one byte more than a text may have, and hands it over, sees a longer one
+ * refused. */
 #define PUVAINY_MOST_JOB 1024
 #define PUVAINY_MOST_FIND_JOB 4096
+#define PUVAINY_MOST_DERIVATION 8192
 #define PUVAINY_MOST_RIGHTS 16
 
 /* What an answer's length is added to. */
@@ -98,6 +127,7 @@ extern "C" {
 #define PUVAINY_FIND_STACK 120000
 #define PUVAINY_WORDS_STACK 100000
 #define PUVAINY_RENAME_STACK 190000
+#define PUVAINY_CHECK_STACK 40000
 
 /* A shortest chain of lines from the smaller side to the larger, with its proof text, or that there
  * is none within the limits; of several right sides this for each. */
@@ -112,6 +142,11 @@ size_t puvainy_words(const uint8_t *job, size_t job_len,
 /* The equation and its words under their least renamings. */
 size_t puvainy_rename(const uint8_t *job, size_t job_len,
                       uint8_t *output, size_t output_len);
+
+/* Whether a derivation leads from left to right: the one line `answer=good` and byte 10, so 112, if it
+ * does. Then both sides have the same words. */
+size_t puvainy_check(const uint8_t *text, size_t text_len,
+                     uint8_t *output, size_t output_len);
 
 #ifdef __cplusplus
 }

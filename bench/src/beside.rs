@@ -7,9 +7,10 @@ use std::os::unix::ffi::OsStrExt;
 use std::path::Path;
 use std::process::exit;
 
-use oracle::{Entry, PROGRAM_ROOM};
-use puvainy::SLOT;
+use oracle::PROGRAM_ROOM;
+use puvainy::{Entry, SLOT};
 
+use crate::check;
 use crate::find::{self, Timed};
 use crate::lists::{ALIKE, MANY_WORDS};
 use crate::ours::Workspace;
@@ -28,6 +29,8 @@ struct Release {
     find: Find,
     words: Lists,
     rename: Lists,
+    /// Not in every earlier release.
+    check: Option<Lists>,
 }
 
 impl Release {
@@ -43,12 +46,14 @@ impl Release {
             let function = unsafe { dlsym(library, name.as_ptr()) };
             (!function.is_null()).then_some(function)
         };
-        // The header has declared the three so since the first release.
+        // The header has declared each so since it came in.
         unsafe {
+            let as_lists = |function| std::mem::transmute::<*mut c_void, Lists>(function);
             Some(Release {
                 find: std::mem::transmute::<*mut c_void, Find>(named("puvainy_find")?),
-                words: std::mem::transmute::<*mut c_void, Lists>(named("puvainy_words")?),
-                rename: std::mem::transmute::<*mut c_void, Lists>(named("puvainy_rename")?),
+                words: as_lists(named("puvainy_words")?),
+                rename: as_lists(named("puvainy_rename")?),
+                check: named("puvainy_check").map(as_lists),
             })
         }
     }
@@ -65,6 +70,10 @@ impl Release {
                 Entry::Find => (self.find)(text, length, out, PROGRAM_ROOM, numbers, slots * SLOT),
                 Entry::Words => (self.words)(text, length, out, PROGRAM_ROOM),
                 Entry::Rename => (self.rename)(text, length, out, PROGRAM_ROOM),
+                Entry::Check => {
+                    let check = self.check.expect("the release has it");
+                    check(text, length, out, PROGRAM_ROOM)
+                }
             }
         }
     }
@@ -105,6 +114,11 @@ pub fn rows(before: Option<&str>, now: Option<&str>, workspace: &mut Workspace) 
     ] {
         one(what, entry, &job.text(), 0, 100, releases, workspace);
     }
+    if releases.iter().all(|release| release.check.is_some()) {
+        let text = check::derivation(&check::REGROUPED, workspace);
+        let what = "CHECK, 16 lines on terms of 31 nodes";
+        one(what, Entry::Check, &text, 0, 100, releases, workspace);
+    }
 }
 
 fn loaded(file: &str) -> Release {
@@ -113,7 +127,7 @@ fn loaded(file: &str) -> Release {
         exit(2);
     });
     Release::load(&path).unwrap_or_else(|| {
-        eprintln!("bench: {file} cannot be loaded as a shared library with the three entries");
+        eprintln!("bench: {file} cannot be loaded as a shared library with find, words and rename");
         exit(2);
     })
 }

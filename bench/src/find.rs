@@ -2,8 +2,8 @@
 
 use std::hint::black_box;
 
-use oracle::{Call, Entry, PROGRAM_ROOM, PROGRAM_SLOTS, checked, plain};
-use puvainy::MOST_SLOTS;
+use oracle::{Call, PROGRAM_ROOM, PROGRAM_SLOTS, checked, plain};
+use puvainy::{Entry, MOST_SLOTS};
 use upstream::search_bounded_rewrite;
 
 use crate::job::Job;
@@ -120,7 +120,7 @@ pub fn rows(workspace: &mut Workspace) {
 /// Compares our answer with the oracle's, and says what it is and how many terms are noted.
 fn compare(text: &[u8], slots: usize, workspace: &mut Workspace) -> String {
     let call = Call {
-        entry: Entry::Find,
+        entry: oracle::Entry::Find,
         slots,
         room: PROGRAM_ROOM,
         job: text.to_vec(),
@@ -128,7 +128,7 @@ fn compare(text: &[u8], slots: usize, workspace: &mut Workspace) -> String {
     let due = checked::answer(&call).unwrap_or_else(|difference| panic!("{difference}"));
     let given = workspace.answer(Entry::Find, text, slots, PROGRAM_ROOM);
     assert_eq!(given, due, "{}", String::from_utf8_lossy(text));
-    let (_, noted) = plain::whole(Entry::Find, text).expect("the job is accepted");
+    let (_, noted) = plain::whole(oracle::Entry::Find, text).expect("the job is accepted");
     format!("{noted} noted")
 }
 

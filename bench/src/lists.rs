@@ -2,7 +2,8 @@
 
 use std::hint::black_box;
 
-use oracle::{Call, Entry, PROGRAM_ROOM, checked};
+use oracle::{Call, PROGRAM_ROOM, checked};
+use puvainy::Entry;
 
 use crate::job::Job;
 use crate::ours::Workspace;
@@ -66,7 +67,7 @@ fn rename(name: &str, job: &Job, workspace: &mut Workspace) {
 
 fn compare(entry: Entry, text: &[u8], workspace: &mut Workspace) {
     let call = Call {
-        entry,
+        entry: oracle::Entry::named(entry.name()).expect("the oracle has it"),
         slots: 0,
         room: PROGRAM_ROOM,
         job: text.to_vec(),

@@ -1,9 +1,10 @@
-//! The three entries beside the Rust, in one process, on the same jobs. Each pair's answers are compared first.
+//! FIND, WORDS and RENAME beside the Rust, and CHECK beside FIND, in one process, on the same jobs. Each pair's answers are compared first.
 //!
-//! With an argument, one part alone: `find`, `many`, `lists`, `noted`, or `ours`, the search at the largest limits on our side, for a profiler.
+//! With an argument, one part alone: `find`, `many`, `lists`, `check`, `noted`, or `ours`, the search at the largest limits on our side, for a profiler.
 //! `beside BEFORE NOW` times the entries of two releases, each a shared library.
 
 mod beside;
+mod check;
 mod find;
 mod job;
 mod lists;
@@ -20,11 +21,13 @@ fn main() {
             find::rows(&mut workspace);
             many::rows(&mut workspace);
             lists::rows(&mut workspace);
+            check::rows(&mut workspace);
             noted::rows(&mut workspace);
         }
         Some("find") => find::rows(&mut workspace),
         Some("many") => many::rows(&mut workspace),
         Some("lists") => lists::rows(&mut workspace),
+        Some("check") => check::rows(&mut workspace),
         Some("noted") => noted::rows(&mut workspace),
         Some("ours") => find::ours_alone(&mut workspace),
         Some("beside") => {
@@ -33,7 +36,7 @@ fn main() {
         }
         Some(other) => {
             eprintln!(
-                "bench: no part is called {other}: find, many, lists, noted, ours or beside BEFORE NOW"
+                "bench: no part is called {other}: find, many, lists, check, noted, ours or beside BEFORE NOW"
             );
             std::process::exit(2);
         }

@@ -1,7 +1,6 @@
 //! FIND with sixteen right sides: one call beside sixteen calls with one each, and beside the dearest of these.
 
-use oracle::Entry;
-use puvainy::MOST_SLOTS;
+use puvainy::{Entry, MOST_SLOTS};
 
 use crate::find::{BALANCED, LARGEST, PROGRAM};
 use crate::ours::{ROOM, Workspace};

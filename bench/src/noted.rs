@@ -2,8 +2,8 @@
 
 use std::hint::black_box;
 
-use oracle::{Entry, PROGRAM_ROOM, plain};
-use puvainy::MOST_SLOTS;
+use oracle::{PROGRAM_ROOM, plain};
+use puvainy::{Entry, MOST_SLOTS};
 
 use crate::job::Job;
 use crate::ours::Workspace;
@@ -79,7 +79,7 @@ fn by_nodes(
         limits,
     };
     let text = job.text();
-    let (due, noted) = plain::whole(Entry::Find, &text).expect("the job is accepted");
+    let (due, noted) = plain::whole(oracle::Entry::Find, &text).expect("the job is accepted");
     let given = workspace.answer(Entry::Find, &text, MOST_SLOTS, PROGRAM_ROOM);
     assert_eq!(given, Ok(due), "{what}, {nodes} nodes");
     let call = || workspace.call(Entry::Find, black_box(&text), MOST_SLOTS, PROGRAM_ROOM);

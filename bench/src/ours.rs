@@ -1,7 +1,7 @@
-//! The three entries, called as a host calls them.
+//! The entries, called as a host calls them.
 
-use oracle::{Entry, Given};
-use puvainy::{ANSWER, MOST_SLOTS, SLOT, entries};
+use oracle::Given;
+use puvainy::{ANSWER, Entry, MOST_SLOTS, SLOT};
 
 /// Room for any answer of the bench.
 pub const ROOM: usize = 1 << 20;
@@ -21,18 +21,14 @@ impl Workspace {
     }
 
     /// One call with so many slots and bytes of room: what it returns.
-    pub fn call(&mut self, entry: Entry, job: &[u8], slots: usize, room: usize) -> usize {
-        let output = &mut self.output[..room];
-        match entry {
-            Entry::Find => entries::find(job, output, &mut self.numbers[..slots * SLOT]),
-            Entry::Words => entries::words(job, output),
-            Entry::Rename => entries::rename(job, output),
-        }
+    pub fn call(&mut self, entry: Entry, text: &[u8], slots: usize, room: usize) -> usize {
+        let (output, numbers) = (&mut self.output[..room], &mut self.numbers[..slots * SLOT]);
+        entry.call(text, output, numbers)
     }
 
     /// The answer of one call.
-    pub fn answer(&mut self, entry: Entry, job: &[u8], slots: usize, room: usize) -> Given {
-        match self.call(entry, job, slots, room) {
+    pub fn answer(&mut self, entry: Entry, text: &[u8], slots: usize, room: usize) -> Given {
+        match self.call(entry, text, slots, room) {
             refused @ 0..ANSWER => Err(refused as u8),
             told => Ok(self.output[..told - ANSWER].to_vec()),
         }

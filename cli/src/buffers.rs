@@ -70,6 +70,10 @@ mod tests {
     const CASE_A: &[u8] = include_bytes!("../../examples/case-a.job");
     const CASE_A_ANSWER: &[u8] = include_bytes!("../../examples/case-a.answer");
 
+    /// A derivation of three lines.
+    const DERIVATION: &[u8] = include_bytes!("../../docs/guide/archive.derivation");
+    const GOOD: &[u8] = b"answer=good\n";
+
     /// A search that notes more than 400 terms.
     const WIDE: &[u8] = include_bytes!("../../docs/guide/refused-7.job");
 
@@ -94,6 +98,8 @@ mod tests {
         assert_eq!(ask(Entry::Find), find);
         assert_eq!(ask(Entry::Words), words);
         assert_eq!(ask(Entry::Rename), rename);
+        assert_eq!(buffers.ask(Entry::Check, DERIVATION), Ok(GOOD));
+        assert_eq!(buffers.ask(Entry::Check, job), Err(1));
     }
 
     #[test]
@@ -144,6 +150,16 @@ mod tests {
     }
 
     #[test]
+    fn a_good_derivation_needs_twelve_bytes_and_no_slot() {
+        let ask = |bytes| {
+            let mut buffers = Buffers::new(0, Room::Bytes(bytes));
+            buffers.ask(Entry::Check, DERIVATION).map(<[u8]>::to_vec)
+        };
+        assert_eq!(ask(GOOD.len() - 1), Err(TOO_LONG));
+        assert_eq!(ask(GOOD.len()), Ok(GOOD.to_vec()));
+    }
+
+    #[test]
     fn few_slots_refuse_a_wide_search_by_7_and_more_answer_it() {
         let few = &mut Buffers::new(400, Room::Grows);
         assert_eq!(few.ask(Entry::Find, WIDE), Err(7));
@@ -154,8 +170,8 @@ mod tests {
 
     #[test]
     fn the_same_buffers_answer_the_same_after_other_calls() {
-        let jobs = [CASE_A, WIDE, LONG, b"left=v0\n"];
-        let calls = Entry::ALL.map(|entry| jobs.map(|job| (entry, job)));
+        let texts = [CASE_A, WIDE, LONG, DERIVATION, b"left=v0\n"];
+        let calls = Entry::ALL.map(|entry| texts.map(|text| (entry, text)));
         let calls = calls.as_flattened();
         let fresh = calls.iter().map(|&(entry, job)| {
             let mut buffers = Buffers::new(MOST_SLOTS, Room::Grows);
@@ -175,8 +191,12 @@ mod tests {
     fn buffers_of_no_length_are_lent_too() {
         let mut none = Buffers::new(0, Room::Bytes(0));
         for entry in Entry::ALL {
+            let text = match entry {
+                Entry::Find | Entry::Words | Entry::Rename => CASE_A,
+                Entry::Check => DERIVATION,
+            };
             assert_eq!(none.ask(entry, b""), Err(1));
-            assert_eq!(none.ask(entry, CASE_A), Err(TOO_LONG));
+            assert_eq!(none.ask(entry, text), Err(TOO_LONG));
         }
         assert_eq!(none.ask(Entry::Find, WIDE), Err(7));
     }

@@ -15,6 +15,8 @@ unsafe extern "C" {
     ) -> usize;
     fn puvainy_words(job: *const u8, job_len: usize, output: *mut u8, output_len: usize) -> usize;
     fn puvainy_rename(job: *const u8, job_len: usize, output: *mut u8, output_len: usize) -> usize;
+    fn puvainy_check(text: *const u8, text_len: usize, output: *mut u8, output_len: usize)
+    -> usize;
 }
 
 /// FIND: what the call returns, `ANSWER` plus the answer's length or the number of a refusal.
@@ -35,4 +37,10 @@ pub fn words(job: &[u8], output: &mut [u8]) -> usize {
 pub fn rename(job: &[u8], output: &mut [u8]) -> usize {
     // SAFETY: pointers and lengths are those of two slices.
     unsafe { puvainy_rename(job.as_ptr(), job.len(), output.as_mut_ptr(), output.len()) }
+}
+
+/// CHECK, likewise, of a derivation's text.
+pub fn check(text: &[u8], output: &mut [u8]) -> usize {
+    // SAFETY: pointers and lengths are those of two slices.
+    unsafe { puvainy_check(text.as_ptr(), text.len(), output.as_mut_ptr(), output.len()) }
 }

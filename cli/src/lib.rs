@@ -11,9 +11,10 @@ pub const SLOT: usize = 40;
 /// The most slots that are used.
 pub const MOST_SLOTS: usize = 65_535;
 
-/// The most bytes of a job, and of one of FIND.
+/// The most bytes of a job, of one of FIND, and of a derivation.
 pub const MOST_JOB: usize = 1024;
 pub const MOST_FIND_JOB: usize = 4096;
+pub const MOST_DERIVATION: usize = 8192;
 
 /// The most right sides of a job of FIND.
 pub const MOST_RIGHTS: usize = 16;
@@ -24,22 +25,24 @@ pub const MOST_ROOM: usize = 1 << 25;
 /// What an answer's length is added to in the number that an entry returns.
 pub const ANSWER: usize = 100;
 
-/// An entry that takes a job.
+/// An entry that takes a text: a job, or CHECK's derivation.
 #[derive(Clone, Copy, Debug, Eq, PartialEq)]
 pub enum Entry {
     Find,
     Words,
     Rename,
+    Check,
 }
 
 impl Entry {
-    pub const ALL: [Entry; 3] = [Entry::Find, Entry::Words, Entry::Rename];
+    pub const ALL: [Entry; 4] = [Entry::Find, Entry::Words, Entry::Rename, Entry::Check];
 
     pub fn name(self) -> &'static str {
         match self {
             Entry::Find => "find",
             Entry::Words => "words",
             Entry::Rename => "rename",
+            Entry::Check => "check",
         }
     }
 
@@ -47,19 +50,20 @@ impl Entry {
         Entry::ALL.into_iter().find(|entry| entry.name() == name)
     }
 
-    /// The most bytes of a job that the entry takes.
+    /// The most bytes of a text that the entry takes.
     pub fn most_job(self) -> usize {
         match self {
             Entry::Find => MOST_FIND_JOB,
             Entry::Words | Entry::Rename => MOST_JOB,
+            Entry::Check => MOST_DERIVATION,
         }
     }
 
-    /// The most right sides of such a job.
+    /// The most right sides of such a text.
     pub fn most_rights(self) -> usize {
         match self {
             Entry::Find => MOST_RIGHTS,
-            Entry::Words | Entry::Rename => 1,
+            Entry::Words | Entry::Rename | Entry::Check => 1,
         }
     }
 
@@ -69,6 +73,7 @@ impl Entry {
             Entry::Find => entries::find(job, output, workspace),
             Entry::Words => entries::words(job, output),
             Entry::Rename => entries::rename(job, output),
+            Entry::Check => entries::check(job, output),
         }
     }
 }
@@ -88,12 +93,23 @@ mod tests {
             ("MOST_SLOTS", MOST_SLOTS),
             ("MOST_JOB", MOST_JOB),
             ("MOST_FIND_JOB", MOST_FIND_JOB),
+            ("MOST_DERIVATION", MOST_DERIVATION),
             ("MOST_RIGHTS", MOST_RIGHTS),
             ("ANSWER", ANSWER),
         ];
         for (name, number) in numbers {
             let line = format!("\n#define PUVAINY_{name} {number}\n");
             assert!(header.contains(&line), "{name}");
+        }
+    }
+
+    #[test]
+    fn the_header_declares_every_entry_and_its_stack() {
+        let header = include_str!("../../include/puvainy.h");
+        for entry in Entry::ALL {
+            let (name, upper) = (entry.name(), entry.name().to_uppercase());
+            assert!(header.contains(&format!("\nsize_t puvainy_{name}(const uint8_t *")));
+            assert!(header.contains(&format!("\n#define PUVAINY_{upper}_STACK ")));
         }
     }
 

@@ -3,11 +3,14 @@
 mod args;
 mod ask;
 mod closed;
+mod derivation;
 mod failure;
 mod job;
+mod law;
 mod names;
 mod picture;
 mod refusals;
+mod side;
 mod streams;
 mod term;
 mod word;

@@ -3,6 +3,9 @@
 /// The most nodes of a side, and so of any term in a job or an answer.
 pub const MOST_NODES: usize = 31;
 
+/// The most different letters of two sides, or of all terms of a derivation.
+pub const MOST_LETTERS: usize = 6;
+
 /// A term: a letter, `0` or `1`, or a sign over two parts.
 #[derive(Clone, Debug, Eq, PartialEq)]
 pub enum Term<'a> {
@@ -29,6 +32,46 @@ impl<'a> Term<'a> {
             }
             item => is_atom(item).then_some(Term::Atom(item)),
         }
+    }
+
+    /// The term as it is written.
+    pub fn text(&self) -> String {
+        match self {
+            Term::Atom(item) => item.to_string(),
+            Term::Over(sign, parts) => format!("{sign} {} {}", parts[0].text(), parts[1].text()),
+        }
+    }
+
+    /// The term with another part where the turns lead to, if they do not lead out of it.
+    pub fn with(&self, turns: &str, part: Term<'a>) -> Option<Term<'a>> {
+        let Some(turn) = turns.get(..1) else {
+            return Some(part);
+        };
+        let Term::Over(sign, parts) = self else {
+            return None;
+        };
+        let mut parts = parts.clone();
+        let side = usize::from(turn == "r");
+        parts[side] = parts[side].with(&turns[1..], part)?;
+        Some(Term::Over(sign, parts))
+    }
+
+    /// The part to which the turns lead from the top, if they do not lead out of the term.
+    pub fn part(&self, turns: &str) -> Option<&Term<'a>> {
+        turns.bytes().try_fold(self, |part, turn| match part {
+            Term::Over(_, parts) => Some(&parts[usize::from(turn == b'r')]),
+            Term::Atom(_) => None,
+        })
+    }
+}
+
+/// The turns of a place as lines of a derivation write it, `l` or `r` each, of which the top, a dot, has none.
+pub fn turns(place: &str) -> Option<&str> {
+    let only_turns = !place.is_empty() && place.bytes().all(|turn| turn == b'l' || turn == b'r');
+    if place == "." {
+        Some("")
+    } else {
+        only_turns.then_some(place)
     }
 }
 
@@ -90,6 +133,28 @@ mod tests {
             "", "+ v0", "v0 + 0", "v0 ", "+  v0 v1", "v1000", "v01", "v", "2", "\u{e9}",
         ] {
             assert_eq!(Term::read(text), None, "{text}");
+        }
+    }
+
+    #[test]
+    fn a_part_is_found_and_replaced_by_its_place() {
+        let text = "+ * v0 1 v999";
+        let term = Term::read(text).unwrap();
+        assert_eq!(term.text(), text);
+        for (place, part, with) in [
+            (".", Some(text), Some("0")),
+            ("l", Some("* v0 1"), Some("+ 0 v999")),
+            ("lr", Some("1"), Some("+ * v0 0 v999")),
+            ("r", Some("v999"), Some("+ * v0 1 0")),
+            ("rl", None, None),
+        ] {
+            let turns = turns(place).unwrap();
+            assert_eq!(term.part(turns).map(Term::text).as_deref(), part);
+            let other = term.with(turns, Term::Atom("0"));
+            assert_eq!(other.map(|term| term.text()).as_deref(), with);
+        }
+        for place in ["", "..", ".l", "L", "l r"] {
+            assert_eq!(turns(place), None);
         }
     }
 

@@ -7,7 +7,7 @@ use super::blocks::Block;
 use crate::failure::{counted, joined};
 use crate::job::Job;
 use crate::names::Names;
-use crate::refusals::{self, Fault, Found};
+use crate::refusals::{self, Fault, Found, JOBS};
 
 /// What a none's last line says, and which limits to raise; the guide shows the same.
 const ADVICE: [(&str, &str, &[&str]); 2] = [
@@ -39,7 +39,7 @@ pub fn sentences(name: &str, job: &Job, blocks: &[Block], asking: &Asking) -> Ve
         said.extend(of_several(name, job, &rights, &told, &asking.names));
     }
     let refused = numbers(blocks, |block| block.is_refused());
-    let told = refusals::sentence(FULL, Some(too_few(Fault::SlotsRight, asking.slots)));
+    let told = refusals::sentence(&JOBS, FULL, Some(too_few(Fault::SlotsRight, asking.slots)));
     said.extend(of_several(name, job, &refused, &told, &asking.names));
     said
 }

@@ -1,4 +1,4 @@
-//! Jobs put to an entry, over all cores, and their answers printed in the order of the jobs.
+//! Jobs or derivations put to an entry, over all cores, and their answers printed in their order. Below here a derivation is a job too.
 
 mod advice;
 mod asker;
@@ -30,7 +30,13 @@ pub struct Asking {
 /// Asks all the jobs and prints what each gives. The status is the highest of any.
 pub fn ask(asking: Asking, jobs: Vec<Source>) -> Result<Status, Failure> {
     if jobs.contains(&Source::Input) && stdin().is_terminal() {
-        say("reading a job from the terminal; end it by Ctrl-D");
+        let what = match asking.entry {
+            Entry::Check => "derivation",
+            _ => "job",
+        };
+        say(&format!(
+            "reading a {what} from the terminal; end it by Ctrl-D"
+        ));
     }
     let printer = Printer::standard(&jobs)?;
     let asking = Arc::new(asking);

@@ -1,17 +1,13 @@
 //! Where a refused job is at fault. That it is refused, and by which number, is for the entry alone to say; this finds the line for people.
 
-mod side;
-
 use std::collections::BTreeSet;
 
 use puvainy::{Entry, MOST_RIGHTS};
 
 use crate::failure::counted;
 use crate::refusals::{Fault, Found};
-use crate::term::{is_letter, ranks};
-
-/// The most letters of two sides.
-const MOST_LETTERS: usize = 6;
+use crate::side;
+use crate::term::{MOST_LETTERS, is_letter, ranks};
 
 /// The lines behind the sides, in order: the limits with their bounds.
 const LIMITS: [(&str, usize); 4] = [("steps", 16), ("size", 31), ("depth", 15), ("nodes", 4096)];
@@ -129,8 +125,7 @@ impl<'a> Job<'a> {
         if self.bytes.len() > self.entry.most_job() {
             return whole(Fault::Long);
         }
-        let is_marked = MARKS.iter().any(|mark| self.bytes.starts_with(mark));
-        if is_marked || self.bytes.contains(&0) {
+        if is_foreign(self.bytes) {
             return whole(Fault::Mark);
         }
         let returned = self.lines.iter().position(|line| line.ends_with(b"\r\n"));
@@ -277,6 +272,11 @@ fn found(fault: Fault, place: String, sides: Vec<usize>) -> Found {
 /// A fault of that line; the first is 0.
 fn at(fault: Fault, line: usize) -> Found {
     found(fault, format!("line {}", line + 1), Vec::new())
+}
+
+/// Whether the text begins with such a mark or holds bytes 0, as other encodings do.
+pub fn is_foreign(bytes: &[u8]) -> bool {
+    MARKS.iter().any(|mark| bytes.starts_with(mark)) || bytes.contains(&0)
 }
 
 fn is_number(digits: &[u8]) -> bool {

@@ -3,9 +3,12 @@
 use puvainy::{Buffers, Room};
 
 use super::*;
-use crate::refusals::ROWS;
+use crate::refusals::JOBS as ROWS;
 
-/// A job that every entry accepts, and three that a small damage makes one of too many letters, of equal sides, or over a bound.
+/// The entries that take a job.
+const ENTRIES: [Entry; 3] = [Entry::Find, Entry::Words, Entry::Rename];
+
+/// A job that each of them accepts, and three that a small damage makes one of too many letters, of equal sides, or over a bound.
 const JOB: &str = "left=+ * v0 v1 0\nright=* v0 v1\nsteps=3\nsize=9\ndepth=4\nnodes=1000\n";
 const JOBS: [&str; 4] = [
     JOB,
@@ -20,7 +23,7 @@ const THREE: &str = "left=+ v1 0\nright=+ 0 v1\nright=* v0 v1\nright=+ * v0 v1 0
 /// A fault, what is put in the place of what in a job to make it, and where it is told.
 type Case = (Fault, &'static str, &'static str, &'static str);
 
-/// Of `JOB`, by every entry.
+/// Of `JOB`, by each of the entries.
 const FAULTS: [Case; 20] = [
     (Fault::Mark, "left", "\u{feff}left", "the whole text"),
     (Fault::Mark, "left", "l\0e\0f\0t\0", "the whole text"),
@@ -133,12 +136,12 @@ fn told(entry: Entry, job: &str) -> (Fault, String) {
 #[test]
 fn the_place_of_each_fault_is_told() {
     for (due, from, to, place) in FAULTS {
-        for entry in Entry::ALL {
+        for entry in ENTRIES {
             let job = JOB.replacen(from, to, 1);
             assert_eq!(told(entry, &job), (due, place.to_owned()));
         }
     }
-    for entry in Entry::ALL {
+    for entry in ENTRIES {
         let long = " ".repeat(entry.most_job() + 1);
         assert_eq!(
             told(entry, &long),
@@ -269,7 +272,7 @@ fn hold(entry: Entry, jobs: &[String], rounds: usize) -> [usize; 11] {
 #[test]
 fn the_fault_found_is_one_of_the_number_given() {
     let one = JOBS.map(str::to_owned);
-    for entry in Entry::ALL {
+    for entry in ENTRIES {
         let counts = hold(entry, &one, 40_000);
         let often = [0, 1, 2, 5].map(|number| counts[number]);
         assert!(often.into_iter().all(|count| count > 100), "{counts:?}");

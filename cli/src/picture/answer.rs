@@ -1,4 +1,4 @@
-//! An answer of FIND, read for what its picture shows of each block, or what keeps it from being drawn.
+//! An answer of FIND, or the text of a derivation, read for what its picture shows of each block, or what keeps it from being drawn.
 
 use puvainy::MOST_RIGHTS;
 
@@ -6,11 +6,14 @@ use super::derivation::{Derivation, quoted};
 use crate::names::text_of;
 use crate::term::Term;
 
-/// The most lines of a derivation.
+/// The most lines of a derivation in an answer.
 const MOST_LINES: usize = 16;
 
 /// What to do about an answer that is not as FIND prints it.
 const WHOLE: &str = "draw the whole answer as FIND printed it";
+
+/// What to do about the text of a derivation that is not as CHECK takes it.
+const CHECKED: &str = "ask puvainy check what is wrong";
 
 const SEVERAL: &str = "a second answer begins here, so the file holds several; \
     draw one at a time, each from a file of its own";
@@ -32,7 +35,9 @@ pub fn read(bytes: &[u8]) -> Result<Vec<Block<'_>>, String> {
     let text = text_of(bytes, "the answer")?;
     let found = Found::read(text)?;
     if let [only] = &found[..] {
-        only.check_proved()?;
+        if !only.is_text() {
+            only.check_proved()?;
+        }
         return Ok(vec![Block::Proved(only.derivation()?)]);
     }
     check_left(&found)?;
@@ -135,7 +140,7 @@ impl<'a> Found<'a> {
     }
 
     fn add_step(&mut self, number: usize, value: &'a str) -> Result<(), String> {
-        if self.lines.len() == MOST_LINES {
+        if self.answer.is_some() && self.lines.len() == MOST_LINES {
             let most = format!("a derivation has at most {MOST_LINES} lines");
             return Err(format!("{most}, and this is one more; {WHOLE}"));
         }
@@ -148,7 +153,8 @@ impl<'a> Found<'a> {
         match self.answer {
             Some((_, "none")) => {
                 let sides = [("left", self.left), ("right", self.right)];
-                let [left, right] = sides.map(|(key, found)| side(self.given(found, key)?, key));
+                let [left, right] =
+                    sides.map(|(key, found)| self.side(self.given(found, key)?, key));
                 Ok(Block::None([left?.0, right?.0]))
             }
             Some((_, "refused")) => {
@@ -182,23 +188,49 @@ impl<'a> Found<'a> {
         Err(format!("line {number}: the answer is {why}"))
     }
 
+    /// Whether it is the text of a derivation: step lines, and no line that tells of an answer.
+    fn is_text(&self) -> bool {
+        let told = [self.answer, self.steps, self.number];
+        told.iter().all(Option::is_none) && !self.lines.is_empty()
+    }
+
+    /// What to do about it where it is not as it should be.
+    fn to_do(&self) -> &'static str {
+        if self.is_text() { CHECKED } else { WHOLE }
+    }
+
+    /// The number of the last line of the derivation.
+    fn last(&self) -> Result<usize, String> {
+        match self.lines.last() {
+            Some(&(last, _)) if self.is_text() => Ok(last),
+            _ => check_count(self.given(self.steps, "steps")?, &self.lines),
+        }
+    }
+
     fn derivation(&self) -> Result<Derivation<'a>, String> {
         let left = self.given(self.left, "left")?;
         let right = self.given(self.right, "right")?;
-        let last = check_count(self.given(self.steps, "steps")?, &self.lines)?;
-        let mut derivation = Derivation::from(side(left, "left")?);
-        side(right, "right")?;
+        let (last, to_do) = (self.last()?, self.to_do());
+        let mut derivation = Derivation::from(self.side(left, "left")?);
+        self.side(right, "right")?;
         for (number, value) in &self.lines {
             derivation
                 .add(value)
-                .map_err(|why| format!("line {number}: {why}; {WHOLE}"))?;
+                .map_err(|why| format!("line {number}: {why}; {to_do}"))?;
         }
         let [_, end] = derivation.ends();
         if end == right.1 {
             return Ok(derivation);
         }
         let other = format!("line {last}: the last line leads to another term than right");
-        Err(format!("{other}, which is in line {}; {WHOLE}", right.0))
+        Err(format!("{other}, which is in line {}; {to_do}", right.0))
+    }
+
+    /// That side's text and term.
+    fn side(&self, (number, text): At<'a>, key: &str) -> Result<(&'a str, Term<'a>), String> {
+        let no_term = || format!("line {number}: {key} is no term; {}", self.to_do());
+        let term = Term::read(text).ok_or_else(no_term)?;
+        Ok((text, term))
     }
 
     /// The line with that key, if it was found.
@@ -207,7 +239,7 @@ impl<'a> Found<'a> {
             Some((number, _)) if self.is_one_of_several => {
                 format!("line {number}: this block has no line {key}=; {WHOLE}")
             }
-            _ => format!("there is no line {key}=; {WHOLE}"),
+            _ => format!("there is no line {key}=; {}", self.to_do()),
         })
     }
 }
@@ -224,10 +256,4 @@ fn check_count(steps: At, lines: &[At]) -> Result<usize, String> {
             ))
         }
     }
-}
-
-fn side<'a>((number, text): At<'a>, key: &str) -> Result<(&'a str, Term<'a>), String> {
-    let term = Term::read(text);
-    term.map(|term| (text, term))
-        .ok_or_else(|| format!("line {number}: {key} is no term; {WHOLE}"))
 }

@@ -1,8 +1,8 @@
-//! A derivation as the lines of an answer tell it.
+//! A derivation as its lines tell it.
 
-use super::laws::{Direction, LAWS, Law};
 use crate::failure::brief;
-use crate::term::Term;
+use crate::law::{Direction, LAWS, Law};
+use crate::term::{Term, turns};
 
 /// A derivation: its terms, each with its text, and the lines from one to the next.
 #[derive(Debug)]
@@ -48,7 +48,7 @@ impl<'a> Derivation<'a> {
         let term = Term::read(after).ok_or("what stands behind to= is no term")?;
         let (_, before) = &self.terms[self.lines.len()];
         for (term, which) in [(before, "before"), (&term, "after")] {
-            if !reaches(term, line.place) {
+            if term.part(line.place).is_none() {
                 let place = quoted(place);
                 return Err(format!(
                     "the place {place} leads out of the term {which} it"
@@ -67,28 +67,6 @@ fn parts(value: &str) -> Option<(&str, &str, &str, &str)> {
     let (direction, rest) = rest.split_once(" at=")?;
     let (place, after) = rest.split_once(" to=")?;
     Some((law, direction, place, after))
-}
-
-/// The turns of a place, of which the top has none.
-fn turns(place: &str) -> Option<&str> {
-    let only_turns = !place.is_empty() && place.bytes().all(|turn| turn == b'l' || turn == b'r');
-    if place == "." {
-        Some("")
-    } else {
-        only_turns.then_some(place)
-    }
-}
-
-/// Whether the term has a part at the place.
-fn reaches(term: &Term, place: &str) -> bool {
-    let mut part = term;
-    for turn in place.bytes() {
-        let Term::Over(_, parts) = part else {
-            return false;
-        };
-        part = &parts[usize::from(turn == b'r')];
-    }
-    true
 }
 
 /// The text, fit to be shown in a sentence.

@@ -11,7 +11,6 @@ mod card;
 mod derivation;
 mod key;
 mod label;
-mod laws;
 mod page;
 mod part;
 mod path;

@@ -57,7 +57,7 @@ one such line.
 ";
 
 /// Reads the options and asks.
-fn run(word: &Word, entry: Entry, words: Vec<OsString>) -> Result<Status, Failure> {
+pub fn run(word: &Word, entry: Entry, words: Vec<OsString>) -> Result<Status, Failure> {
     let mut asking = Asking {
         entry,
         slots: MOST_SLOTS,
@@ -76,7 +76,9 @@ fn run(word: &Word, entry: Entry, words: Vec<OsString>) -> Result<Status, Failur
         };
         match option.as_str() {
             "--help" => return word.helps(&mut args),
-            "--slots" => asking.slots = args.number(&option, 0, MOST_SLOTS)?,
+            "--slots" if entry != Entry::Check => {
+                asking.slots = args.number(&option, 0, MOST_SLOTS)?
+            }
             "--room" => asking.room = Room::Bytes(args.number(&option, 0, MOST_ROOM)?),
             "--names" => names = Some(args.value(&option, "a file")?),
             _ => return Err(unknown(&option)),

@@ -1,5 +1,6 @@
 //! The words of the command, in one table: each later entry adds its row here.
 
+mod check;
 mod draw;
 mod jobs;
 
@@ -23,11 +24,17 @@ pub struct Word {
 /// Does what the words behind its name ask.
 type Run = fn(Vec<OsString>) -> Result<Status, Failure>;
 
-pub const WORDS: [&Word; 4] = [&jobs::FIND, &jobs::WORDS, &jobs::RENAME, &draw::DRAW];
+pub const WORDS: [&Word; 5] = [
+    &jobs::FIND,
+    &jobs::WORDS,
+    &jobs::RENAME,
+    &check::CHECK,
+    &draw::DRAW,
+];
 
 const STATUSES: &str = "\
-Exit status: 0 answered, 1 refused (of several jobs or blocks: any), 2 could not read or write, or a
-wrong call.
+Exit status: 0 answered, 1 refused (of several jobs, derivations or blocks: any), 2 could not read or
+write, or a wrong call.
 ";
 
 /// Does what the words ask.

@@ -27,6 +27,18 @@ fn the_guides_pictures_are_drawn_as_they_are_stored() {
 }
 
 #[test]
+fn a_derivation_as_check_takes_it_is_drawn() {
+    for name in ["archive", "dead-join"] {
+        let gave = puvainy(&["draw", &format!("{name}.derivation")]);
+        assert_eq!((gave.status, gave.said.as_str()), (Some(0), ""));
+        assert_eq!(gave.printed, stored(&format!("{name}.svg")), "{name}");
+    }
+    let wrong = "bad-law.derivation: line 4: `add_com` is none of the 10 laws; \
+                 ask puvainy check what is wrong";
+    refused(puvainy(&["draw", "bad-law.derivation"]), wrong);
+}
+
+#[test]
 fn each_block_of_an_answer_has_its_page() {
     let all = puvainy(&["draw", "drafts.answer"]);
     assert_eq!((all.status, all.said.as_str()), (Some(0), ""));

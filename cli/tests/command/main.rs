@@ -1,5 +1,6 @@
 //! The built command, called as people call it.
 
+mod checked;
 mod common;
 mod drawn;
 mod jobs;

@@ -86,9 +86,10 @@ fn what_cannot_be_read_is_2() {
 fn a_wrong_call_is_2() {
     failed(
         puvainy(&[]),
-        "what shall be done? Name one of find, words, rename, draw, or --help",
+        "what shall be done? Name one of find, words, rename, check, draw, or --help",
     );
-    let words = "there is no command \"fnd\": name one of find, words, rename, draw, or --help";
+    let words =
+        "there is no command \"fnd\": name one of find, words, rename, check, draw, or --help";
     failed(puvainy(&["fnd", "archive.job"]), words);
     let option = "there is no option --slot here; --help shows those there are";
     failed(puvainy(&["find", "--slot", "4", "archive.job"]), option);
@@ -111,6 +112,7 @@ fn an_output_that_is_closed_full_or_unread_is_2() {
     for call in [
         "find archive.job",
         "words archive.job",
+        "check archive.derivation",
         "draw archive.answer",
         "--help",
         "find -h",
@@ -170,7 +172,7 @@ fn a_closed_standard_error_changes_no_answer() {
 fn help_and_version_are_0() {
     let whole = puvainy(&["--help"]);
     assert_eq!((whole.status, whole.said.as_str()), (Some(0), ""));
-    for word in ["find", "words", "rename", "draw"] {
+    for word in ["find", "words", "rename", "check", "draw"] {
         assert!(
             whole.printed.contains(&format!("\n  puvainy {word} [")),
             "{}",

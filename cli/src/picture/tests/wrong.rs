@@ -148,6 +148,46 @@ fn an_answer_that_is_not_whole_is_told() {
     assert_eq!(told(more.as_bytes()), format!("line 23: {most}{WHOLE}"));
 }
 
+/// The text of a derivation, as CHECK takes it, is drawn as the answer with the same lines; what is wrong with it is for CHECK to say.
+#[test]
+fn a_derivation_without_the_other_lines_is_drawn_too() {
+    let right = right();
+    let is_kept = |line: &&str| {
+        let key = line.split('=').next();
+        matches!(key, Some("left" | "right" | "step"))
+    };
+    let lines = right.lines().filter(is_kept);
+    let text: String = lines.map(|line| format!("{line}\n")).collect();
+    let drawn = |text: &str| draw("name", text.as_bytes(), &Names::default(), None);
+    assert_eq!(drawn(&text), drawn(&right));
+    let with = |piece: &str, other: &str| drawn(&text.replacen(piece, other, 1)).unwrap_err();
+    let ask = "; ask puvainy check what is wrong";
+    for (piece, other, why) in [
+        ("left=+", "left=", "line 1: left is no term"),
+        ("left=+ v0 * v1 v2\n", "", "there is no line left="),
+        (
+            "add_comm",
+            "add_com",
+            "line 3: `add_com` is none of the 10 laws",
+        ),
+        (
+            "right=+",
+            "right=*",
+            "line 5: the last line leads to another term than right, which is in line 2",
+        ),
+    ] {
+        assert_eq!(with(piece, other), format!("{why}{ask}"));
+    }
+    let sides = &text[..text.find("step=").unwrap()];
+    assert_eq!(
+        drawn(sides).unwrap_err(),
+        format!("there is no line answer=proved{WHOLE}")
+    );
+    let step = "step=add_comm forward at=. to=+ v0 v0\n";
+    let long = format!("left=+ v0 v0\nright=+ v0 v0\n{}", step.repeat(200));
+    assert!(drawn(&long).unwrap().contains("a derivation of 200 lines"));
+}
+
 #[test]
 fn lines_that_are_not_known_are_passed_over() {
     let known = draw("name", right().as_bytes(), &Names::default(), None);

@@ -1,69 +1,11 @@
-//! What is said of a refusal: one table, which the guide shows too.
+//! The table of jobs.
 
-/// What is wrong with a refused job.
-#[derive(Clone, Copy, Debug, Eq, PartialEq)]
-pub enum Fault {
-    Long,
-    Mark,
-    Windows,
-    Missing,
-    Key,
-    Second,
-    Stray,
-    End,
-    More,
-    Digits,
-    Rights,
-    Return,
-    Empty,
-    Space,
-    Item,
-    Part,
-    Left,
-    Nodes,
-    NodesRight,
-    Letters,
-    LettersRight,
-    Bound,
-    Same,
-    SameRight,
-    Before,
-    Slots,
-    SlotsRight,
-    Room,
-    RoomRights,
-}
-
-/// A fault, and in words where it is.
-#[derive(Debug, Eq, PartialEq)]
-pub struct Found {
-    pub fault: Fault,
-    pub place: String,
-    /// The sides that it is in, if any: 0 is left, K right side K.
-    pub sides: Vec<usize>,
-}
-
-/// A row of the table, in which the numbers stand in the order in which they are looked at. Back quotes are for the guide.
-pub struct Row {
-    pub number: usize,
-    pub fault: Fault,
-    pub wrong: &'static str,
-    pub to_do: &'static str,
-}
-
-const fn row(number: usize, fault: Fault, wrong: &'static str, to_do: &'static str) -> Row {
-    Row {
-        number,
-        fault,
-        wrong,
-        to_do,
-    }
-}
+use super::{Fault, ITEM, LEFT, PART, Row, SPACE, row};
 
 const SHARED: &str = "give a part that all plans of the job share a letter of its own";
 const SHARED_ALONE: &str = "ask for such a one in a job of its own, and there give a part that both plans share a letter of its own";
 
-pub const ROWS: [Row; 29] = [
+pub const JOBS: [Row; 29] = [
     row(
         1,
         Fault::Long,
@@ -137,30 +79,10 @@ pub const ROWS: [Row; 29] = [
         "save with Unix line ends",
     ),
     row(2, Fault::Empty, "the side is empty", "write a term"),
-    row(
-        2,
-        Fault::Space,
-        "an item is expected here, and there is none",
-        "put one space between items, none at the ends",
-    ),
-    row(
-        2,
-        Fault::Item,
-        "the item is none of `+`, `*`, `0`, `1`, `v0` to `v999`",
-        "write each item so, and one space between items",
-    ),
-    row(
-        2,
-        Fault::Part,
-        "a sign lacks a part",
-        "count the parts: each sign has two",
-    ),
-    row(
-        2,
-        Fault::Left,
-        "the term is whole before this item",
-        "put each sign before its two parts",
-    ),
+    SPACE,
+    ITEM,
+    PART,
+    LEFT,
     row(3, Fault::Nodes, "the side has over 31 nodes", SHARED),
     row(
         3,
@@ -229,46 +151,3 @@ pub const ROWS: [Row; 29] = [
         "give more room; or ask for fewer right sides at a time",
     ),
 ];
-
-/// What is wrong, where, what to do: a sentence without its full stop. Where the fault is not found, the number's first row is told.
-pub fn sentence(number: usize, found: Option<Found>) -> String {
-    let fits = |row: &&Row| match &found {
-        Some(found) => row.fault == found.fault,
-        None => row.number == number,
-    };
-    let Some(Row { wrong, to_do, .. }) = ROWS.iter().find(fits) else {
-        return format!("this command knows nothing of refusal {number}; see the guide");
-    };
-    let place = found.map_or_else(String::new, |found| format!("{}: ", found.place));
-    format!("{place}{wrong}; {to_do} (refusal {number})").replace('`', "")
-}
-
-#[cfg(test)]
-mod tests {
-    use super::*;
-
-    #[test]
-    fn the_guide_shows_the_table() {
-        let guide = include_str!("../../docs/guide.md");
-        let mut sections = guide.split("\n## ");
-        let section = sections
-            .find(|text| text.starts_with("Refusals\n"))
-            .unwrap();
-        let shown = section
-            .lines()
-            .filter(|line| line.starts_with("| "))
-            .skip(1);
-        let shown: Vec<Vec<&str>> = shown.map(|line| line.split(" | ").collect()).collect();
-        assert_eq!(shown.len(), ROWS.len());
-        for (cells, row) in shown.iter().zip(&ROWS) {
-            assert_eq!(cells[0], format!("| {}", row.number));
-            assert_eq!(cells[1], row.wrong);
-            assert_eq!(cells[3], format!("{} |", row.to_do));
-        }
-    }
-
-    #[test]
-    fn a_number_without_a_row_is_told_as_such() {
-        assert!(sentence(99, None).starts_with("this command knows nothing of refusal 99"));
-    }
-}

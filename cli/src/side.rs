@@ -1,4 +1,4 @@
-//! What is wrong with one side of a job.
+//! What is wrong with one side of a job, or with one term of a derivation.
 
 use crate::failure::brief;
 use crate::refusals::Fault;
