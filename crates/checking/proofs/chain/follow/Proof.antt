@@ -79,7 +79,7 @@ slice-aggregate-position-of c =
 position-of-requires : tie.Need-position-of-requires
 position-of-requires c κs =
     let w = line (c .before .before .before .before .before .before .before .before .before) .stands in
-    (w .place-starts, omega (arith, w .place-ends))
+    (omega (arith, w .place-starts), omega (arith, w .place-starts, w .place-ends))
 
 enum-known-k : tie.Need-enum-known-k
 enum-known-k c = search needs

@@ -26,10 +26,7 @@ same-length-3 : tie.Need-same-length-3
 same-length-3 c = search needs
 
 returns-3 : tie.Need-returns-3
-returns-3 c =
-    let l = c .before .before .before in
-    let f = l .before .before .before .before .before .before in
-    not-led (f .few-letters .ensures .0) (l .before .before .before .if1 .left) (l .before .before .if2 .left) (l .leads .ensures) (c .if3 .taken)
+returns-3 c = search (not-led, needs)
 
 same-length-4 : tie.Need-same-length-4
 same-length-4 c = search needs

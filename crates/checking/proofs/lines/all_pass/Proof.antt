@@ -55,7 +55,7 @@ passes-requires : tie.Need-passes-requires Inv-loop μ-loop
 passes-requires c κs =
     let n = line (c .before) .stands in
     let l = c .before .before .before .before .before .before in
-    (n .result-starts, n .result-ends, omega (arith, l .loop .inv .1, l .before .before .before .pre .1))
+    (omega (arith, n .result-starts, n .place-starts), omega (arith, n .result-ends, n .place-ends), omega (arith, l .loop .inv .1, l .before .before .before .pre .1))
 
 same-length-2 : tie.Need-same-length-2 Inv-loop μ-loop
 same-length-2 c = search needs
