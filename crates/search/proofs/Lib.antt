@@ -38,5 +38,6 @@ pub mod InTurn
 pub mod Taking
 pub mod Standing
 pub mod Searching
+pub mod Cutting
 pub mod RunLine
 pub mod Using

@@ -1,7 +1,7 @@
 -- What the search answers, with the noted terms in a workspace.
 use Prim.Native.Nat.{ℕ, _+_, _≤_, _<_}
 use mathlib.Core.Path.{_≡_}
-use mathlib.Core.Bool.{true, false}
+use mathlib.Core.Bool.{Bool, true, false}
 use mathlib.Core.List.{List, [], _∷_, _++_}
 use lib.Dec.{ltb}
 use lib.ListN.{length, take, getD}
@@ -15,6 +15,7 @@ use Rattle.search.specs.Search.{Noted, terms, entry}
 use Rattle.search.specs.Explore.{start}
 use Rattle.search.specs.Serve as serve
 use Rattle.search.specs.Serve.{Served, stopped, serve-on}
+use Rattle.search.specs.Cut.{cut}
 use Rattle.search.specs.Runs.{term-at, Spells, HeldRuns}
 use Rattle.search.specs.Slots.{noted-at, Slots}
 pub use Rattle.search.specs.Index.{slots-of}
@@ -100,3 +101,8 @@ pub record Searches (laws : List Law) (left rights : List ℕ) (m : Limits) (ws 
   pub kept : length replies′ ≡ length replies
   pub exact : (s : Term) (ts : List Term) → IsRun left s → size s ≤ 31 → HeldRuns rights ts → length ts ≡ length replies → (s ∈ ts → ⊥) → m .size ≤ 31
       → Answers laws (limits-of m) (slots-of (length ws)) s ts ws′ replies′ r
+
+-- of `is_cut`
+pub record Cuts (ws : List ℕ) (r : Ended) (m : Limits) (b : Bool) : Type 0 where
+  pub exact : (laws : List Law) (slots : ℕ) (s : Term) (ts : List Term) → slots ≤ slots-of (length ws)
+      → Ends r ws (serve.serve laws (limits-of m) slots s ts) → r .stop ≡ Over → b ≡ cut laws (limits-of m) s

@@ -4,7 +4,7 @@ ghost use lib.ListN.{length};
 ghost use Rattle.search.specs.Law.{semiring};
 ghost use Rattle.search.specs.Index.{SLOT};
 ghost use Rattle.search.specs.Resulted.{most-nodes};
-ghost use Rattle.search.specs.Searched.{Opens, Takes, Explores, Begins, Searches};
+ghost use Rattle.search.specs.Searched.{Opens, Takes, Explores, Begins, Searches, Cuts};
 use crate::index;
 use crate::replies;
 use crate::results;
@@ -258,4 +258,20 @@ pub fn search_bounded_rewrite(
         };
     }
     explore_from(left, rights, replies, waiting, limits, ws)
+}
+
+// Whether a search that is over was cut: a noted term at a distance below steps was left unopened. Of those that wait, the next to open
+// is the nearest. No search notes a term past the slots.
+pub fn is_cut(ws: &[u32], ended: Ended, limits: Limits) -> bool
+    ensures { λ r. ⌜ Cuts (now (ws .entry)) ended limits r ⌝ }
+{
+    if ended.noted <= ended.opened {
+        return false;
+    }
+    if index::slots_of(ws.len()) <= ended.opened {
+        return false;
+    }
+    let next = ended.opened as u32;
+    let distance = slots::value_of(ws, next);
+    distance < limits.steps
 }

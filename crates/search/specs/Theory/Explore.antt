@@ -8,14 +8,13 @@ use mathlib.Core.List.{List, [], _∷_, _++_}
 use lib.ListN.{length, drop, length-append}
 use lib.Seq.{drop-append-seam}
 use lib.Dec.{ltb}
-use Rattle.terms.specs.Lists.{_∈_, here, not-in-nil, cons-cases, append-cases, only-one, Distinct, none, more}
+use Rattle.terms.specs.Lists.{_∈_, not-in-nil, append-cases, only-one, Distinct}
 use Rattle.terms.specs.Term.{Term}
 use Rattle.terms.specs.Theory.Reflects.{Reflects, leb-reflects}
 use Rattle.search.specs.Line.{Line}
-use Rattle.search.specs.Path.{end}
 use Rattle.search.specs.Search.{Noted, is-noted, entry}
 use Rattle.search.specs.Theory.Grows.{terms, Knows, is-noted-reflects, Grows, grows-none, grows-skip, grows-add}
-use Rattle.search.specs.Theory.Frontier.{distance, Tries, State, regrouped, opens}
+use Rattle.search.specs.Theory.Frontier.{distance, nearest, Tries, State, starts, regrouped, opens}
 use Rattle.search.specs.Explore.{start, grow, Explored, at-end, explore}
 use Rattle.search.specs.Theory.Stands.{Begins, begins-self, begins-trans}
 
@@ -93,10 +92,6 @@ module _ {Ok : Term → Line → Type 0} {next : Term → List Line} (tries : Tr
     grows : Grows (x .trail) (next (x .term)) (done ++ (x ∷ rest)) (grow (x .trail) (next (x .term)) (done ++ (x ∷ rest)))
     grows = grow-grows (x .trail) (next (x .term)) (done ++ (x ∷ rest))
 
-    -- the first that waits is the nearest
-    first : (z : Noted) → z ∈ x ∷ rest → distance x ≤ distance z
-    first z m = ⊎-elim (λ (p : z ≡ x). rw p (omega arith)) (λ n. (state .queue .0 z n) .0) (cons-cases m)
-
     ends-cases : (f : ℕ) → ((x : Noted) → x ∈ done → distance x < steps) → suc f + length done ≡ nodes
         → (((z : Noted) → z ∈ done ++ (x ∷ []) → distance z < steps)
         → Ends Ok steps nodes left (explore next steps f (length (done ++ (x ∷ []))) ((done ++ (x ∷ [])) ++ (rest ++ grows .new))))
@@ -115,7 +110,7 @@ module _ {Ok : Term → Line → Type 0} {next : Term → List Line} (tries : Tr
             let long : length (done ++ (x ∷ [])) ≡ suc (length done) = rw (length-append done) (omega arith) in
             subst₂ (λ i l. Ends Ok steps nodes left (explore next steps f i l)) long (sym (regrouped tries state grows))
             (on (λ z m. ⊎-elim (below z) (λ n. let p : z ≡ x = only-one n in rw p near) (append-cases done m)))
-        go false far = here-ends done (x ∷ rest) state below (omega arith) (inr (λ z m. let h = first z m in omega arith))
+        go false far = here-ends done (x ∷ rest) state below (omega arith) (inr (λ z m. let h = nearest (state .queue) z m in omega arith))
 
   ends-from : (f : ℕ) (done waiting : List Noted) → State Ok left done waiting → ((x : Noted) → x ∈ done → distance x < steps) → f + length done ≡ nodes
       → Ends Ok steps nodes left (explore next steps f (length done) (done ++ waiting))
@@ -130,19 +125,8 @@ module _ {Ok : Term → Line → Type 0} {next : Term → List Line} (tries : Tr
       let long : length (done ++ (x ∷ [])) ≡ suc (length done) = rw (length-append done) (omega arith) in
       ends-from f (done ++ (x ∷ [])) (rest ++ g .new) (opens tries state g) more-below (omega arith))
 
-  begins : State Ok left [] (start left)
-  begins =
-      record {
-        trail = λ x m. rw (only-one m) end;
-        distinct = more not-in-nil none;
-        start = (_, here refl, refl, omega arith);
-        closed = λ x m. absurd (not-in-nil m);
-        behind = λ x y m. absurd (not-in-nil m);
-        queue = (λ y m. absurd (not-in-nil m), tt);
-      }
-
   pub explore-ends : Ends Ok steps nodes left (explore next steps nodes 0 (start left))
-  explore-ends = ends-from nodes [] (start left) begins (λ x m. absurd (not-in-nil m)) (omega arith)
+  explore-ends = ends-from nodes [] (start left) (starts left) (λ x m. absurd (not-in-nil m)) (omega arith)
 
 -- any search tries the lines that it tries
 pub tries-all : (next : Term → List Line) → Tries (λ t x. x ∈ next t) next

@@ -285,6 +285,10 @@ served ws m slots left rights right i differ no-direct =
     (search.search ws m left right) (explore-distinct (results ws m) (m .steps) (m .nodes) left) (search-explored ws m left right .looked-up no-direct)
     (serve-serves ws m slots left rights)
 
+-- no more terms are noted than there are slots
+pub serve-few : (ws : List Law) (m : Limits) (slots : ℕ) (left : Term) (rights : List Term) → length (serve ws m slots left rights .noted) ≤ slots
+serve-few ws m slots left rights = serve-serves ws m slots left rights .few
+
 -- a search that is over is the whole search without a right side
 pub serve-over : (ws : List Law) (m : Limits) (slots : ℕ) (left : Term) (rights : List Term) → serve ws m slots left rights .stop ≡ over
     → (explored ws m left .noted ≡ serve ws m slots left rights .noted) × (explored ws m left .opened ≡ serve ws m slots left rights .opened)
