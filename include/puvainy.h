@@ -130,7 +130,10 @@ extern "C" {
 #define PUVAINY_CHECK_STACK 40000
 
 /* A shortest chain of lines from the smaller side to the larger, with its proof text, or that there
- * is none within the limits; of several right sides this for each. */
+ * is none within the limits; of several right sides this for each. A none ends with the line `cut=yes`
+ * where nodes ran out with a term still to open: nothing is settled. More nodes lead on, with slots enough
+ * for the terms that come up; with too few it is refused by 7. A none ends with `cut=no` where every term
+ * that steps, size and depth allow was opened: more nodes change nothing. */
 size_t puvainy_find(const uint8_t *job, size_t job_len,
                     uint8_t *output, size_t output_len,
                     uint32_t *workspace, size_t workspace_len);

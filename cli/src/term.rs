@@ -42,6 +42,22 @@ impl<'a> Term<'a> {
         }
     }
 
+    /// How many nodes it has.
+    pub fn size(&self) -> usize {
+        match self {
+            Term::Atom(_) => 1,
+            Term::Over(_, parts) => 1 + parts[0].size() + parts[1].size(),
+        }
+    }
+
+    /// How many signs stand above its deepest item.
+    pub fn depth(&self) -> usize {
+        match self {
+            Term::Atom(_) => 0,
+            Term::Over(_, parts) => 1 + parts[0].depth().max(parts[1].depth()),
+        }
+    }
+
     /// The term with another part where the turns lead to, if they do not lead out of it.
     pub fn with(&self, turns: &str, part: Term<'a>) -> Option<Term<'a>> {
         let Some(turn) = turns.get(..1) else {
@@ -133,6 +149,23 @@ mod tests {
             "", "+ v0", "v0 + 0", "v0 ", "+  v0 v1", "v1000", "v01", "v", "2", "\u{e9}",
         ] {
             assert_eq!(Term::read(text), None, "{text}");
+        }
+    }
+
+    /// As the guide's table shows them.
+    #[test]
+    fn nodes_and_signs_above_an_item_are_counted() {
+        let guide = include_str!("../../docs/guide.md");
+        let rows = guide
+            .lines()
+            .skip_while(|line| !line.ends_with(" Nodes | Depth |"));
+        let rows: Vec<_> = rows.skip(2).take_while(|line| !line.is_empty()).collect();
+        assert!(rows.len() > 3);
+        for row in rows {
+            let cells: Vec<_> = row.trim_matches('|').split('|').map(str::trim).collect();
+            let term = Term::read(cells[0].trim_matches('`')).unwrap();
+            let counts = [term.size(), term.depth()].map(|count| count.to_string());
+            assert_eq!(counts[..], cells[2..], "{row}");
         }
     }
 

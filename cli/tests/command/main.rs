@@ -4,5 +4,6 @@ mod checked;
 mod common;
 mod drawn;
 mod jobs;
+mod nones;
 mod several;
 mod status;

@@ -62,7 +62,7 @@ fn a_none_among_blocks_is_0_and_its_right_side_is_told() {
         (gave.status, gave.printed),
         (Some(0), stored("drafts.answer"))
     );
-    let said = "puvainy: drafts.job: right 3: none: the search ended by itself; raise steps, size or depth, \
+    let said = "puvainy: drafts.job: right 3: none: nothing was left to open; raise steps, size or depth, \
                 or ask puvainy words, one right side to a job, whether the plans are equal at all\n\
                 puvainy: left: Archive + (Orders * (South stock + North stock))\n\
                 puvainy: right 3: Archive + ((South stock + North stock) * Orders)\n";

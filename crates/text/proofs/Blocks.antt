@@ -123,7 +123,7 @@ module _ {left right ws : List ℕ} {k slots : ℕ} {j : Job} (S : Sides left ri
 
 -- ---- one that is not noted
 
-module _ {left right : List ℕ} {ended : Ended} {nodes slots : ℕ} {j : Job} (S : Sides left right j) (U : Unmet ended nodes slots j) where
+module _ {left right : List ℕ} {ended : Ended} {cut : Bool} {slots : ℕ} {j : Job} (S : Sides left right j) (U : Unmet ended cut slots j) where
   abbrev whole : serve.Served
   whole = one-search slots j (U .others)
 
@@ -150,7 +150,7 @@ module _ {left right : List ℕ} {ended : Ended} {nodes slots : ℕ} {j : Job} (
 
 -- ---- by the number of a right side
 
-module _ {left right ws : List ℕ} {reply nodes slots : ℕ} {ended : Ended} {j : Job} (K : Known left right reply ended nodes ws slots j) where
+module _ {left right ws : List ℕ} {reply slots : ℕ} {ended : Ended} {cut : Bool} {j : Job} (K : Known left right reply ended cut ws slots j) where
   abbrev found : List Noted
   found = one-search slots j (K .others) .noted
 
@@ -175,17 +175,17 @@ module _ {left right ws : List ℕ} {reply nodes slots : ℕ} {ended : Ended} {j
         is = sym (noted-term found k) ∙ r .2;
       }
 
-  pub known-unmet : reply-of reply ≡ Unnoted → Unmet ended nodes slots j
+  pub known-unmet : reply-of reply ≡ Unnoted → Unmet ended cut slots j
   known-unmet e =
       let r : Replied semiring (j .left) (j .right) (terms found) Unnoted = rw e at (K .replied) in
-      record { others = K .others; among = K .among; ws = ws; ends = K .ends; indirect = r .0; missing = r .1; limit = K .limit }
+      record { others = K .others; among = K .among; ws = ws; ends = K .ends; indirect = r .0; missing = r .1; cut-is = K .cut-is }
 
 -- what the job alone is answered, by whether it runs out
 abbrev pub Alone : Bool → ℕ → Job → Type 0
 Alone true slots j = alone slots j ≡ refused 7
 Alone false slots j = alone slots j ≡ accepted (block slots j)
 
-known-alone : {left right ws : List ℕ} (reply : ℕ) {nodes slots : ℕ} {ended : Ended} {j : Job} → Known left right reply ended nodes ws slots j
+known-alone : {left right ws : List ℕ} (reply : ℕ) {slots : ℕ} {ended : Ended} {cut : Bool} {j : Job} → Known left right reply ended cut ws slots j
     → Alone (runs-out reply ended) slots j
 known-alone reply {slots = slots} {ended} {j} K = go (reply-of reply) refl
   where
@@ -202,27 +202,27 @@ known-alone reply {slots = slots} {ended} {j} K = go (reply-of reply) refl
 -- ---- all right sides, one after the other
 
 -- what putting the block of a right side promises
-abbrev PutsBlock : (left right : List ℕ) (reply : ℕ) (ended : Ended) (nodes : ℕ) (ws o : List ℕ) (a b : ℕ) (o₁ : List ℕ) → Type 0
-PutsBlock left right reply ended nodes ws o a b o₁ =
-    (j : Job) (slots : ℕ) → Known left right reply ended nodes ws slots j → Put (block slots j) o a b o₁
+abbrev PutsBlock : (left right : List ℕ) (reply : ℕ) (ended : Ended) (cut : Bool) (ws o : List ℕ) (a b : ℕ) (o₁ : List ℕ) → Type 0
+PutsBlock left right reply ended cut ws o a b o₁ =
+    (j : Job) (slots : ℕ) → Known left right reply ended cut ws slots j → Put (block slots j) o a b o₁
 
 -- the blocks of the first i right sides are put
-abbrev pub PutsBlocks : (left rights replies : List ℕ) (ended : Ended) (nodes : ℕ) (ws : List ℕ) (i : ℕ) (o : List ℕ) (a b : ℕ) (o₁ : List ℕ) → Type 0
-PutsBlocks left rights replies ended nodes ws i o a b o₁ =
-    (s : Term) (ts : List Term) (m : line.Limits) (slots : ℕ) → AllKnown left rights replies ended nodes ws slots s ts m
+abbrev pub PutsBlocks : (left rights replies : List ℕ) (ended : Ended) (cut : Bool) (ws : List ℕ) (i : ℕ) (o : List ℕ) (a b : ℕ) (o₁ : List ℕ) → Type 0
+PutsBlocks left rights replies ended cut ws i o a b o₁ =
+    (s : Term) (ts : List Term) (m : line.Limits) (slots : ℕ) → AllKnown left rights replies ended cut ws slots s ts m
     → Put (flatMap (block slots) (take i (jobs-of s ts m))) o a b o₁
 
-module _ (left rights replies : List ℕ) (ended : Ended) (nodes : ℕ) (ws : List ℕ) where
-  pub blocks-start : (o : List ℕ) (a : ℕ) → length o < top → a ≤ top → PutsBlocks left rights replies ended nodes ws 0 o a a o
+module _ (left rights replies : List ℕ) (ended : Ended) (cut : Bool) (ws : List ℕ) where
+  pub blocks-start : (o : List ℕ) (a : ℕ) → length o < top → a ≤ top → PutsBlocks left rights replies ended cut ws 0 o a a o
   unfolding flatMap
   blocks-start o a h k s ts m slots A = put-none o a h k
 
-  module _ {s : Term} {ts : List Term} {m : line.Limits} {slots : ℕ} (A : AllKnown left rights replies ended nodes ws slots s ts m) where
+  module _ {s : Term} {ts : List Term} {m : line.Limits} {slots : ℕ} (A : AllKnown left rights replies ended cut ws slots s ts m) where
     count : length (jobs-of s ts m) ≡ length replies
     count = length-map ts (job-of s m) ∙ A .count
 
     known-at : (i : ℕ) → i < length replies → {xs : List ℕ} → IsRun xs (term-at ts i)
-        → Known left xs (getD replies i 0) ended nodes ws slots (job-of s m (term-at ts i))
+        → Known left xs (getD replies i 0) ended cut ws slots (job-of s m (term-at ts i))
     known-at i h r =
         let k : i < length ts = omega (arith, A .count) in
         let listed = getD-in zero ts i k in
@@ -236,7 +236,7 @@ module _ (left rights replies : List ℕ) (ended : Ended) (nodes : ℕ) (ws : Li
           among = listed;
           ends = A .answers .ends;
           replied = A .answers .replied i k;
-          limit = A .limit;
+          cut-is = A .cut-is;
         }
 
     -- the first right side's job alone
@@ -245,15 +245,15 @@ module _ (left rights replies : List ℕ) (ended : Ended) (nodes : ℕ) (ws : Li
         known-alone (getD replies 0 0) (known-at 0 (omega (arith, A .count)) (record { fine = A .runs .spelled 0 h .held .fine; whole = refl }))
 
   pub blocks-more : {o o₁ o₂ xs : List ℕ} {a b c : ℕ} (i : ℕ) → i < length replies → Shows rights i xs
-      → PutsBlocks left rights replies ended nodes ws i o a b o₁ → PutsBlock left xs (getD replies i 0) ended nodes ws o₁ b c o₂
-      → PutsBlocks left rights replies ended nodes ws (i + 1) o a c o₂
+      → PutsBlocks left rights replies ended cut ws i o a b o₁ → PutsBlock left xs (getD replies i 0) ended cut ws o₁ b c o₂
+      → PutsBlocks left rights replies ended cut ws (i + 1) o a c o₂
   blocks-more {o₁ = o₁} {o₂ = o₂} {b = b} {c = c} i h R P Q s ts m slots A =
       put-each-more (block slots) (job-of s m zero) (jobs-of s ts m) i (omega (arith, count A)) (P s ts m slots A)
       (subst (λ j. Put (block slots j) o₁ b c o₂) (sym (List·getD-map (job-of s m) ts i zero))
       (Q (job-of s m (term-at ts i)) slots (known-at A i h (R .exact (term-at ts i) (A .runs .spelled i (omega (arith, A .count)))))))
 
-  pub blocks-all : {o o₁ : List ℕ} {a b : ℕ} (i : ℕ) → length replies ≤ i → PutsBlocks left rights replies ended nodes ws i o a b o₁
-      → (s : Term) (ts : List Term) (m : line.Limits) (slots : ℕ) → AllKnown left rights replies ended nodes ws slots s ts m
+  pub blocks-all : {o o₁ : List ℕ} {a b : ℕ} (i : ℕ) → length replies ≤ i → PutsBlocks left rights replies ended cut ws i o a b o₁
+      → (s : Term) (ts : List Term) (m : line.Limits) (slots : ℕ) → AllKnown left rights replies ended cut ws slots s ts m
       → Put (flatMap (block slots) (jobs-of s ts m)) o a b o₁
   blocks-all i h P s ts m slots A =
       put-as (ap (flatMap (block slots)) (take-all i (jobs-of s ts m) (omega (arith, count A)))) (P s ts m slots A)

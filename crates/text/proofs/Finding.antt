@@ -16,9 +16,10 @@ use Rattle.terms.specs.Theory.Order.{irreflexive}
 use Rattle.terms.specs.Theory.TermOrder.{term-order}
 use Rattle.search.specs.Law.{semiring}
 use Rattle.search.specs.Line as line
+use Rattle.search.specs.Cut as search-cut
 use Rattle.search.specs.Runs.{term-at, HeldRuns}
 use Rattle.search.specs.Replied.{reply-of}
-use Rattle.search.specs.Searched.{limits-of, slots-of, Answers, Searches}
+use Rattle.search.specs.Searched.{limits-of, slots-of, Answers, Searches, Cuts}
 use Rattle.search.specs.declared.replies.Reply.{Reply}
 use Rattle.search.specs.declared.replies.Reply.the-variants.{Unnoted, Direct, Noted}
 use Rattle.search.specs.declared.bounded_search.Limits.{Limits}
@@ -65,26 +66,29 @@ module _ (bs : List ℕ) (s : Term) (ts : List Term) (m : line.Limits) (read : r
   accepted-at t i = each-accepted (job-of s m t) (in-map (job-of s m) i)
 
   -- what the search leaves of them
-  pub all-known : {left rights ws ws′ replies replies′ : List ℕ} {limits : Limits} {ended : Ended} → Searches semiring left rights limits ws ws′ replies replies′ ended
-      → 0 < length ts → IsRun left s → HeldRuns rights ts → length ts ≡ length replies → limits-of limits ≡ m
-      → AllKnown left rights replies′ ended (limits .nodes) ws′ (slots-of (length ws)) s ts m
-  all-known {ws = ws} {ws′} {replies′ = replies′} {ended = ended} found some-rights run runs count is =
+  pub all-known : {left rights ws ws′ replies replies′ : List ℕ} {limits : Limits} {ended : Ended} {cut : Bool}
+      → Searches semiring left rights limits ws ws′ replies replies′ ended → Cuts ws′ ended limits cut → length ws′ ≡ length ws → 0 < length ts
+      → IsRun left s → HeldRuns rights ts → length ts ≡ length replies → limits-of limits ≡ m
+      → AllKnown left rights replies′ ended cut ws′ (slots-of (length ws)) s ts m
+  all-known {ws = ws} {ws′} {replies′ = replies′} {limits = limits} {ended = ended} {cut} found cuts long some-rights run runs count is =
       let first = accepted-at (term-at ts 0) (getD-in zero ts 0 some-rights) in
+      let answers : Answers semiring (limits-of limits) (slots-of (length ws)) s ts ws′ replies′ ended =
+      found .exact s ts run (first .sides .small-left) runs count (λ i. irreflexive term-order (accepted-at s i .before) refl)
+      (omega (arith, ap (λ k. k .size) is, first .limits .size)) in
       record {
         known = each-accepted;
         left-run = run;
         runs = runs;
         count = count ∙ sym (found .kept);
-        answers =
-            subst (λ k. Answers semiring k (slots-of (length ws)) s ts ws′ replies′ ended) is
-            (found .exact s ts run (first .sides .small-left) runs count (λ i. irreflexive term-order (accepted-at s i .before) refl)
-            (omega (arith, ap (λ k. k .size) is, first .limits .size)));
-        limit = ap (λ k. k .nodes) is;
+        answers = subst (λ k. Answers semiring k (slots-of (length ws)) s ts ws′ replies′ ended) is answers;
+        cut-is = λ over.
+            subst (λ k. cut ≡ search-cut.cut semiring k s) is
+            (cuts .exact semiring (slots-of (length ws)) s ts (rw long (omega arith)) (answers .ends) over);
       }
 
   -- ---- the answer
 
-  module _ {left rights replies ws : List ℕ} {ended : Ended} {nodes slots : ℕ} (A : AllKnown left rights replies ended nodes ws slots s ts m) where
+  module _ {left rights replies ws : List ℕ} {ended : Ended} {cut : Bool} {slots : ℕ} (A : AllKnown left rights replies ended cut ws slots s ts m) where
     abbrev out-first : Bool
     out-first = runs-out (getD replies 0 0) ended
 
@@ -106,7 +110,7 @@ module _ (bs : List ℕ) (s : Term) (ts : List Term) (m : line.Limits) (read : r
       pub find-out : length ts ≡ 1 → true ≡ out-first → Call (find bs slots (length out)) out 7 out
       unfolding find _>>=_
       find-out one e =
-          let h : Alone true slots (job-of s m (term-at ts 0)) = subst (λ b. Alone b slots (job-of s m (term-at ts 0))) (sym e) (alone-first left rights replies ended nodes ws A (omega arith)) in
+          let h : Alone true slots (job-of s m (term-at ts 0)) = subst (λ b. Alone b slots (job-of s m (term-at ts 0))) (sym e) (alone-first left rights replies ended cut ws A (omega arith)) in
           rw (read, together-refused ts one h) (refuses 7 out)
 
       -- otherwise the blocks are the answer, if there is room for them
@@ -115,5 +119,5 @@ module _ (bs : List ℕ) (s : Term) (ts : List Term) (m : line.Limits) (read : r
       unfolding find _>>=_
       find-blocks some-rights e call =
           let h : length ts ≡ 1 → Alone false slots (job-of s m (term-at ts 0)) =
-          λ one. subst (λ b. Alone b slots (job-of s m (term-at ts 0))) (sym (e one)) (alone-first left rights replies ended nodes ws A some-rights) in
+          λ one. subst (λ b. Alone b slots (job-of s m (term-at ts 0))) (sym (e one)) (alone-first left rights replies ended cut ws A some-rights) in
           rw (read, together-blocks ts some-rights h) call

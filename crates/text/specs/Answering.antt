@@ -13,6 +13,7 @@ use Rattle.search.specs.Line as line
 use Rattle.search.specs.Line.{Line}
 use Rattle.search.specs.Search.{Noted, terms, direct}
 use Rattle.search.specs.Serve as serve
+use Rattle.search.specs.Cut as search-cut
 use Rattle.search.specs.Runs.{HeldRuns}
 use Rattle.search.specs.Slots.{noted-at, Slots}
 use Rattle.search.specs.Replied.{reply-of, Replied}
@@ -43,13 +44,13 @@ abbrev pub one-search : ℕ → Job → List Term → serve.Served
 one-search slots j ts = serve.serve semiring (j .limits) slots (j .left) ts
 
 -- what that search left of a job's right side: how it ended, and where it is noted
-pub record Known (left right : List ℕ) (reply : ℕ) (ended : Ended) (nodes : ℕ) (ws : List ℕ) (slots : ℕ) (j : Job) : Type 0 where
+pub record Known (left right : List ℕ) (reply : ℕ) (ended : Ended) (cut : Bool) (ws : List ℕ) (slots : ℕ) (j : Job) : Type 0 where
   pub sides : Sides left right j
   pub others : List Term
   pub among : j .right ∈ others
   pub ends : Ends ended ws (one-search slots j others)
   pub replied : Replied semiring (j .left) (j .right) (terms (one-search slots j others .noted)) (reply-of reply)
-  pub limit : nodes ≡ j .limits .nodes
+  pub cut-is : ended .stop ≡ Over → cut ≡ search-cut.cut semiring (j .limits) (j .left)
 
 -- likewise of a right side that matches no law directly and is noted in slot k
 pub record Met (ws : List ℕ) (k slots : ℕ) (j : Job) : Type 0 where
@@ -61,23 +62,23 @@ pub record Met (ws : List ℕ) (k slots : ℕ) (j : Job) : Type 0 where
   pub is : noted-at (one-search slots j others .noted) k .term ≡ j .right
 
 -- likewise of one that is not noted
-pub record Unmet (ended : Ended) (nodes slots : ℕ) (j : Job) : Type 0 where
+pub record Unmet (ended : Ended) (cut : Bool) (slots : ℕ) (j : Job) : Type 0 where
   pub others : List Term
   pub among : j .right ∈ others
   pub ws : List ℕ
   pub ends : Ends ended ws (one-search slots j others)
   pub indirect : direct semiring (j .left) (j .right) ≡ none
   pub missing : j .right ∈ terms (one-search slots j others .noted) → ⊥
-  pub limit : nodes ≡ j .limits .nodes
+  pub cut-is : ended .stop ≡ Over → cut ≡ search-cut.cut semiring (j .limits) (j .left)
 
 -- the jobs of s with each of ts, after the one search for all
-pub record AllKnown (left rights replies : List ℕ) (ended : Ended) (nodes : ℕ) (ws : List ℕ) (slots : ℕ) (s : Term) (ts : List Term) (m : line.Limits) : Type 0 where
+pub record AllKnown (left rights replies : List ℕ) (ended : Ended) (cut : Bool) (ws : List ℕ) (slots : ℕ) (s : Term) (ts : List Term) (m : line.Limits) : Type 0 where
   pub known : (j : Job) → j ∈ jobs-of s ts m → Accepted j
   pub left-run : IsRun left s
   pub runs : HeldRuns rights ts
   pub count : length ts ≡ length replies
   pub answers : Answers semiring m slots s ts ws replies ended
-  pub limit : nodes ≡ m .nodes
+  pub cut-is : ended .stop ≡ Over → cut ≡ search-cut.cut semiring m s
 
 -- a right side has no answer: it is not noted, and the search was not over
 abbrev pub without : Reply → Ended → Bool

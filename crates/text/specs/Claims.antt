@@ -14,10 +14,11 @@ use Rattle.search.specs.Law.{semiring}
 use Rattle.search.specs.Line.{Line}
 use Rattle.search.specs.Search.{Outcome, proved, unproved, expanded, noted}
 use Rattle.search.specs.Searched.{slots-of}
-use Rattle.search.specs.Claims.{Claims}
+use Rattle.search.specs.Cut.{cut}
+use Rattle.search.specs.Claims.{Provable, Returned, Claims}
 use Rattle.text.specs.Bytes.{ascii, read-number}
 use Rattle.text.specs.TermText.{read-term}
-use Rattle.text.specs.Answer.{Answer, refused, accepted, field, printed, values, parts}
+use Rattle.text.specs.Answer.{Answer, refused, accepted, field, printed, yes-no, values, parts}
 use Rattle.text.specs.Job.{Job}
 use Rattle.text.specs.FindJob.{Layouts, layouts, alone-texts, read-find}
 use Rattle.text.specs.StepText.{read-steps}
@@ -36,6 +37,11 @@ Names t key s = map read-term (values key t) ≡ some s ∷ []
 abbrev pub verdict : Outcome → List ℕ
 verdict (proved xs e n) = ascii "proved"
 verdict (unproved e n) = ascii "none"
+
+-- what stands behind `cut=`, in a line that a none alone has
+abbrev pub cuts : Job → Outcome → List (List ℕ)
+cuts j (proved xs e n) = []
+cuts j (unproved e n) = yes-no (cut semiring (j .limits) (j .left)) ∷ []
 
 -- of a text that answers the job of one equation
 pub record Answered (read : Job) (slots : ℕ) (t : List ℕ) : Type 0 where
@@ -56,7 +62,12 @@ pub record Answered (read : Job) (slots : ℕ) (t : List ℕ) : Type 0 where
   pub sides : Names t "left=" (read .left) × Names t "right=" (read .right)
   -- the path of a proved answer is the one that the `step=` lines of the text tell, in order
   pub path : (xs : List Line) (e n : ℕ) → outcome ≡ proved xs e n → read-steps semiring t ≡ map some xs
-  -- path, ends, fewest lines, number opened, and when a path is returned
+  -- `cut` is yes exactly when a noted term at a distance below steps was left unopened
+  pub cut : values "cut=" t ≡ cuts read outcome
+  -- where the text does not print `cut=yes`, a path is returned exactly when a direct match or a path of searchable lines within the
+  -- step limit exists
+  pub decided : (ascii "yes" ∈ values "cut=" t → ⊥) → Returned outcome ↔ Provable semiring (read .limits) (read .left) (read .right)
+  -- path, ends, fewest lines, number opened, when a path is returned, and when more nodes change a none
   pub claims : Claims semiring (List Word) words (read .limits) (read .left) (read .right)
 
 -- a block is the answer to its job alone, or says that this job would note more terms than there are slots

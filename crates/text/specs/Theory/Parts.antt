@@ -12,6 +12,7 @@ use Rattle.terms.specs.Lists.{_∈_, here, there, in-left, not-in-nil, cons-cas
 use Rattle.terms.specs.Theory.Reflects.{Reflects, eqb-reflects}
 use Rattle.search.specs.Law.{Law, semiring}
 use Rattle.search.specs.Search.{Outcome, proved, unproved}
+use Rattle.search.specs.Cut.{cut}
 use Rattle.text.specs.Bytes.{ascii, number, after, longer, pieces}
 use Rattle.text.specs.Answer.{refused, field, printed, values, found, parts, yes-no}
 use Rattle.text.specs.Job.{Job}
@@ -192,7 +193,7 @@ module _ (ws : List Law) (j : Job) where
   outcome-ended : (o : Outcome) → Ended (outcome-text ws j o)
   unfolding outcome-text outcome-lines
   outcome-ended (proved xs e n) = flatten-ended (outcome-lines ws j (proved xs e n)) (field-ended "proof=" (proof ws (j .left) (j .right) xs))
-  outcome-ended (unproved e n) = flatten-ended (outcome-lines ws j (unproved e n)) (field-ended "cut=" (yes-no (eqb e (j .limits .nodes))))
+  outcome-ended (unproved e n) = flatten-ended (outcome-lines ws j (unproved e n)) (field-ended "cut=" (yes-no (cut ws (j .limits) (j .left))))
 
   outcome-starts : (o : Outcome) (rest : List ℕ) → found (after key (outcome-text ws j o ++ rest)) ≡ true
   unfolding outcome-text outcome-lines flatten field ascii after

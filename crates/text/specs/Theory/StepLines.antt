@@ -6,12 +6,12 @@ use native.Mathlib.Omega.{arith}
 use mathlib.Core.Path.{_≡_, refl, _∙_, ap}
 use mathlib.Core.Option.{some}
 use mathlib.Core.List.{List, [], _∷_, _++_, map, flatMap, flatten}
-use lib.Dec.{eqb}
 use lib.ListN.{length}
 use Rattle.terms.specs.Lists.{_∈_, here, there}
 use Rattle.search.specs.Law.{Law, Name}
 use Rattle.search.specs.Line.{Line}
 use Rattle.search.specs.Search.{proved, unproved}
+use Rattle.search.specs.Cut.{cut}
 use Rattle.text.specs.Bytes.{ascii, number, after, parted}
 use Rattle.text.specs.TermText.{Readable, write-term}
 use Rattle.text.specs.Answer.{values, yes-no}
@@ -82,6 +82,10 @@ module _ (ws : List Law) (told : Told ws) (j : Job) where
     unfolding ascii after
     proved-expanded = outcome-values "expanded=" xs e n named ∙ rw (none-each xs)
 
+    pub proved-cut : values "cut=" text ≡ []
+    unfolding ascii after
+    proved-cut = outcome-values "cut=" xs e n named ∙ rw (none-each xs)
+
     pub proved-path : values "step=" text ≡ map step-value xs
     unfolding ascii after
     proved-path = outcome-values "step=" xs e n named ∙ steps-each xs
@@ -92,7 +96,7 @@ module _ (ws : List Law) (told : Told ws) (j : Job) where
       ++ (under key "left=" (write-term (j .left))
       ++ (under key "right=" (write-term (j .right))
       ++ (under key "expanded=" (number e)
-      ++ (under key "cut=" (yes-no (eqb e (j .limits .nodes)))
+      ++ (under key "cut=" (yes-no (cut ws (j .limits) (j .left)))
       ++ given (after (ascii key) [])))))
   unfolding outcome-text outcome-lines flatten
   none-values key e n =
@@ -100,7 +104,7 @@ module _ (ws : List Law) (told : Told ws) (j : Job) where
       (line-values key "left=" (write-term (j .left)) _ tt (write-term-least (j .left))
       (line-values key "right=" (write-term (j .right)) _ tt (write-term-least (j .right))
       (line-values key "expanded=" (number e) _ tt (higher (omega arith) (number-least e))
-      (line-values key "cut=" (yes-no (eqb e (j .limits .nodes))) [] tt (yes-no-printable (eqb e (j .limits .nodes))) (no-lines key)))))
+      (line-values key "cut=" (yes-no (cut ws (j .limits) (j .left))) [] tt (yes-no-printable (cut ws (j .limits) (j .left))) (no-lines key)))))
 
   module _ (e n : ℕ) where
     abbrev none-text : List ℕ
@@ -121,6 +125,10 @@ module _ (ws : List Law) (told : Told ws) (j : Job) where
     pub none-expanded : values "expanded=" none-text ≡ number e ∷ []
     unfolding ascii after
     none-expanded = none-values "expanded=" e n
+
+    pub none-cut : values "cut=" none-text ≡ yes-no (cut ws (j .limits) (j .left)) ∷ []
+    unfolding ascii after
+    none-cut = none-values "cut=" e n
 
   pub outcome-steps : (xs : List Line) (e n : ℕ) → ((x : Line) → x ∈ xs → x .law ∈ names ws × Readable (x .result))
       → read-steps ws (outcome-text ws j (proved xs e n)) ≡ map some xs

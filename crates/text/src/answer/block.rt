@@ -107,16 +107,13 @@ fn put_unmet(
     left: &[u32],
     right: &[u32],
     ended: Ended,
-    nodes: usize,
+    cut: bool,
 ) -> usize
-    ensures { λ r. ⌜ ((j : Job) (slots : ℕ) → Sides (now (left .entry)) (now (right .entry)) j → Unmet ended nodes slots j → Put (block slots j) (now (out .entry)) at r (now (out .exit))) ⌝ }
+    ensures { λ r. ⌜ ((j : Job) (slots : ℕ) → Sides (now (left .entry)) (now (right .entry)) j → Unmet ended cut slots j → Put (block slots j) (now (out .entry)) at r (now (out .exit))) ⌝ }
 {
     let stop = ended.stop;
     match stop {
-        Stop::Over => {
-            let cut = ended.opened == nodes;
-            outcome::put_none(out, at, left, right, ended.opened, cut)
-        }
+        Stop::Over => outcome::put_none(out, at, left, right, ended.opened, cut),
         Stop::All => outcome::put_refused(out, at, 7),
         Stop::Full => outcome::put_refused(out, at, 7),
     }
@@ -130,15 +127,15 @@ fn put_block(
     right: &[u32],
     reply: u32,
     ended: Ended,
-    nodes: usize,
+    cut: bool,
     ws: &[u32],
 ) -> usize
-    ensures { λ r. ⌜ ((j : Job) (slots : ℕ) → Known (now (left .entry)) (now (right .entry)) reply ended nodes (now (ws .entry)) slots j → Put (block slots j) (now (out .entry)) at r (now (out .exit))) ⌝ }
+    ensures { λ r. ⌜ ((j : Job) (slots : ℕ) → Known (now (left .entry)) (now (right .entry)) reply ended cut (now (ws .entry)) slots j → Put (block slots j) (now (out .entry)) at r (now (out .exit))) ⌝ }
 {
     match reply_of(reply) {
         Reply::Direct(law) => put_direct(out, at, left, right, law),
         Reply::Noted(k) => put_met(out, at, left, right, k, ws),
-        Reply::Unnoted => put_unmet(out, at, left, right, ended, nodes),
+        Reply::Unnoted => put_unmet(out, at, left, right, ended, cut),
     }
 }
 
@@ -149,17 +146,17 @@ pub fn put_blocks(
     rights: &[u32],
     replies: &[u32],
     ended: Ended,
-    nodes: usize,
+    cut: bool,
     ws: &[u32],
 ) -> usize
     requires { ⌜ length (now replies) ≤ 16 ⌝ }
-    ensures { λ r. ⌜ ((s : Term) (ts : List Term) (m : line.Limits) (slots : ℕ) → AllKnown (now (left .entry)) (now (rights .entry)) (now (replies .entry)) ended nodes (now (ws .entry)) slots s ts m → Put (flatMap (block slots) (jobs-of s ts m)) (now (out .entry)) 0 r (now (out .exit))) ⌝ }
+    ensures { λ r. ⌜ ((s : Term) (ts : List Term) (m : line.Limits) (slots : ℕ) → AllKnown (now (left .entry)) (now (rights .entry)) (now (replies .entry)) ended cut (now (ws .entry)) slots s ts m → Put (flatMap (block slots) (jobs-of s ts m)) (now (out .entry)) 0 r (now (out .exit))) ⌝ }
 {
     let mut at = 0;
     let mut r = 0;
     while r < replies.len() {
         let right = slots::run_of(rights, r as u32);
-        at = put_block(out, at, left, right, replies[r], ended, nodes, ws);
+        at = put_block(out, at, left, right, replies[r], ended, cut, ws);
         r += 1;
     }
     at

@@ -18,6 +18,7 @@ use crate::answer::block::put_blocks;
 use search::bounded_search::Ended;
 use search::bounded_search::Limits;
 use search::bounded_search::Stop;
+use search::bounded_search::is_cut;
 use search::bounded_search::search_bounded_rewrite;
 use search::replies::Reply;
 use search::replies::reply_of;
@@ -44,17 +45,17 @@ fn answer_blocks(
     rights: &[u32],
     replies: &[u32],
     ended: Ended,
-    nodes: usize,
+    cut: bool,
     ws: &[u32],
 ) -> usize
     requires { ⌜ length (now replies) ≤ 16 ⌝ }
-    ensures { λ r. ⌜ ((s : Term) (ts : List Term) (m : line.Limits) (slots : ℕ) → AllKnown (now (left .entry)) (now (rights .entry)) (now (replies .entry)) ended nodes (now (ws .entry)) slots s ts m → Call (fitting (length (now (out .entry))) (flatMap (block slots) (jobs-of s ts m))) (now (out .entry)) r (now (out .exit))) ⌝ }
+    ensures { λ r. ⌜ ((s : Term) (ts : List Term) (m : line.Limits) (slots : ℕ) → AllKnown (now (left .entry)) (now (rights .entry)) (now (replies .entry)) ended cut (now (ws .entry)) slots s ts m → Call (fitting (length (now (out .entry))) (flatMap (block slots) (jobs-of s ts m))) (now (out .entry)) r (now (out .exit))) ⌝ }
 {
-    let n = put_blocks(&mut out[..0], left, rights, replies, ended, nodes, ws);
+    let n = put_blocks(&mut out[..0], left, rights, replies, ended, cut, ws);
     if out.len() < n {
         return 8;
     }
-    put_blocks(out, left, rights, replies, ended, nodes, ws);
+    put_blocks(out, left, rights, replies, ended, cut, ws);
     100 + n
 }
 
@@ -72,12 +73,12 @@ pub fn answer_find(
 {
     let mut room = [0u32; 16];
     let replies = &mut room[..n];
-    let nodes = limits.nodes as usize;
     let ended = search_bounded_rewrite(left, rights, replies, limits, ws);
+    let cut = is_cut(ws, ended, limits);
     if n == 1 {
         if runs_out(replies[0], ended) {
             return 7;
         }
     }
-    answer_blocks(out, left, rights, replies, ended, nodes, ws)
+    answer_blocks(out, left, rights, replies, ended, cut, ws)
 }

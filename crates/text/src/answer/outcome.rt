@@ -2,13 +2,13 @@
 ghost use mathlib.Core.Path.{_≡_};
 ghost use mathlib.Core.List.{List, _++_};
 ghost use Prim.Native.Nat.{ℕ};
-ghost use lib.Dec.{eqb};
 ghost use Rattle.terms.specs.Term.{Term};
 ghost use Rattle.terms.specs.Held.{IsRun};
 ghost use Rattle.terms.specs.Letters.{letters, rising};
 ghost use Rattle.search.specs.Law.{semiring};
 ghost use Rattle.search.specs.Line.{Line};
 ghost use Rattle.search.specs.Search.{proved, unproved};
+ghost use Rattle.search.specs.Cut as search-cut;
 ghost use Rattle.text.specs.Answer.{refused, printed};
 ghost use Rattle.text.specs.Job.{Job};
 ghost use Rattle.text.specs.Find.{outcome-text};
@@ -33,7 +33,7 @@ pub fn put_none(
     expanded: usize,
     cut: bool,
 ) -> usize
-    ensures { λ r. ⌜ ((j : Job) (n : ℕ) → IsRun (now (left .entry)) (j .left) → IsRun (now (right .entry)) (j .right) → cut ≡ eqb expanded (j .limits .nodes) → Put (outcome-text semiring j (unproved expanded n)) (now (out .entry)) at r (now (out .exit))) ⌝ }
+    ensures { λ r. ⌜ ((j : Job) (n : ℕ) → IsRun (now (left .entry)) (j .left) → IsRun (now (right .entry)) (j .right) → cut ≡ search-cut.cut semiring (j .limits) (j .left) → Put (outcome-text semiring j (unproved expanded n)) (now (out .entry)) at r (now (out .exit))) ⌝ }
 {
     let p = write_line(out, at, b"answer=", b"none");
     let p = write_term_line(out, p, b"left=", left);

@@ -9,18 +9,18 @@ use Rattle.text.proofs.answer.block.put_blocks.Statement.{statement}
 use Rattle.text.proofs.answer.block.put_blocks.Tie as tie
 
 abbrev Inv-loop : tie.InvT-loop
-Inv-loop out₀ left rights replies ended nodes ws at₀ r₀ out at r =
-    (r ≤ length replies) × (length out ≡ length out₀) × PutsBlocks left rights replies ended nodes ws r out₀ 0 at out
+Inv-loop out₀ left rights replies ended cut ws at₀ r₀ out at r =
+    (r ≤ length replies) × (length out ≡ length out₀) × PutsBlocks left rights replies ended cut ws r out₀ 0 at out
 
 abbrev μ-loop : tie.MeasureT-loop
-μ-loop out₀ left rights replies ended nodes ws at₀ r₀ out at r = length replies - r
+μ-loop out₀ left rights replies ended cut ws at₀ r₀ out at r = length replies - r
 
 loop-holds : tie.Need-loop-holds Inv-loop μ-loop
 loop-holds c =
     let a = c .before .before .before .before .before .args in (
       search needs,
       refl,
-      blocks-start (a .left .now) (a .rights .now) (a .replies .now) (a .ended) (a .nodes) (a .ws .now) (a .out .now) 0 (omega arith) (omega arith),
+      blocks-start (a .left .now) (a .rights .now) (a .replies .now) (a .ended) (a .cut) (a .ws .now) (a .out .now) 0 (omega arith) (omega arith),
     )
 
 cast-run-of : tie.Need-cast-run-of Inv-loop μ-loop

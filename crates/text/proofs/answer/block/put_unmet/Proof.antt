@@ -1,6 +1,4 @@
 -- `put_unmet` meets its contract: an arm for each reason to stop.
-use mathlib.Core.Path.{ap}
-use lib.Dec.{eqb}
 use Rattle.text.proofs.Overlay.{put-as}
 use Rattle.text.proofs.Blocks.{unmet-some, unmet-full, unmet-over}
 use borrow.Author.Needs.{needs}
@@ -31,11 +29,10 @@ same-length c = search needs
 returns : tie.Need-returns
 returns c =
     let p = c .before .before in
-    let t = p .before .before .before in
-    let a = t .before .before .before .before .before in
+    let t = p .before .before in
     λ j slots sides unmet.
     put-as (unmet-over sides unmet (t .enum-told .given .1))
-    (p .put-none .ensures j _ (sides .left-run) (sides .right-run) (ap (eqb (a .args .ended .opened)) (unmet .limit)))
+    (p .put-none .ensures j _ (sides .left-run) (sides .right-run) (unmet .cut-is (t .enum-told .given .1)))
 
 same-length-2 : tie.Need-same-length-2
 same-length-2 c = search needs
