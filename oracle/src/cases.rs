@@ -63,6 +63,8 @@ const B: [&str; 2] = ["+ v0 v1", "+ v1 v0"];
 const C: [&str; 2] = ["* v0 v1", "+ * v0 v1 0"];
 const D: [&str; 2] = ["v0", "+ 0 v0"];
 const E: [&str; 2] = ["+ v0 0", "+ v0 * 0 v1"];
+/// Three lines lead from v0 to terms of size 3, none to v1.
+const LETTERS: [&str; 2] = ["v0", "v1"];
 
 const A_PROVED: Due = Ok(
     "answer=proved\nleft=v0\nright=+ v0 0\nsteps=1\nexpanded=0\n\
@@ -140,13 +142,17 @@ fn searched() -> Vec<Case> {
         find("C", C, LIMITS, C_PROVED),
         find("C, small limits", C, ["1", "3", "1", "1"], C_PROVED),
         find("C2", C, ["3", "2", "3", "1000"], none!("+ * v0 v1 0", "* v0 v1", "1", "no")),
-        find("C2, small limits", C, ["1", "2", "1", "1"], none!("+ * v0 v1 0", "* v0 v1", "1", "yes")),
+        find("C2, small limits", C, ["1", "2", "1", "1"], none!("+ * v0 v1 0", "* v0 v1", "1", "no")),
         find("C3", C, ["3", "7", "3", "0"], C_NONE_CUT),
         find("C3, small limits", C, ["1", "3", "1", "0"], C_NONE_CUT),
+        find("C3, no steps", C, ["0", "7", "3", "0"], none!("+ * v0 v1 0", "* v0 v1", "0", "no")),
         find("D", D, LIMITS, D_PROVED),
         case("D, eight slots", Call { slots: 8, ..call(Entry::Find, D, LIMITS) }, D_PROVED),
         find("D2", D, ["1", "7", "3", "1000"], none!("v0", "+ 0 v0", "1", "no")),
         find("D3", D, ["3", "7", "3", "1"], none!("v0", "+ 0 v0", "1", "yes")),
+        find("D3, one step", D, ["1", "7", "3", "1"], none!("v0", "+ 0 v0", "1", "no")),
+        find("two letters, all opened", LETTERS, ["2", "3", "1", "4"], none!("v0", "v1", "4", "no")),
+        find("two letters, one left", LETTERS, ["2", "3", "1", "3"], none!("v0", "v1", "3", "yes")),
         find("E", E, ["1", "7", "3", "1000"], none!("+ v0 0", "+ v0 * 0 v1", "1", "no")),
     ]
 }

@@ -1,10 +1,12 @@
 //! The plain answer, compared with the Rust's on every job that passes the refusals before the search, and with
 //! other judges on every derivation that passes 1 to 4.
 
+mod cut;
 mod derived;
 
 use std::fmt;
 
+use crate::plain::nones::without_cut;
 use crate::plain::{self, Block, MOST_SLOTS, joined};
 use crate::{Call, Entry, Given, rust};
 
@@ -40,15 +42,14 @@ fn of_job(call: &Call) -> Result<Given, Box<Difference>> {
     let blocks = plain::blocks(entry, job, usize::MAX);
     let whole = blocks.clone();
     let whole = whole.and_then(|blocks| joined(&blocks, usize::MAX));
-    let rusts = rust::answer(entry, job, usize::MAX);
-    same(
-        call,
-        "plain and Rust, slots and room enough",
-        &whole,
-        &rusts,
-    )?;
-    if entry == Entry::Find {
+    let uncut = whole.clone().map(|text| without_cut(&text));
+    let what = "plain without `cut` and Rust, slots and room enough";
+    same(call, what, &uncut, &rust::answer(entry, job))?;
+    if entry == Entry::Find
+        && let Ok(blocks) = &blocks
+    {
         derived::hold_proved(call, &whole)?;
+        cut::hold(call, blocks)?;
     }
 
     let is_held = |block: &Block| block.noted <= slots.min(MOST_SLOTS);

@@ -4,6 +4,7 @@ use std::collections::BTreeMap;
 use std::fmt;
 
 use crate::generate::KINDS;
+use crate::plain::nones::nones;
 use crate::{Call, Entry, Given};
 
 /// How often each key was counted.
@@ -17,8 +18,38 @@ pub struct Tally {
     /// The blocks of answers that have several.
     blocks: Counts,
     paths: BTreeMap<usize, usize>,
+    cuts: Cuts,
     /// The step lines of good derivations.
     chains: BTreeMap<usize, usize>,
+}
+
+/// The nones of answers and blocks, those that say `cut=yes`, and those whose `cut` the former rule made otherwise.
+#[derive(Default)]
+struct Cuts {
+    nones: usize,
+    yes: usize,
+    otherwise: usize,
+}
+
+impl Cuts {
+    /// Counts the nones of FIND's answer to a job.
+    fn count(&mut self, job: &[u8], answer: &[u8]) {
+        let nodes = values(job, "nodes=").next().map(str::parse);
+        let Some(Ok(nodes)) = nodes else {
+            panic!("an answered job has a node limit");
+        };
+        for said in nones(answer) {
+            self.nones += 1;
+            self.yes += usize::from(said.cut);
+            self.otherwise += usize::from(said.cut != said.was_cut(nodes));
+        }
+    }
+
+    fn add(&mut self, other: &Cuts) {
+        self.nones += other.nones;
+        self.yes += other.yes;
+        self.otherwise += other.otherwise;
+    }
 }
 
 impl Tally {
@@ -31,6 +62,9 @@ impl Tally {
             *counts.entry(outcome.clone()).or_default() += 1;
         }
         let Ok(text) = given else { return };
+        if call.entry == Entry::Find {
+            self.cuts.count(&call.job, text);
+        }
         if call.entry == Entry::Check {
             let lines = values(&call.job, "step=").count();
             *self.chains.entry(lines).or_default() += 1;
@@ -58,6 +92,7 @@ impl Tally {
         }
         add(&mut self.blocks, other.blocks);
         add(&mut self.paths, other.paths);
+        self.cuts.add(&other.cuts);
         add(&mut self.chains, other.chains);
     }
 }
@@ -92,6 +127,21 @@ fn values<'a>(text: &'a [u8], key: &'a str) -> impl Iterator<Item = &'a str> {
     text.lines().filter_map(move |line| line.strip_prefix(key))
 }
 
+impl fmt::Display for Cuts {
+    fn fmt(&self, out: &mut fmt::Formatter<'_>) -> fmt::Result {
+        let Cuts {
+            nones,
+            yes,
+            otherwise,
+        } = self;
+        write!(
+            out,
+            "nones as answers or blocks: {nones}, cut=yes in {yes}, "
+        )?;
+        write!(out, "cut otherwise by the former rule in {otherwise}")
+    }
+}
+
 impl fmt::Display for Tally {
     fn fmt(&self, out: &mut fmt::Formatter<'_>) -> fmt::Result {
         for (&kind, counts) in &self.kinds {
@@ -110,6 +160,7 @@ impl fmt::Display for Tally {
             "lines in the path of a proved answer or block: {}",
             paths.join(", ")
         )?;
+        writeln!(out, "{}", self.cuts)?;
         let lines: usize = self.chains.iter().map(|(lines, count)| lines * count).sum();
         let most = self.chains.keys().max().unwrap_or(&0);
         writeln!(

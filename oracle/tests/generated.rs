@@ -3,6 +3,7 @@
 use std::collections::BTreeSet;
 
 use oracle::generate::{KINDS, Plan};
+use oracle::plain::{job::Job, nones::nones};
 use oracle::{About, Call, Entry, Given, checked, list, plain};
 
 /// The calls of a plan with what they give.
@@ -50,6 +51,7 @@ fn refusals_come_from_their_kinds() {
     assert!(numbers("several").is_superset(&BTreeSet::from([1, 2, 3, 4, 5, 6])));
     assert!(numbers("slots").is_superset(&BTreeSet::from([0, 7])));
     assert!(numbers("room").is_superset(&BTreeSet::from([0, 8])));
+    assert!(numbers("cuts").is_superset(&BTreeSet::from([0, 7])));
 }
 
 #[test]
@@ -117,6 +119,23 @@ fn blocks_are_what_single_jobs_are_answered() {
         both += usize::from((1..blocks.len()).contains(&refused.count()));
     }
     assert!(both > 30, "{both} calls with answers and blocks of 7");
+}
+
+/// Nones of these kinds: no by both rules for `cut`, by the present one alone, by neither.
+#[test]
+fn both_rules_for_cut_differ_often() {
+    for name in ["cuts", "plan-cuts"] {
+        let mut counts = [0; 3];
+        for (_, call) in of_kind(name, 400).calls() {
+            let job = Job::read(call.entry, &call.job).expect("a good job");
+            let given = plain::answer(call.entry, &call.job, call.slots, usize::MAX);
+            for said in nones(&given.unwrap_or_default()) {
+                let was_cut = said.was_cut(job.limits.nodes);
+                counts[usize::from(said.cut) + usize::from(was_cut)] += 1;
+            }
+        }
+        assert!(counts.iter().all(|&count| count > 80), "{name}: {counts:?}");
+    }
 }
 
 #[test]

@@ -9,14 +9,16 @@ const D: &str = "+ 0 v0";
 const NO_LIMITS: Limits = ["0"; 4];
 const OUT_OF_SLOTS: Due = Ok("answer=refused\nnumber=7\n");
 
-/// The sides of case D at steps 1, and of two equations without a limit above 0.
+/// The sides of case D at steps 1 and at nodes 1, and of three equations without a limit above 0.
 const D2_NONE: Due = none!("v0", "+ 0 v0", "1", "no");
-const LOW_NONE: Due = none!("v0", "+ v1 + v2 v3", "0", "yes");
-const HIGH_NONE: Due = none!("v0", "+ v4 + v5 v6", "0", "yes");
-const ORIENTED_NONE: Due = none!("v0", "v1", "0", "yes");
+const D3_NONE: Due = none!("v0", "+ 0 v0", "1", "yes");
+const LOW_NONE: Due = none!("v0", "+ v1 + v2 v3", "0", "no");
+const HIGH_NONE: Due = none!("v0", "+ v4 + v5 v6", "0", "no");
+const ORIENTED_NONE: Due = none!("v0", "v1", "0", "no");
 
 pub fn cases() -> Vec<Case> {
     let mut all = answered();
+    all.extend(cut());
     all.extend(scarce());
     all.extend(refused());
     all.extend(ordered());
@@ -76,6 +78,38 @@ fn answered() -> Vec<Case> {
             "seven letters, four in each equation",
             several("v0", &["+ v1 + v2 v3", "+ v4 + v5 v6"], NO_LIMITS),
             &[LOW_NONE, HIGH_NONE],
+        ),
+    ]
+}
+
+/// Nones with a term left unopened below the step limit, and without one.
+fn cut() -> Vec<Case> {
+    let of_d = |steps, nodes| several("v0", &[D, A], [steps, "7", "3", nodes]);
+    let of_letters = |nodes| several("v0", &["v1", A, "v2"], ["2", "3", "1", nodes]);
+    let unopened = several("v0", &["v1", "v2"], ["1", "0", "0", "0"]);
+    let scarce = Call {
+        slots: 3,
+        ..of_d("3", "1")
+    };
+    let nones = |first, second| [first, A_PROVED, second];
+    vec![
+        blocks("D3 and A", of_d("3", "1"), &[D3_NONE, A_PROVED]),
+        blocks("D3 and A, one step", of_d("1", "1"), &[D2_NONE, A_PROVED]),
+        blocks("D3 and A, three slots", scarce, &[OUT_OF_SLOTS, A_PROVED]),
+        blocks(
+            "three letters, all opened",
+            of_letters("4"),
+            &nones(none!("v0", "v1", "4", "no"), none!("v0", "v2", "4", "no")),
+        ),
+        blocks(
+            "three letters, one left",
+            of_letters("3"),
+            &nones(none!("v0", "v1", "3", "yes"), none!("v0", "v2", "3", "yes")),
+        ),
+        blocks(
+            "three letters, no nodes",
+            unopened,
+            &[none!("v0", "v1", "0", "yes"), none!("v0", "v2", "0", "yes")],
         ),
     ]
 }
@@ -215,7 +249,7 @@ fn lengths() -> Vec<Case> {
     let sixteen = several("v0", &rights, NO_LIMITS);
     let due = rights
         .iter()
-        .map(|right| format!("answer=none\nleft=v0\nright={right}\nexpanded=0\ncut=yes\n"));
+        .map(|right| format!("answer=none\nleft=v0\nright={right}\nexpanded=0\ncut=no\n"));
     let due = Ok(due.collect());
     vec![
         Case {

@@ -3,6 +3,7 @@
 mod bent;
 mod broken;
 mod chains;
+mod cuts;
 mod derived;
 mod draft;
 mod listed;
@@ -65,7 +66,7 @@ const fn check(name: &'static str, share: usize, what: &'static str, make: Make)
 /// The kinds; the shares of those with one right side make a thousand, of those with several and of those for
 /// CHECK five hundred each.
 #[rustfmt::skip]
-pub const KINDS: [Kind; 45] = [
+pub const KINDS: [Kind; 47] = [
     one("lines", 60, "malformed lines, keys, digits and lengths", broken::lines),
     one("sides", 80, "a side that is no term", refused::sides),
     one("nodes", 40, "sides of 29 nodes and more", refused::nodes),
@@ -76,15 +77,17 @@ pub const KINDS: [Kind; 45] = [
     one("damaged", 110, "good texts with damaged bytes", broken::damaged),
     one("laws", 60, "both sides of one law", searched::laws),
     one("paths", 150, "ends of a chain of 1 to 4 lines", searched::paths),
-    one("pairs", 80, "two random terms", searched::pairs),
-    one("edges", 60, "a limit about what the search takes", searched::edges),
+    one("pairs", 40, "two random terms", searched::pairs),
+    one("cuts", 60, "nodes about the number of terms at a distance below steps", cuts::one),
+    one("edges", 40, "a limit about what the search takes", searched::edges),
     one("slots", 50, "slots about the number needed", searched::slots),
     one("room", 50, "room about the answer's length", searched::room),
     one("words", 40, "up to 324 words a side", listed::words),
     one("renames", 29, "up to six letters to rename", listed::renames),
     one("heavy", 1, "the largest limits, seconds each", searched::heavy),
-    many("plans", 120, "2 to 16 right sides, near and far", plans::plans),
-    many("plan-edges", 35, "a limit about what one right side takes", plans::edges),
+    many("plans", 95, "2 to 16 right sides, near and far", plans::plans),
+    many("plan-cuts", 35, "nodes about the number of terms at a distance below steps", cuts::several),
+    many("plan-edges", 25, "a limit about what one right side takes", plans::edges),
     many("plan-slots", 70, "slots about what one right side needs", plans::slots),
     many("plan-room", 45, "room about all blocks, or the first ones", plans::room),
     many("right-count", 30, "15 right lines and more", spoilt::right_count),

@@ -4,6 +4,7 @@ pub mod check;
 pub mod job;
 pub mod law;
 pub mod line;
+pub mod nones;
 pub mod proof;
 pub mod rename;
 pub mod search;
@@ -69,7 +70,7 @@ pub fn joined(blocks: &[Option<Block>], room: usize) -> Given {
 }
 
 /// The answer if the output holds it.
-pub fn within(room: usize, text: Vec<u8>) -> Given {
+fn within(room: usize, text: Vec<u8>) -> Given {
     if text.len() > room { Err(8) } else { Ok(text) }
 }
 
@@ -81,7 +82,7 @@ fn block(entry: Entry, equation: &Equation, limits: &Limits, slots: usize) -> Op
         Entry::Find => {
             let (left, right) = equation.oriented();
             let outcome = search(left, right, limits, slots)?;
-            (find_text(left, right, limits, &outcome), outcome.noted)
+            (find_text(left, right, &outcome), outcome.noted)
         }
     };
     let text = text.into_bytes();
@@ -89,10 +90,10 @@ fn block(entry: Entry, equation: &Equation, limits: &Limits, slots: usize) -> Op
 }
 
 /// The answer of FIND to one equation.
-fn find_text(left: &Term, right: &Term, limits: &Limits, outcome: &Outcome) -> String {
+fn find_text(left: &Term, right: &Term, outcome: &Outcome) -> String {
     match &outcome.path {
         Some(path) => proved(left, right, path, outcome.expanded),
-        None => none(left, right, outcome.expanded, limits.nodes),
+        None => none(left, right, outcome.expanded, outcome.waits),
     }
 }
 
@@ -124,11 +125,11 @@ fn step_line(step: &Step) -> String {
     )
 }
 
-fn none(left: &Term, right: &Term, expanded: usize, nodes: usize) -> String {
+fn none(left: &Term, right: &Term, expanded: usize, is_cut: bool) -> String {
     format!(
         "answer=none\nleft={}\nright={}\nexpanded={expanded}\ncut={}\n",
         left.show(),
         right.show(),
-        if expanded == nodes { "yes" } else { "no" }
+        if is_cut { "yes" } else { "no" }
     )
 }

@@ -22,6 +22,8 @@ pub struct Outcome {
     pub expanded: usize,
     /// How many terms were noted.
     pub noted: usize,
+    /// Whether a noted term at a distance below steps was left unopened.
+    pub waits: bool,
 }
 
 /// The noted terms in noting order.
@@ -35,6 +37,7 @@ struct Entry {
     distance: usize,
     /// The parent's index and the line on it; none for the start.
     origin: Option<(usize, Line)>,
+    opened: bool,
 }
 
 /// Searches; none if more terms would be noted than there are slots.
@@ -44,6 +47,7 @@ pub fn search(left: &Term, right: &Term, limits: &Limits, slots: usize) -> Optio
             path: Some(vec![step]),
             expanded: 0,
             noted: 0,
+            waits: false,
         });
     }
     let mut noted = Noted::starting_at(left);
@@ -62,6 +66,7 @@ pub fn search(left: &Term, right: &Term, limits: &Limits, slots: usize) -> Optio
         path: found.then(|| noted.path()),
         expanded,
         noted: noted.entries.len(),
+        waits: noted.waits_below(limits.steps),
     })
 }
 
@@ -84,6 +89,7 @@ impl Noted {
             term: left.clone(),
             distance: 0,
             origin: None,
+            opened: false,
         };
         Noted {
             entries: vec![start],
@@ -91,8 +97,9 @@ impl Noted {
         }
     }
 
-    /// Notes the new results of an entry, up to right or one past the slots. Says whether right came up.
+    /// Opens an entry: notes its new results, up to right or one past the slots. Says whether right came up.
     fn open(&mut self, parent: usize, right: &Term, limits: &Limits, slots: usize) -> bool {
+        self.entries[parent].opened = true;
         let distance = self.entries[parent].distance + 1;
         for (line, term) in results(&self.entries[parent].term, limits) {
             if !self.terms.insert(term.clone()) {
@@ -103,12 +110,19 @@ impl Noted {
                 term,
                 distance,
                 origin: Some((parent, line)),
+                opened: false,
             });
             if is_right || self.entries.len() > slots {
                 return is_right;
             }
         }
         false
+    }
+
+    /// Whether any entry at a distance below this one is unopened.
+    fn waits_below(&self, distance: usize) -> bool {
+        let mut unopened = self.entries.iter().filter(|entry| !entry.opened);
+        unopened.any(|entry| entry.distance < distance)
     }
 
     /// The path to the entry noted last.

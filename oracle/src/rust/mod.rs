@@ -12,20 +12,20 @@ use upstream::{
 use crate::plain::{
     job::{Equation, Job, Limits},
     term::{ONE, PRODUCT, SUM, ZERO, part},
-    within,
 };
 use crate::{Entry, Given};
 
-/// The Rust's answer in document 01's text, to each equation by itself. It has no slots; the refusals
-/// are not its own.
-pub fn answer(entry: Entry, job: &[u8], room: usize) -> Given {
+/// The Rust's answer in document 01's text, to each equation by itself. It has no slots, no room and no `cut`;
+/// the refusals are not its own.
+pub fn answer(entry: Entry, job: &[u8]) -> Given {
     let job = Job::read(entry, job)?;
     let blocks = job.equations.iter();
     let blocks = blocks.map(|equation| block(entry, equation, &job.limits));
-    within(room, blocks.collect::<String>().into_bytes())
+    Ok(blocks.collect::<String>().into_bytes())
 }
 
-fn block(entry: Entry, equation: &Equation, limits: &Limits) -> String {
+/// The Rust's answer to one equation, under any limits.
+pub fn block(entry: Entry, equation: &Equation, limits: &Limits) -> String {
     let Equation { left, right } = equation;
     let equation = EquationCandidate::new(tree(left.run()), tree(right.run()));
     let equation = equation.expect("the sides differ");
@@ -53,12 +53,7 @@ fn find_text(equation: &EquationCandidate, limits: &Limits) -> String {
     match result {
         BoundedRewriteResult::Proved(proof) => proved_text(equation, &sides, &proof),
         BoundedRewriteResult::NotProved { nodes_expanded } => {
-            let cut = if nodes_expanded == limits.nodes {
-                "yes"
-            } else {
-                "no"
-            };
-            format!("answer=none\n{sides}expanded={nodes_expanded}\ncut={cut}\n")
+            format!("answer=none\n{sides}expanded={nodes_expanded}\n")
         }
     }
 }
