@@ -59,7 +59,7 @@ fn nothing_waits_below_steps_though_expanded_equals_nodes() {
 }
 
 #[test]
-fn a_term_waits_at_the_last_distance_only() {
+fn a_term_waits_at_the_last_distance_below_steps() {
     for nodes in 1..=3 {
         assert_eq!(said("v0", "v1", [2, 5, 2, nodes]), (nodes, true));
     }
