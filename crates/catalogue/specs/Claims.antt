@@ -1,0 +1,71 @@
+-- What is claimed of every list of calls of PUT and WITHDRAW on one buffer, and of kinds and RENAME's lines.
+use Prim.Native.Nat.{ℕ, _+_}
+use mathlib.Core.Path.{_≡_}
+use mathlib.Core.Logic.{_↔_}
+use mathlib.Core.List.{List, [], _∷_, _++_}
+use lib.ListN.{length, getD}
+use Rattle.terms.specs.Lists.{_∈_}
+use Rattle.text.specs.Bytes.{number}
+use Rattle.text.specs.Answer.{Answer, refused, accepted, field, values}
+use Rattle.text.specs.Rename.{rename-entry}
+use Rattle.catalogue.specs.Catalogue.{Entry, Catalogue, empty, held, kinds, left-by}
+use Rattle.catalogue.specs.Calls.{Call, Stands, accepted-calls}
+use Rattle.catalogue.specs.Texts.{Key, raw, worded, key-name, Kind, same-kind, Text, read-call, read-put, sent}
+use Rattle.catalogue.specs.Stored.{COUNT, LENGTH, Holds, SentCall}
+
+-- a buffer that a host has made: of the stated length, with zeros only
+pub record Zeros (cat : List ℕ) : Type 0 where
+  pub size : length cat ≡ LENGTH
+  pub zero : (i : ℕ) → getD cat i 0 ≡ 0
+
+-- a list of calls that returned rs, each with the buffer that the one before it left
+pub data Played : (cat : List ℕ) → List Text → (rs : List ℕ) → (cat′ : List ℕ) → Type 0 where
+  end : {cat : List ℕ} → Played cat [] [] cat
+  call : {cat cat′ cat″ : List ℕ} {t : Text} {ts : List Text} {r : ℕ} {rs : List ℕ} → SentCall t cat r cat′ → Played cat′ ts rs cat″
+      → Played cat (t ∷ ts) (r ∷ rs) cat″
+
+-- the calls that the texts ask for; a text that is refused asks for none
+unfoldable pub calls-in : List Text → List (Call Kind)
+unfolding read-call
+calls-in [] = []
+calls-in (t ∷ ts) = elim (read-call t) [ refused n ↦ calls-in ts | accepted x ↦ x ∷ calls-in ts ]
+
+-- 100 plus the count of kinds then held, made afresh, or the refusal
+abbrev pub returned-afresh : Answer (Catalogue Kind) → ℕ
+returned-afresh (refused n) = n
+returned-afresh (accepted c) = 100 + kinds same-kind (held (c .places))
+
+-- what the calls return, one after another
+unfoldable pub all-returned : List Text → Catalogue Kind → List ℕ
+unfolding sent
+all-returned [] c = []
+all-returned (t ∷ ts) c = returned-afresh (sent t c) ∷ all-returned ts (left-by c (sent t c))
+
+-- after every list of calls from zeros
+pub record Kept (ts : List Text) (rs cat′ : List ℕ) : Type 0 where
+  pub catalogue : Catalogue Kind
+  pub holds : Holds cat′ catalogue
+  -- each returned 100 plus the count of kinds then held, or its refusal
+  pub returns : rs ≡ all-returned ts empty
+  -- the entries held are those accepted and not withdrawn since
+  pub entries : (e : Entry Kind) → (e ∈ held (catalogue .places)) ↔ Stands e (accepted-calls same-kind (calls-in ts) empty)
+  -- and the kept count equals a count of their kinds made afresh
+  pub count : getD cat′ COUNT 0 ≡ kinds same-kind (held (catalogue .places))
+
+-- the lines of RENAME's answer that a key goes by
+abbrev pub lines-under : Key → List ℕ → List (List ℕ)
+lines-under raw t = values "left=" t ++ values "right=" t
+lines-under worded t = values "wleft=" t ++ values "wright=" t
+
+-- a put's text, the entry that it puts, and what RENAME answers to the job in it
+pub record PutOf (bs : List ℕ) (e : Entry Kind) (t : List ℕ) : Type 0 where
+  pub job : List ℕ
+  pub text : bs ≡ field "number=" (number (e .number)) ++ (field "key=" (key-name (e .kind .key)) ++ job)
+  pub read : read-put bs ≡ accepted e
+  pub room : ℕ
+  pub renamed : rename-entry job room ≡ accepted t
+
+-- two entries are of one kind exactly when key and RENAME's printed lines agree
+abbrev pub OneKind : Type 0
+OneKind = (bs cs : List ℕ) (e f : Entry Kind) (t u : List ℕ) → PutOf bs e t → PutOf cs f u
+    → (e .kind ≡ f .kind) ↔ ((e .kind .key ≡ f .kind .key) × (lines-under (e .kind .key) t ≡ lines-under (f .kind .key) u))

@@ -1,0 +1,7 @@
+-- The definitions of the crate, each file by itself, and in Theory what is proved of them.
+pub mod Catalogue
+pub mod Calls
+pub mod Texts
+pub mod Stored
+pub mod Claims
+pub mod Cases
