@@ -62,7 +62,7 @@ pub record DifferentLines (left right lines : List ℕ) : Type 0 where
   pub second : List Word
   pub left-spelled : left ≡ spelled first
   pub right-spelled : right ≡ spelled second
-  pub differ : first ≡ second → ⊥
+  pub some : first ≡ [] → second ≡ [] → ⊥
   pub is : lines ≡ word-lines (word-list first) (word-list second)
 
 abbrev pub Lines : Key → (left right lines : List ℕ) → Type 0
