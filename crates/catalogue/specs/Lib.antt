@@ -3,5 +3,6 @@ pub mod Catalogue
 pub mod Calls
 pub mod Texts
 pub mod Stored
+pub mod Promises
 pub mod Claims
 pub mod Cases
