@@ -1,1 +1,4 @@
 -- Laws that the proofs share.
+pub mod Walking
+pub mod Comparing
+pub mod Reading

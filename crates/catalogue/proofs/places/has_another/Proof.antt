@@ -1,3 +1,10 @@
+-- `has_another` meets its contract.
+use Prim.Native.Nat.{_-_, _≤_}
+use native.Mathlib.Omega.{arith}
+use Rattle.catalogue.specs.Catalogue.{PLACES}
+use Rattle.catalogue.specs.Promises.{OtherOf}
+use Rattle.catalogue.proofs.Walking.{NoneOf, none-yet, none-next}
+use Rattle.catalogue.proofs.Comparing.{refuted, confirmed}
 use borrow.Author.Needs.{needs}
 use Rattle.catalogue.proofs.places.has_another.Statement.{statement}
 use Rattle.catalogue.proofs.places.has_another.Tie as tie
@@ -6,14 +13,14 @@ use Rattle.catalogue.proofs.places.has_another.Lts as lts
 use Rattle.catalogue.proofs.places.is_another.Reads as is-another-reads
 
 abbrev Inv-loop : tie.InvT-loop
-Inv-loop cat but key left right k₀ k = ?
+Inv-loop cat but key left right k₀ k = (k ≤ PLACES) × NoneOf (OtherOf cat but key left right) k
 
 abbrev μ-loop : tie.MeasureT-loop
-μ-loop cat but key left right k₀ k = ?
+μ-loop cat but key left right k₀ k = PLACES - k
 
 -- src/places.rt:95:5
 loop-holds : tie.Need-loop-holds Inv-loop μ-loop
-loop-holds c = search needs
+loop-holds c = (omega arith, none-yet _)
 
 -- src/places.rt:96:12
 is-another-requires : tie.Need-is-another-requires Inv-loop μ-loop
@@ -21,7 +28,9 @@ is-another-requires c κs = search needs
 
 -- src/places.rt:97:13
 returns : tie.Need-returns Inv-loop μ-loop
-returns c = search needs
+returns c =
+    let l = c .before .before .before in
+    (l .loop .k, c .before .before .loop-test .taken, confirmed (c .before .is-another .result) (c .before .is-another .ensures) (c .if1 .taken))
 
 -- src/places.rt:99:9
 add-k : tie.Need-add-k Inv-loop μ-loop
@@ -33,11 +42,11 @@ loop-less c = search needs
 
 -- src/places.rt:95:5
 loop-again : tie.Need-loop-again Inv-loop μ-loop
-loop-again c = search needs
+loop-again c = (omega arith, none-next _ _ (c .before .before .before .loop .inv .1) (refuted (c .before .is-another .result) (c .before .is-another .ensures) (c .if1 .left)))
 
 -- src/places.rt:90:1
 returns-2 : tie.Need-returns-2 Inv-loop μ-loop
-returns-2 c = search needs
+returns-2 c = λ (k, h, o). c .before .loop .inv .1 k (omega arith) o
 
 pub has-another-spec : {M : Type 1} → statement M
 has-another-spec =

@@ -1,3 +1,6 @@
+-- `has_kind_at` meets its contract.
+use Rattle.catalogue.proofs.Comparing.{refuted, confirmed, left-differs, kind-compared}
+use borrow.Author.Tests.{not-true, not-false}
 use borrow.Author.Needs.{needs}
 use Rattle.catalogue.proofs.places.has_kind_at.Statement.{statement}
 use Rattle.catalogue.proofs.places.has_kind_at.Tie as tie
@@ -39,7 +42,9 @@ has-list-requires c κs = search needs
 
 -- src/places.rt:70:9
 returns-2 : tie.Need-returns-2
-returns-2 c = search needs
+returns-2 c =
+    let a = c .before .before .before .before .before .before .before .args in
+    left-differs (a .cat .now) (a .k) (a .key) (a .left .now) (a .right .now) (refuted (c .before .has-list .result) (c .before .has-list .ensures) (not-true _ (c .if2 .taken)))
 
 -- src/places.rt:72:19
 add-has-list-3 : tie.Need-add-has-list-3
@@ -55,7 +60,11 @@ has-list-requires-2 c κs = search needs
 
 -- src/places.rt:61:1
 returns-3 : tie.Need-returns-3
-returns-3 c = search needs
+returns-3 c =
+    let l = c .before .before in
+    let a = l .before .before .before .before .before .before .args in
+    kind-compared (a .cat .now) (a .k) (a .key) (a .left .now) (a .right .now) (c .has-list2 .result) (l .before .if1 .left)
+    (confirmed (l .has-list .result) (l .has-list .ensures) (not-false _ (c .before .if2 .left))) (c .has-list2 .ensures)
 
 pub has-kind-at-spec : {M : Type 1} → statement M
 has-kind-at-spec =

@@ -1,3 +1,6 @@
+-- `has_list` meets its contract.
+use native.Mathlib.Omega.{arith}
+use Rattle.catalogue.proofs.Comparing.{list-compared}
 use borrow.Author.Needs.{needs}
 use Rattle.catalogue.proofs.places.has_list.Statement.{statement}
 use Rattle.catalogue.proofs.places.has_list.Tie as tie
@@ -15,7 +18,7 @@ shared-slice-read-n c = search needs
 
 -- src/places.rt:52:13
 cast-n : tie.Need-cast-n
-cast-n c = search needs
+cast-n c = omega (arith, c .shared-slice-known3 .given (c .before .before .before .args .size))
 
 -- src/places.rt:54:9
 returns : tie.Need-returns
@@ -47,7 +50,9 @@ equal-by-fours-requires c κs = search needs
 
 -- src/places.rt:48:1
 returns-2 : tie.Need-returns-2
-returns-2 c = search needs
+returns-2 c =
+    let a = c .before .before .before .before .before .before .args in
+    list-compared (a .cat .now) (a .size) (a .from) (a .list .now) (c .equal-by-fours .result) (c .before .before .if1 .left) (c .equal-by-fours .ensures)
 
 pub has-list-spec : {M : Type 1} → statement M
 has-list-spec =

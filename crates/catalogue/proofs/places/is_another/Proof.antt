@@ -1,3 +1,5 @@
+-- `is_another` meets its contract.
+use Rattle.catalogue.proofs.Comparing.{another-compared}
 use borrow.Author.Needs.{needs}
 use Rattle.catalogue.proofs.places.is_another.Statement.{statement}
 use Rattle.catalogue.proofs.places.is_another.Tie as tie
@@ -31,7 +33,10 @@ has-kind-at-requires c κs = search needs
 
 -- src/places.rt:76:1
 returns-3 : tie.Need-returns-3
-returns-3 c = search needs
+returns-3 c =
+    let a = c .before .before .before .before .before .before .before .args in
+    another-compared (a .cat .now) (a .k) (a .key) (a .left .now) (a .right .now) (a .but) (c .has-kind-at .result) (c .before .before .before .if1 .left)
+    (c .before .if2 .left) (c .has-kind-at .ensures)
 
 pub is-another-spec : {M : Type 1} → statement M
 is-another-spec =
