@@ -5,3 +5,4 @@ pub mod Texts
 pub mod Stored
 pub mod Claims
 pub mod Cases
+pub mod Theory
