@@ -4,6 +4,7 @@ use Prim.Native.Nat.{ℕ, _+_, _*_}
 use native.Mathlib.Omega.{arith}
 use mathlib.Core.Path.{_≡_, refl, sym, ap, ap₂, subst, _∙_}
 use mathlib.Core.Logic.{_↔_, inl, inr}
+use mathlib.Core.Bool.{true}
 use mathlib.Core.Option.{Option, none, some}
 use mathlib.Core.List.{List, []}
 use lib.ListN.{take, drop, getD, getD-replicate}
@@ -12,6 +13,7 @@ use Rattle.terms.specs.Term.{Term}
 use Rattle.terms.specs.Held.{IsRun}
 use Rattle.terms.specs.Numbers.{read-run}
 use Rattle.terms.specs.Run.{run}
+use Rattle.terms.specs.Theory.Reflects.{reflects-true}
 use Rattle.terms.specs.Theory.ReadRun.{run-read}
 use Rattle.words.specs.Spelled.{spelled}
 use Rattle.words.specs.Theory.Spelled.{spelled-equal}
@@ -21,8 +23,9 @@ use Rattle.text.specs.Theory.Printed.{term-lines-apart, word-lines-apart, dash-
 use Rattle.catalogue.specs.Catalogue.{PLACES, Entry, Catalogue, empty}
 use Rattle.catalogue.specs.Calls.{Sound}
 use Rattle.catalogue.specs.Texts.{Key, raw, worded, Kind, same-kind}
-use Rattle.catalogue.specs.Stored.{PLACE, COUNT, key-number, RawLines, DifferentLines, Lines, Stored, At, Holds}
+use Rattle.catalogue.specs.Stored.{PLACE, COUNT, key-number, RawLines, DifferentLines, Lines, KindAt, Stored, At, Holds}
 use Rattle.catalogue.specs.Claims.{Zeros}
+use Rattle.catalogue.specs.Theory.Texts.{kinds-told}
 
 -- zeros are an empty catalogue
 pub zeros-hold : {cat : List ℕ} → Zeros cat → Holds cat empty
@@ -85,7 +88,7 @@ module _ {l r bs l′ r′ bs′ : List ℕ} where
   lines-apart raw L M = raw-apart L M
   lines-apart worded L M = words-apart L M
 
--- a buffer tells its catalogue
+-- a place tells its kind
 
 key-told : (k l : Key) → key-number k ≡ key-number l → k ≡ l
 key-told raw raw e = refl
@@ -93,18 +96,45 @@ key-told raw worded e = absurd (omega arith)
 key-told worded raw e = absurd (omega arith)
 key-told worded worded e = refl
 
+module _ (cat : List ℕ) (j : ℕ) where
+  kind-once : {m n : ℕ} {l r l′ r′ : List ℕ} → KindAt cat j m l r → KindAt cat j n l′ r′ → (m ≡ n) × (l ≡ l′) × (r ≡ r′)
+  kind-once K M = (
+    sym (K .key) ∙ M .key,
+    sym (K .left-numbers) ∙ ap (λ n. take n (drop (PLACE * j + 8) cat)) (sym (K .left-size) ∙ M .left-size) ∙ M .left-numbers,
+    sym (K .right-numbers) ∙ ap (λ n. take n (drop (PLACE * j + 2708) cat)) (sym (K .right-size) ∙ M .right-size) ∙ M .right-numbers,
+  )
+
+  -- two lists that stand for lines are the place's exactly when the entry there is of that kind
+  pub kind-told : {e : Entry Kind} → Stored cat j e → (k : Kind) {l r : List ℕ} → Lines (k .key) l r (k .lines) → (k ≡ e .kind) ↔ KindAt cat j (key-number (k .key)) l r
+  kind-told {e} S k {l} {r} L = (
+    λ p.
+        let M = subst (λ m. Lines (m .key) (S .left) (S .right) (m .lines)) (sym p) (S .lines) in
+        let (q, s) = lines-apart (k .key) L M .0 refl in
+        rw (p, q, s) (S .kind),
+    λ K.
+        let (n, q, s) = kind-once K (S .kind) in
+        let key : k .key ≡ e .kind .key = key-told (k .key) (e .kind .key) n in
+        let M = subst (λ key. Lines key (S .left) (S .right) (e .kind .lines)) (sym key) (S .lines) in
+        let lines : k .lines ≡ e .kind .lines = lines-apart (k .key) L M .1 (q, s) in
+        λ i. record { key = key i; lines = lines i },
+  )
+
+  -- and by the test of kinds
+  pub kind-tested : {e : Entry Kind} → Stored cat j e → (k : Kind) {l r : List ℕ} → Lines (k .key) l r (k .lines)
+      → (same-kind k (e .kind) ≡ true) ↔ KindAt cat j (key-number (k .key)) l r
+  kind-tested {e} S k L =
+      let (from, to) = reflects-true (k ≡ e .kind) (same-kind k (e .kind)) (kinds-told .test k (e .kind)) in
+      let (have, told) = kind-told S k L in
+      (λ t. have (from t), λ K. to (told K))
+
+-- a buffer tells its catalogue
+
 module _ (cat : List ℕ) (k : ℕ) where
   stored-once : {e f : Entry Kind} → Stored cat k e → Stored cat k f → e ≡ f
   stored-once {e} {f} S R =
       let number : e .number ≡ f .number = sym (S .number) ∙ R .number in
-      let key : e .kind .key ≡ f .kind .key = key-told (e .kind .key) (f .kind .key) (sym (S .kind .key) ∙ R .kind .key) in
-      let left : S .left ≡ R .left =
-      sym (S .kind .left-numbers) ∙ ap (λ n. take n (drop (PLACE * k + 8) cat)) (sym (S .kind .left-size) ∙ R .kind .left-size) ∙ R .kind .left-numbers in
-      let right : S .right ≡ R .right =
-      sym (S .kind .right-numbers) ∙ ap (λ n. take n (drop (PLACE * k + 2708) cat)) (sym (S .kind .right-size) ∙ R .kind .right-size) ∙ R .kind .right-numbers in
-      let lines : e .kind .lines ≡ f .kind .lines =
-      lines-apart (e .kind .key) (S .lines) (subst (λ key. Lines key (R .left) (R .right) (f .kind .lines)) (sym key) (R .lines)) .1 (left, right) in
-      λ i. record { number = number i; kind = record { key = key i; lines = lines i } }
+      let kind : e .kind ≡ f .kind = kind-told cat k R (e .kind) (S .lines) .1 (S .kind) in
+      λ i. record { number = number i; kind = kind i }
 
   place-once : (p q : Option (Entry Kind)) → At cat k p → At cat k q → p ≡ q
   place-once none none A B = refl
