@@ -3,6 +3,7 @@ pub mod Catalogue
 pub mod Calls
 pub mod Texts
 pub mod Stored
+pub mod Promises
 pub mod Claims
 pub mod Cases
 pub mod Theory

@@ -114,18 +114,25 @@ abbrev pub call-numbers : Text → List ℕ
 call-numbers (put-text bs) = 99 ∷ (job-numbers ++ (13 ∷ 15 ∷ []))
 call-numbers (withdraw-text bs) = 99 ∷ 1 ∷ 14 ∷ []
 
--- what a call of PUT or WITHDRAW promises of the numbers before and after it, and of its number r
-pub record SentCall (t : Text) (cat : List ℕ) (r : ℕ) (cat′ : List ℕ) : Type 0 where
-  -- of a catalogue as it should be the call is a step
-  pub number : (c : Catalogue Kind) → Holds cat c → Sound same-kind c → r ≡ returned (sent t c)
-  pub after : (c : Catalogue Kind) → Holds cat c → Sound same-kind c → Holds cat′ (left-by c (sent t c))
-  -- whatever the buffer held: a refused call leaves it unchanged, to the last number
+-- of a call that returned r, with one of these numbers if it was refused, whatever the buffer held
+pub record Harmless (ns cat : List ℕ) (r : ℕ) (cat′ : List ℕ) : Type 0 where
+  -- a refused call leaves the catalogue unchanged, to the last number
   pub untouched : r < 100 → cat′ ≡ cat
-  -- a refusal has one of its numbers
-  pub numbered : r < 100 → r ∈ call-numbers t
-  -- a text that is refused by 1 to 6, or a withdrawal's by 1, is refused so
+  pub numbered : r < 100 → r ∈ ns
+  -- an accepted one writes to one place and to the kept count alone
+  pub elsewhere : (k : ℕ) × (k < PLACES) × Elsewhere cat cat′ k
+
+-- a call that is a step of the catalogue c
+pub record Step (c : Catalogue Kind) (answer : Answer (Catalogue Kind)) (r : ℕ) (cat′ : List ℕ) : Type 0 where
+  pub number : r ≡ returned answer
+  pub after : Holds cat′ (left-by c answer)
+
+-- a call of PUT or WITHDRAW: the numbers before and after it, and its number r
+pub record SentCall (t : Text) (cat : List ℕ) (r : ℕ) (cat′ : List ℕ) : Type 0 where
+  -- on a catalogue as it should be
+  pub step : (c : Catalogue Kind) → Holds cat c → Sound same-kind c → Step c (sent t c) r cat′
+  pub harmless : Harmless (call-numbers t) cat r cat′
+  -- whatever the buffer held: a text that is refused by 1 to 6, or a withdrawal's by 1, is refused so
   pub text : (n : ℕ) → length cat ≡ LENGTH → read-call t ≡ refused n → r ≡ n
   -- a buffer of another length is answered by 99
   pub other : (length cat ≡ LENGTH → ⊥) → r ≡ 99
-  -- an accepted call writes to one place and to the kept count alone
-  pub elsewhere : (k : ℕ) × (k < PLACES) × Elsewhere cat cat′ k

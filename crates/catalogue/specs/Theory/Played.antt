@@ -23,9 +23,10 @@ pub played : {cat cat′ : List ℕ} {ts : List Text} {rs : List ℕ} (c : Catal
 unfolding after-texts all-returned
 played c h S end = (h, refl)
 played c h S (call {t = t} s p) =
+    let step = s .step c h S in
     let S′ = sent-sound t S in
-    let (k, e) = played (left-by c (sent t c)) (s .after c h S) S′ p in
-    (k, ap₂ _∷_ (s .number c h S ∙ returns-afresh c (sent t c) S′) e)
+    let (k, e) = played (left-by c (sent t c)) (step .after) S′ p in
+    (k, ap₂ _∷_ (step .number ∙ returns-afresh c (sent t c) S′) e)
 
 pub zeros-played : {cat cat′ : List ℕ} {ts : List Text} {rs : List ℕ} → Zeros cat → Played cat ts rs cat′ → Kept ts rs cat′
 zeros-played {ts = ts} z p =

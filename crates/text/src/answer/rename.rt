@@ -78,7 +78,7 @@ fn answer_renamed(out: &mut [u8], a: &[u32], b: &[u32], same: bool, u: &[u32], v
 }
 
 // Whether the words of two terms agree.
-fn same_words(left: &[u32], right: &[u32]) -> bool
+pub fn same_words(left: &[u32], right: &[u32]) -> bool
     ensures { λ r. ⌜ ((s t : Term) → IsRun (now (left .entry)) s → IsRun (now (right .entry)) t → size s ≤ 31 → size t ≤ 31 → r ≡ isEq (order-lists (words s) (words t))) ⌝ }
 {
     let mut a = [0u32; ROOM];
@@ -93,7 +93,13 @@ fn same_words(left: &[u32], right: &[u32]) -> bool
 }
 
 // The lists of words renamed into two buffers: nothing where they agree, since none is put then.
-fn renamed_lists(left: &[u32], right: &[u32], same: bool, u: &mut [u32], v: &mut [u32]) -> Lengths
+pub fn renamed_lists(
+    left: &[u32],
+    right: &[u32],
+    same: bool,
+    u: &mut [u32],
+    v: &mut [u32],
+) -> Lengths
     ensures { λ r. ⌜ (same ≡ false → CanonicalWords (now (left .entry)) (now (right .entry)) (now (u .entry)) (now (v .entry)) r (now (u .exit)) (now (v .exit))) ⌝ }
 {
     if same {

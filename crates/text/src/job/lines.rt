@@ -15,7 +15,7 @@ const LARGEST: u32 = 4096;
 const OVER: u32 = 4097;
 
 // The number of a limit, and where the next line starts.
-enum Limit {
+pub enum Limit {
     Is(u32, usize),
     Malformed,
 }
@@ -52,7 +52,7 @@ pub enum Laid {
 }
 
 // The limit in the line that starts at a position with a key. A number too large is no reason to stop: a later line may be malformed, which is refused first.
-fn limit_line(s: &[u8], from: usize, key: &[u8]) -> Limit
+pub fn limit_line(s: &[u8], from: usize, key: &[u8]) -> Limit
     requires { ⌜ from ≤ length (now s) ⌝ }
     ensures { λ r. ⌜ LimitIn (now (s .entry)) from (now (key .entry)) r ⌝ }
 {
