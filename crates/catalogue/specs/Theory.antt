@@ -11,5 +11,6 @@ pub mod ByPlace
 pub mod Rewritten
 pub mod Played
 pub mod Served
+pub mod Steps
 pub mod Written
 pub mod Renamed

@@ -2,7 +2,7 @@
 use Prim.Native.Nat.{ℕ, zero as 0ℕ, suc, _≤_, _<_}
 use native.Mathlib.Omega.{arith}
 use mathlib.Core.Path.{_≡_, refl, ap, _∙_}
-use mathlib.Core.Bool.{Bool, true, false}
+use mathlib.Core.Bool.{Bool, true, false, false≢true}
 use mathlib.Core.Option.{Option, none, some}
 use mathlib.Core.List.{List, [], _∷_}
 use lib.Dec.{eqb}
@@ -146,3 +146,16 @@ module _ {K : Type 0} where
         go : (b : Bool) → same k (d .kind) ≡ b → has-kind same k (held ps) ≡ false → elim b [ true ↦ true | false ↦ has-kind same k (held ps) ] ≡ false
         go true p rest = absurd (f 0 (omega arith) d refl p)
         go false p rest = rest
+
+    -- where it is found
+    pub kind-found : (ps : List (Option (Entry K))) → has-kind same k (held ps) ≡ true → (i : ℕ) × (e : Entry K) × (at ps i ≡ some e) × Alike e
+    unfolding held has-kind
+    kind-found [] t = absurd (false≢true t)
+    kind-found (none ∷ ps) t = let (i, e, a, m) = kind-found ps t in (suc i, e, a, m)
+    kind-found (some d ∷ ps) t = go (same k (d .kind)) refl t (kind-found ps)
+      where
+        go : (b : Bool) → same k (d .kind) ≡ b → elim b [ true ↦ true | false ↦ has-kind same k (held ps) ] ≡ true
+            → (has-kind same k (held ps) ≡ true → (i : ℕ) × (e : Entry K) × (at ps i ≡ some e) × Alike e)
+            → (i : ℕ) × (e : Entry K) × (at (some d ∷ ps) i ≡ some e) × Alike e
+        go true p t rest = (0, d, refl, p)
+        go false p t rest = let (i, e, a, m) = rest t in (suc i, e, a, m)

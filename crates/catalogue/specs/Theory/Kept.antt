@@ -48,7 +48,8 @@ module _ {K : Type 0} where
       (rw (B .without, map-append) d′, rw (B .without, map-append) h)
 
 module _ {K : Type 0} {same : K → K → Bool} (tells : Tells same) where
-  kinds-with : {before after : List (Entry K)} {e : Entry K} → Between before e after → kinds same after ≡ fresh same (e .kind) before + kinds same before
+  -- one entry more counts where its kind is new
+  pub kinds-with : {before after : List (Entry K)} {e : Entry K} → Between before e after → kinds same after ≡ fresh same (e .kind) before + kinds same before
   kinds-with {e = e} B = rw (B .with, B .without) (kinds-middle tells (B .front) e (B .behind))
 
   -- what holds of a catalogue that a put or a withdrawal leaves
