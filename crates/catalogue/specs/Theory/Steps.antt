@@ -14,7 +14,8 @@ use Rattle.catalogue.specs.Catalogue.{PLACES, Entry, Catalogue, held, en
 use Rattle.catalogue.specs.Calls.{Sound}
 use Rattle.catalogue.specs.Texts.{Key, Kind, same-kind}
 use Rattle.catalogue.specs.Stored.{COUNT, key-number, Lines, number-at, Stored, At, Holds, Step}
-use Rattle.catalogue.specs.Promises.{AnotherOf, PutsAt, Listed, entry, TakesOut}
+use Rattle.catalogue.specs.Promises.{Seeks, AnotherOf, PutsAt, Listed, entry, TakesOut}
+use Rattle.catalogue.specs.declared.places.Place.the-variants as place
 use Rattle.catalogue.specs.Theory.Kinds.{kinds-bound}
 use Rattle.catalogue.specs.Theory.Places.{take-between}
 use Rattle.catalogue.specs.Theory.Kept.{kinds-with}
@@ -40,14 +41,6 @@ unfolding fresh
 fresh-new same k es e = rw (e, fresh)
 
 module _ {cat : List ℕ} {c : Catalogue Kind} (H : Holds cat c) (S : Sound same-kind c) where
-  -- no place has the number
-  abbrev pub Nowhere : ℕ → Type 0
-  Nowhere n = (j : ℕ) → j < PLACES → number-at cat j ≡ n → ⊥
-
-  -- place k is the first that has it
-  abbrev pub First : ℕ → ℕ → Type 0
-  First n k = (k < PLACES) × (number-at cat k ≡ n) × ((j : ℕ) → j < k → number-at cat j ≡ n → ⊥)
-
   -- what a place has
 
   stored-at : (j : ℕ) → j < PLACES → {e : Entry Kind} → at (c .places) j ≡ some e → Stored cat j e
@@ -72,18 +65,18 @@ module _ {cat : List ℕ} {c : Catalogue Kind} (H : Holds cat c) (S : Sound same
 
   -- refusals: 13 and 15 of a put, 14 of a withdrawal
 
-  unlisted : (n : ℕ) → Nowhere n → (entry-of n (held (c .places)) ≡ none) × (listed n (held (c .places)) ≡ false)
+  unlisted : (n : ℕ) → Seeks cat n place.Nowhere → (entry-of n (held (c .places)) ≡ none) × (listed n (held (c .places)) ≡ false)
   unlisted n out =
       unlisted-at n (c .places) (λ j i e a m. let h : j < PLACES = omega (arith, S .places) in out j h (stored-at j h a .number ∙ m))
 
-  pub put-listed : (e : Entry Kind) (k : ℕ) → k < PLACES → number-at cat k ≡ e .number → 0 < e .number → put same-kind e c ≡ refused 13
+  pub put-listed : (e : Entry Kind) (k : ℕ) → 0 < e .number → Seeks cat (e .number) (place.At k) → put same-kind e c ≡ refused 13
   unfolding put _>>=_ require
-  put-listed e k h number pos =
+  put-listed e k pos (h, number, _) =
       let (d, a) = number-entry k h (omega arith) in
       let found : listed (e .number) (held (c .places)) ≡ true = listed-at (e .number) (c .places) k d a (sym (stored-at k h a .number) ∙ number) in
       rw found
 
-  pub put-full : (e : Entry Kind) → Nowhere (e .number) → Nowhere 0 → put same-kind e c ≡ refused 15
+  pub put-full : (e : Entry Kind) → Seeks cat (e .number) place.Nowhere → Seeks cat 0 place.Nowhere → put same-kind e c ≡ refused 15
   unfolding put _>>=_ require
   put-full e out full =
       let all : length (held (c .places)) ≡ length (c .places) =
@@ -91,7 +84,7 @@ module _ {cat : List ℕ} {c : Catalogue Kind} (H : Holds cat c) (S : Sound same
       let (_, new) = unlisted (e .number) out in
       rw (new, le-ltb (length (held (c .places))) PLACES (omega (arith, S .places)))
 
-  pub withdraw-unlisted : (n : ℕ) → Nowhere n → withdraw same-kind n c ≡ refused 14
+  pub withdraw-unlisted : (n : ℕ) → Seeks cat n place.Nowhere → withdraw same-kind n c ≡ refused 14
   unfolding withdraw _>>=_ or-refuse
   withdraw-unlisted n out = let (none-such, _) = unlisted n out in rw none-such
 
@@ -114,14 +107,14 @@ module _ {cat : List ℕ} {c : Catalogue Kind} (H : Holds cat c) (S : Sound same
   -- ---- a put into the first free place
 
   module _ {n : ℕ} {key : Key} {left right lines : List ℕ} (L : Listed key left right lines) (pos : 0 < n) where
-    pub put-step : (k : ℕ) → First 0 k → Nowhere n → {r : ℕ} {cat′ : List ℕ} → PutsAt cat k n (key-number key) left right r cat′
+    pub put-step : (k : ℕ) → Seeks cat 0 (place.At k) → Seeks cat n place.Nowhere → {r : ℕ} {cat′ : List ℕ} → PutsAt cat k n (key-number key) left right r cat′
         → Step c (put same-kind (entry n key lines) c) r cat′
     put-step k (h, free, filled) out {r} {cat′} P =
         accepted-step {d = d} (put-accepted same-kind e c (unlisted n out .1) (omega (arith, room-at (c .places) k (omega (arith, S .places)) empty, S .places)))
         (P .returns ∙ ap (λ m. 100 + m) count)
         (subst (λ ps. Holds cat′ (record { places = ps; kept = c .kept + fresh same-kind (e .kind) (held (c .places)) }))
         (sym (put-at e (c .places) k (omega (arith, S .places)) empty (λ j i a. filled j i (free-number j (omega arith) a))))
-        (rewritten k h (S .places) H (P .elsewhere) (some e) place (c .kept + fresh same-kind (e .kind) (held (c .places))) count))
+        (rewritten k h (S .places) H (P .elsewhere) (some e) stored (c .kept + fresh same-kind (e .kind) (held (c .places))) count))
       where
         e : Entry Kind
         e = entry n key lines
@@ -132,8 +125,8 @@ module _ {cat : List ℕ} {c : Catalogue Kind} (H : Holds cat c) (S : Sound same
         empty : at (c .places) k ≡ none
         empty = number-free k h free
 
-        place : Stored cat′ k e
-        place =
+        stored : Stored cat′ k e
+        stored =
             record {
               number = P .number;
               listed = pos;
@@ -171,7 +164,7 @@ module _ {cat : List ℕ} {c : Catalogue Kind} (H : Holds cat c) (S : Sound same
 
   -- ---- a withdrawal from the first place with the number
 
-  pub withdraw-step : (n k : ℕ) → 0 < n → First n k → {r : ℕ} {cat′ : List ℕ} → TakesOut cat k r cat′ → Step c (withdraw same-kind n c) r cat′
+  pub withdraw-step : (n k : ℕ) → 0 < n → Seeks cat n (place.At k) → {r : ℕ} {cat′ : List ℕ} → TakesOut cat k r cat′ → Step c (withdraw same-kind n c) r cat′
   unfolding withdraw _>>=_ or-refuse
   withdraw-step n k pos (h, number, before) {r} {cat′} W =
       accepted-step {d = d} (rw found) (W .returns ∙ ap (λ m. 100 + m) count)
