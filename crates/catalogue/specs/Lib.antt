@@ -6,3 +6,4 @@ pub mod Stored
 pub mod Promises
 pub mod Claims
 pub mod Cases
+pub mod Theory

@@ -21,7 +21,7 @@ use Rattle.text.specs.Answer.{Answer, refused, accepted, _>>=_, require,
 use Rattle.text.specs.Job.{Job, in-range, few, oriented}
 use Rattle.text.specs.FindJob.{Repeated, repeated, Layouts, layouts, alone-text, alone-texts, read-terms, every, several, in-place, accept-each, read-find}
 use Rattle.text.specs.Find.{alone, block, together, find}
-use Rattle.text.specs.Theory.Accepted.{If-accepted, accepted-then, required-then}
+use Rattle.text.specs.Theory.Accepted.{If-accepted, accepted-then, required-then, or-refuse-some}
 use Rattle.text.specs.Theory.Keyed.{some-then, Read, KeyedParts, keyed-parts}
 use Rattle.text.specs.Theory.OneRight.{layout-layouts}
 use Rattle.text.specs.Theory.FindJobs.{Passed, accept-each-then}
@@ -169,11 +169,6 @@ read-each text job (b ∷ bs) ts e same =
       same b u (here refl) (rw (← q) (here refl)) read-first,
       read-each text job bs us read-rest (λ c t i k. same c t (there i) (rw (← q) (there k))),
     )
-
-or-refuse-some : {A : Type 0} (n : ℕ) (o : Option A) (x : A) → or-refuse n o ≡ accepted x → o ≡ some x
-unfolding or-refuse
-or-refuse-some n none x e = absurd (let z : _≡_ {A = ℕ} 0 1 = cc in omega arith)
-or-refuse-some n (some y) x e = let f : y ≡ x = cc in ap some f
 
 passed : (b : Bool) → T b → b ≡ true
 passed true h = refl

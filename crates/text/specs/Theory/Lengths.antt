@@ -30,9 +30,13 @@ decimal-length (suc j) (suc k) n h = go (ltb n 10) (decimal-length j k (n / 10) 
     go true p = omega arith
     go false p = omega (arith, length-append (decimal k (n / 10)) ((48 + n % 10) ∷ []))
 
+pub number-length : (n : ℕ) → n ≤ 999 → length (number n) ≤ 3
+unfolding number
+number-length n h = decimal-length 2 n n (omega arith)
+
 letter-length : (n : ℕ) → n ≤ 999 → length (write-letter n) ≤ 4
-unfolding write-letter number ascii
-letter-length n h = omega (arith, decimal-length 2 n n (omega arith))
+unfolding write-letter ascii
+letter-length n h = omega (arith, number-length n h)
 
 -- the bytes of pieces, one more for each
 abbrev weight : List (List ℕ) → ℕ

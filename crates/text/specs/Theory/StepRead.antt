@@ -18,7 +18,7 @@ use Rattle.text.specs.Theory.Pieces.{parted-behind, parted-pieces}
 use Rattle.text.specs.Theory.Readable.{read-spells}
 use Rattle.text.specs.Theory.Keyed.{some-then, after-only, end-only}
 
-which-only : {A : Type 0} (text : A → List ℕ) (xs : List A) (bs : List ℕ) {x : A} → which text xs bs ≡ some x → bs ≡ text x
+pub which-only : {A : Type 0} (text : A → List ℕ) (xs : List A) (bs : List ℕ) {x : A} → which text xs bs ≡ some x → bs ≡ text x
 unfolding which
 which-only text [] bs e = absurd (Option·none-ne-some _ e)
 which-only {A} text (y ∷ ys) bs {x} e = go (bind (after (text y) bs) (end y)) refl e (which-only text ys bs)
