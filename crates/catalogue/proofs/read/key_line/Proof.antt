@@ -1,3 +1,11 @@
+-- `key_line` meets its contract.
+use mathlib.Core.Path.{subst}
+use Rattle.text.specs.Bytes.{ascii}
+use Rattle.text.specs.Answer.{field}
+use Rattle.text.specs.Reading.{Keys}
+use Rattle.catalogue.specs.Texts.{raw, worded, key-name}
+use Rattle.catalogue.specs.declared.kind.Key.the-variants.{Raw, Words}
+use Rattle.catalogue.proofs.Reading.{key-line, key-there, key-unknown}
 use borrow.Author.Needs.{needs}
 use Rattle.catalogue.proofs.read.key_line.Statement.{statement}
 use Rattle.catalogue.proofs.read.key_line.Tie as tie
@@ -19,7 +27,11 @@ add-t9 c = search needs
 
 -- src/read.rt:67:9
 returns : tie.Need-returns
-returns c = search needs
+unfolding ascii key-name field
+returns c =
+    let k = c .before in
+    let a = k .before .before .before .args in
+    key-there (a .s .now) (a .from) Raw (subst (Keys (a .s .now) (a .from) (key-line raw)) (c .if1 .taken) (k .has-key .ensures))
 
 -- src/read.rt:69:25
 slice-aggregate-has-key-2 : tie.Need-slice-aggregate-has-key-2
@@ -35,11 +47,21 @@ add-t14 c = search needs
 
 -- src/read.rt:70:9
 returns-2 : tie.Need-returns-2
-returns-2 c = search needs
+unfolding ascii key-name field
+returns-2 c =
+    let k = c .before in
+    let a = k .before .before .before .before .before .before .args in
+    key-there (a .s .now) (a .from) Words (subst (Keys (a .s .now) (a .from) (key-line worded)) (c .if2 .taken) (k .has-key2 .ensures))
 
 -- src/read.rt:62:1
 returns-3 : tie.Need-returns-3
-returns-3 c = search needs
+unfolding ascii key-name field
+returns-3 c =
+    let k = c .before in
+    let f = k .before .before in
+    let a = f .before .before .before .before .args in
+    key-unknown (a .s .now) (a .from) (subst (Keys (a .s .now) (a .from) (key-line raw)) (f .if1 .left) (f .before .has-key .ensures))
+    (subst (Keys (a .s .now) (a .from) (key-line worded)) (c .if2 .left) (k .has-key2 .ensures))
 
 pub key-line-spec : {M : Type 1} → statement M
 key-line-spec =
