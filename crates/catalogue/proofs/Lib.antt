@@ -2,3 +2,4 @@
 pub mod Walking
 pub mod Comparing
 pub mod Reading
+pub mod Storing

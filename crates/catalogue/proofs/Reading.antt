@@ -1,14 +1,14 @@
 -- The texts of a put and of a withdrawal, line by line.
-use Prim.Native.Nat.{ℕ, _+_, _≤_, _<_}
+use Prim.Native.Nat.{ℕ, _+_, _-_, _≤_, _<_}
 use native.Mathlib.Omega.{arith}
-use mathlib.Core.Path.{_≡_, refl, sym, ap, _∙_}
+use mathlib.Core.Path.{_≡_, refl, sym, ap, subst, _∙_}
 use mathlib.Core.Logic.{_⊎_, ⊎-elim}
 use mathlib.Core.Bool.{Bool, true, false, _&&_}
 use mathlib.Core.Option.{Option, none, some, bind, Option·none-ne-some}
 use mathlib.Core.List.{List, [], _∷_, _++_}
 use lib.Dec.{T, leb, leb→le, le→leb}
-use lib.ListN.{length, drop, drop-of-length-le}
-use lib.Seq.{drop-cons}
+use lib.ListN.{length, take, drop, drop-of-length-le, length-drop}
+use lib.Seq.{drop-cons, take-all}
 use borrow.Author.Tests.{le-leb, lt-leb}
 use Rattle.terms.specs.Theory.Reflects.{Reflects, both-reflect, both}
 use Rattle.search.specs.Runs.{Spells}
@@ -18,7 +18,9 @@ use Rattle.text.specs.LayoutRead.{LimitAt}
 use Rattle.text.specs.Reading as reading
 use Rattle.text.specs.Answer.{Answer, refused, accepted, field, _>>=_, require, or-refuse}
 use Rattle.text.specs.Job.{Job, read-job}
-use Rattle.text.specs.Accepting.{TakesOne}
+use Rattle.text.specs.Accepting.{ReadsJob}
+use Rattle.text.specs.declared.job.accept.Reading.{Reading}
+use Rattle.text.specs.declared.job.accept.Reading.the-variants.{Refused, Accepted}
 use Rattle.text.specs.declared.job.accept.Read.{Read}
 use Rattle.text.specs.StepText.{which}
 use Rattle.text.specs.Theory.Keyed.{keyed-field, after-key, after-only, end-only, keyed-parts}
@@ -252,19 +254,27 @@ module _ (s : List ℕ) where
         unfolding put-key
         job-from e = key-from (found _ _ _ (K .line) ∙ found (λ key. put-job n key (drop third s)) _ _ (K .read) ∙ e)
 
-        pub job-refused : {m : ℕ} → read-job (drop third s) ≡ refused m → read-put s ≡ refused m
-        unfolding put-job _>>=_
-        job-refused e = job-from (rw e)
+        -- the job is what stands behind the key
+        rest-whole : take (length s - third) (drop third s) ≡ drop third s
+        rest-whole = take-all (length s - third) (drop third s) (simp length-drop (omega arith))
 
-        pub job-taken : {j : Read} {left rights : List ℕ} → TakesOne (read-job (drop third s)) j left rights
-            → TakesPut s (record { number = n; key = key; left = j .left }) left rights
-        unfolding put-job _>>=_
-        job-taken o =
-            record {
-              job = o .job;
-              fit = (rw (o .accepted) at (job-accepted (drop third s))) .sides;
-              low = N .low;
-              read = job-from (rw (o .accepted));
-              left-run = o .left-run;
-              right-run = o .right-run;
-            }
+        module _ (left rights : List ℕ) (r : Reading) (R : ReadsJob (take (length s - third) (drop third s)) r left rights) where
+          job-read : ReadsJob (drop third s) r left rights
+          job-read = rw rest-whole at R
+
+          pub job-refused : {m : ℕ} → r ≡ Refused m → read-put s ≡ refused m
+          unfolding put-job _>>=_
+          job-refused e = let f = subst (λ x. ReadsJob (drop third s) x left rights) e job-read in job-from (rw f)
+
+          pub job-taken : (j : Read) → r ≡ Accepted j → TakesPut s (record { number = n; key = key; left = j .left }) left rights
+          unfolding put-job _>>=_
+          job-taken j e =
+              let o = subst (λ x. ReadsJob (drop third s) x left rights) e job-read in
+              record {
+                job = o .job;
+                fit = (rw (o .accepted) at (job-accepted (drop third s))) .sides;
+                low = N .low;
+                read = job-from (rw (o .accepted));
+                left-run = o .left-run;
+                right-run = o .right-run;
+              }

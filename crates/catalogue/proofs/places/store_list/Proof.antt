@@ -1,3 +1,7 @@
+-- `store_list` meets its contract.
+use mathlib.Core.Path.{_∙_}
+use lib.ListN.{length-set}
+use Rattle.catalogue.proofs.Storing.{list-stored}
 use borrow.Author.Needs.{needs}
 use Rattle.catalogue.proofs.places.store_list.Statement.{statement}
 use Rattle.catalogue.proofs.places.store_list.Tie as tie
@@ -23,11 +27,14 @@ copy-requires c κs = search needs
 
 -- src/places.rt:105:1
 same-length : tie.Need-same-length
-same-length c = search needs
+same-length c = simp length-set at (c .before .before .copy .kept .0)
 
 -- src/places.rt:105:1
 returns : tie.Need-returns
-returns c = search needs
+returns c =
+    let z = c .before .before .before .before .before .before in
+    let a = z .args in
+    list-stored (a .cat .now) (a .size) (a .from) (a .list .now) (z .pre .0) (z .pre .1) (z .pre .2) (c .before .before .copy .ensures)
 
 pub store-list-spec : {M : Type 1} → statement M
 store-list-spec =
