@@ -9,7 +9,7 @@ use Rattle.terms.specs.Promises.{Equals}
 use Rattle.terms.specs.Theory.Reflects.{Reflects, like}
 use Rattle.terms.proofs.Compared.{equal-reflects}
 use Rattle.catalogue.specs.Stored.{PLACE, number-at, KindAt}
-use Rattle.catalogue.specs.Promises.{ListAt, OtherOf}
+use Rattle.catalogue.specs.Promises.{ListAt, OtherOf, AnotherOf, Shares}
 
 -- what a test says that was not passed
 pub refuted : {P : Type 0} (b : Bool) → Reflects P b → b ≡ false → P → ⊥
@@ -47,3 +47,15 @@ module _ (cat : List ℕ) (k n : ℕ) (left right : List ℕ) where
   pub another-compared : (but : ℕ) (b : Bool) → (k ≡ but → ⊥) → (number-at cat k ≡ 0 → ⊥) → Reflects (KindAt cat k n left right) b
       → Reflects (OtherOf cat but n left right k) b
   another-compared but b p q h = like (KindAt cat k n left right) (OtherOf cat but n left right k) b (λ K. (p, q, K)) (λ o. o .2) h
+
+-- the kind that place k has, as it stands there
+pub another-alike : (cat : List ℕ) (k : ℕ) (b : Bool)
+    → let m = getD cat (PLACE * k + 2) 0 in
+    let n = getD cat (PLACE * k + 3) 0 in
+    Reflects (AnotherOf cat k (getD cat (PLACE * k + 1) 0) (take (PLACE * k + 8 + m - (PLACE * k + 8)) (drop (PLACE * k + 8) cat))
+    (take (PLACE * k + 2708 + n - (PLACE * k + 2708)) (drop (PLACE * k + 2708) cat))) b
+    → Shares cat k b
+another-alike cat k b h key left right K l r =
+    let p : PLACE * k + 8 + getD cat (PLACE * k + 2) 0 - (PLACE * k + 8) ≡ length left = omega (arith, K .left-size) in
+    let q : PLACE * k + 2708 + getD cat (PLACE * k + 3) 0 - (PLACE * k + 2708) ≡ length right = omega (arith, K .right-size) in
+    rw (K .key, p, q, K .left-numbers, K .right-numbers) at h

@@ -96,12 +96,6 @@ pub record Listed (key : texts.Key) (left right bs : List ℕ) : Type 0 where
 abbrev pub entry : ℕ → texts.Key → (lines : List ℕ) → Entry Kind
 entry n key lines = record { number = n; kind = record { key = key; lines = lines } }
 
--- of `put_entry`
-pub record PutsEntry (cat : List ℕ) (n : ℕ) (key : Key) (left right : List ℕ) (r : ℕ) (cat′ : List ℕ) : Type 0 where
-  pub harmless : Harmless (13 ∷ 15 ∷ []) cat r cat′
-  pub step : (lines : List ℕ) → Listed (key-of key) left right lines → (c : Catalogue Kind) → Holds cat c → Sound same-kind c
-      → Step c (put same-kind (entry n (key-of key) lines) c) r cat′
-
 -- of `lists_of`: xs and ys are the runs of an equation's sides
 pub record MakesLists (key : Key) (xs ys u v : List ℕ) (r : Lengths) (u′ v′ : List ℕ) : Type 0 where
   pub exact : (j : Job) → IsRun xs (j .left) → IsRun ys (j .right) → Fit (j .left) (j .right) → SLOT * MOST ≤ length u → SLOT * MOST ≤ length v
@@ -110,6 +104,18 @@ pub record MakesLists (key : Key) (xs ys u v : List ℕ) (r : Lengths) (u′ v�
 -- of `word_lists`
 abbrev pub MakesWordLists : (xs ys u v : List ℕ) → Lengths → (u′ v′ : List ℕ) → Type 0
 MakesWordLists = MakesLists Words
+
+-- the entry of an equation is stored in place k by its lists
+pub record StoresJob (cat : List ℕ) (k n : ℕ) (key : Key) (j : Job) (r : ℕ) (cat′ : List ℕ) : Type 0 where
+  pub left : List ℕ
+  pub right : List ℕ
+  pub listed : Listed (key-of key) left right (lines-by (key-of key) j)
+  pub stored : PutsAt cat k n (number-of key) left right r cat′
+
+-- of `put_lists`
+pub record PutsLists (cat : List ℕ) (k n : ℕ) (key : Key) (xs ys : List ℕ) (r : ℕ) (cat′ : List ℕ) : Type 0 where
+  pub harmless : Harmless (13 ∷ 15 ∷ []) cat r cat′
+  pub exact : (j : Job) → IsRun xs (j .left) → IsRun ys (j .right) → Fit (j .left) (j .right) → StoresJob cat k n key j r cat′
 
 -- of `put_equation`
 pub record PutsEquation (cat : List ℕ) (n : ℕ) (key : Key) (xs ys : List ℕ) (r : ℕ) (cat′ : List ℕ) : Type 0 where

@@ -1,3 +1,5 @@
+-- `lists_of` meets its contract.
+use Rattle.catalogue.proofs.Making.{sides-made}
 use borrow.Author.Needs.{needs}
 use Rattle.catalogue.proofs.kind.lists_of.Statement.{statement}
 use Rattle.catalogue.proofs.kind.lists_of.Tie as tie
@@ -32,7 +34,7 @@ same-length-2 c = search needs
 
 -- src/kind.rt:35:1
 returns : tie.Need-returns
-returns c = search needs
+returns c = rw (c .before .before .before .before .before .before .before .enum-told .given .1) (sides-made (c .before .before .before .before .canonical-terms .ensures))
 
 -- src/kind.rt:35:1
 same-length-3 : tie.Need-same-length-3
@@ -44,7 +46,7 @@ same-length-4 c = search needs
 
 -- src/kind.rt:35:1
 returns-2 : tie.Need-returns-2
-returns-2 c = search needs
+returns-2 c = rw (c .before .before .before .before .before .before .before .enum-told2 .given .1) (c .before .before .before .before .word-lists .ensures)
 
 pub lists-of-spec : {M : Type 1} → statement M
 lists-of-spec =
