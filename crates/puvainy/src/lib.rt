@@ -5,6 +5,10 @@ ghost use Rattle.text.specs.Words.{words-entry};
 ghost use Rattle.text.specs.Rename.{rename-entry};
 ghost use Rattle.text.specs.Entry.{Call, FindCall};
 ghost use Rattle.checking.specs.Claims.{CheckCall};
+ghost use Rattle.catalogue.specs.Texts.{put-text, withdraw-text};
+ghost use Rattle.catalogue.specs.Stored.{SentCall};
+use catalogue::entry::put;
+use catalogue::entry::withdraw;
 use checking::entry::check;
 use text::entry;
 
@@ -38,4 +42,20 @@ pub extern "C" fn puvainy_check(text: &[u8], output: &mut [u8]) -> usize
     ensures { λ r. ⌜ CheckCall (now (text .entry)) (now (output .entry)) r (now (output .exit)) ⌝ }
 {
     check(text, output)
+}
+
+// PUT. The catalogue is a buffer of 346,113 numbers, of which zeros are an empty one.
+#[no_mangle]
+pub extern "C" fn puvainy_put(text: &[u8], catalogue: &mut [u32]) -> usize
+    ensures { λ r. ⌜ SentCall (put-text (now (text .entry))) (now (catalogue .entry)) r (now (catalogue .exit)) ⌝ }
+{
+    put(text, catalogue)
+}
+
+// WITHDRAW.
+#[no_mangle]
+pub extern "C" fn puvainy_withdraw(text: &[u8], catalogue: &mut [u32]) -> usize
+    ensures { λ r. ⌜ SentCall (withdraw-text (now (text .entry))) (now (catalogue .entry)) r (now (catalogue .exit)) ⌝ }
+{
+    withdraw(text, catalogue)
 }
