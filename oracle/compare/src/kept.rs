@@ -44,10 +44,20 @@ impl Catalogues {
             let number = call(sent.ask, &self.text, &mut self.other);
             return number_fault(number, returned(kept)).or_else(|| self.other_fault(sent));
         }
+        if random.percent(2) {
+            self.move_kept(random);
+        }
         let number = call(sent.ask, &self.text, &mut self.kept);
         number_fault(number, returned(kept))
             .or_else(|| self.place_fault(kept, after))
             .or_else(|| self.kept_fault(sent))
+    }
+
+    /// Takes the catalogue to another place in memory, as a host may between calls.
+    fn move_kept(&mut self, random: &mut Random) {
+        self.kept.choose(random.below(4_096), CATALOGUE);
+        self.kept.part_mut().copy_from_slice(&self.due);
+        self.kept.watch(|| number(random));
     }
 
     fn lend_text(&mut self, sent: &Sent, random: &mut Random) {
