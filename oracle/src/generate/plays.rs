@@ -36,9 +36,11 @@ impl Plays {
     pub fn player(&self, index: u64) -> Player {
         let mut random = Random::new(self.seed, index);
         let (phase, left) = Phase::Drain.next(&mut random);
+        let is_varied = random.percent(30);
         Player {
             random,
             is_short: self.is_short,
+            is_varied,
             phase,
             left,
             known: Vec::new(),
@@ -50,6 +52,8 @@ impl Plays {
 pub struct Player {
     pub random: Random,
     pub is_short: bool,
+    /// Whether it seldom comes back to an equation, so that up to 64 kinds are held.
+    pub is_varied: bool,
     phase: Phase,
     /// The calls left in this phase.
     left: usize,

@@ -182,16 +182,18 @@ fn new_letters(player: &mut Player) -> Vec<u16> {
 /// A term over these letters, mostly small.
 fn new_side(player: &mut Player, pool: &[u16]) -> Term {
     let random = &mut player.random;
-    let most = match player.is_short {
-        true => random.pick(&[1, 3, 3, 5, 5, 7]),
-        false => random.pick(&[1, 3, 3, 5, 5, 7, 9, 15, 31]),
+    let most = match (player.is_varied, player.is_short) {
+        (true, _) => random.pick(&[5, 7, 9, 11, 15]),
+        (false, true) => random.pick(&[1, 3, 3, 5, 5, 7]),
+        (false, false) => random.pick(&[1, 3, 3, 5, 5, 7, 9, 15, 31]),
     };
     term_up_to(random, most, pool)
 }
 
-/// An equation that was put before, or a new one where there is none.
+/// An equation that was put before, or a new one where there is none, and mostly in a varied play.
 pub fn any_known(player: &mut Player) -> Known {
-    match player.known.is_empty() {
+    let is_new = player.is_varied && player.random.percent(95);
+    match is_new || player.known.is_empty() {
         true => new_equation(player),
         false => player.random.pick(&player.known),
     }
