@@ -29,10 +29,19 @@ fn header(call: &Call) -> String {
     format!("{entry} {} {} {}", call.slots, call.room, call.job.len())
 }
 
-/// Writes a call on a catalogue (entry 5 PUT, 6 WITHDRAW, slots and room 0) and the number that it returns, which
-/// is never 0. No answer follows.
-pub fn write_sent(out: &mut impl Write, sent: &Sent, number: usize) -> io::Result<()> {
-    let entry = sent.ask as usize + 5;
-    writeln!(out, "{entry} 0 0 {} {number} 0", sent.text.len())?;
+/// Writes a call on a catalogue: entry (5 PUT, 6 WITHDRAW), slots and room 0, the text's length; then the text.
+pub fn write_sent(out: &mut impl Write, sent: &Sent) -> io::Result<()> {
+    writeln!(out, "{}", sent_header(sent))?;
     out.write_all(&sent.text)
+}
+
+/// Writes such a call and the number that it returns, which is never 0. No answer follows.
+pub fn write_returned(out: &mut impl Write, sent: &Sent, number: usize) -> io::Result<()> {
+    writeln!(out, "{} {number} 0", sent_header(sent))?;
+    out.write_all(&sent.text)
+}
+
+fn sent_header(sent: &Sent) -> String {
+    let entry = sent.ask as usize + 5;
+    format!("{entry} 0 0 {}", sent.text.len())
 }

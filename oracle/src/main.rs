@@ -9,7 +9,7 @@ use oracle::cases::{Case, cases};
 use oracle::generate::{KINDS, PLAY_KINDS, Plan, Plays};
 use oracle::options::{self, Failure, about, unknown, value};
 use oracle::plain::catalogue::returned;
-use oracle::play::play;
+use oracle::play::{Played, play};
 use oracle::tally::{PlayTally, Tally};
 use oracle::{About, CATALOGUE, Call, Entry, PROGRAM_ROOM, PROGRAM_SLOTS, checked, list};
 
@@ -27,10 +27,11 @@ oracle list OPTIONS
     `entry slots room job_length number answer_length`, then the job's and the answer's bytes.
 oracle check OPTIONS
     Makes the same calls, compares both implementations and prints counts.
-oracle catalogue [--seed S] [--first N] [--plays N] [--calls N] [--short] [--plain] [--list]
+oracle catalogue [--seed S] [--first N] [--plays N] [--calls N] [--short] [--plain] [--list | --generate]
     Makes plays (10), each of so many calls (500) on a catalogue that is empty at first, compares both
-    implementations and prints counts; or writes the calls as `oracle list` does, with --short.
-    --short makes short texts and no other buffers, --plain leaves the Rust out, --first is a play's index (0).
+    implementations and prints counts. --short makes short texts and no other buffers, --plain leaves the Rust out,
+    --first is the first play's index (0). --list and --generate write the calls on a whole buffer as `oracle list`
+    and `oracle generate` do.
 
 OPTIONS: --seed S (default 1), --count N (default 1000), --kind K (default all, mixed),
     --one, --many, --check (only kinds for one right side, for several, for CHECK; or for two of them),
@@ -180,16 +181,37 @@ fn list_cases(all: &[Case], plays: &[Play]) -> Result<bool, Failure> {
     }
     for (sent, number) in plays.iter().flat_map(|play| &play.calls) {
         if sent.numbers == CATALOGUE {
-            list::write_sent(&mut out, sent, *number)?;
+            list::write_returned(&mut out, sent, *number)?;
         }
     }
     out.flush()?;
     Ok(true)
 }
 
+/// What is printed of plays: counts, the calls, or the calls with what they return.
+#[derive(Clone, Copy, PartialEq)]
+enum Printed {
+    Counts,
+    Calls,
+    Returned,
+}
+
+impl Printed {
+    /// Writes a call as this asks for; those on a buffer of another length are in no list.
+    fn write(self, out: &mut impl Write, played: &Played) -> io::Result<()> {
+        let sent = played.sent;
+        match self {
+            _ if sent.numbers != CATALOGUE => Ok(()),
+            Printed::Counts => Ok(()),
+            Printed::Calls => list::write_sent(out, sent),
+            Printed::Returned => list::write_returned(out, sent, returned(played.kept)),
+        }
+    }
+}
+
 fn catalogue_command(words: &[&str]) -> Result<bool, Failure> {
     let mut plays = Plays::default();
-    let (mut is_plain, mut is_list) = (false, false);
+    let (mut is_plain, mut printed) = (false, Printed::Counts);
     let mut rest = words.iter();
     while let Some(&option) = rest.next() {
         if options::take_plays(&mut plays, option, &mut rest)? {
@@ -197,12 +219,10 @@ fn catalogue_command(words: &[&str]) -> Result<bool, Failure> {
         }
         match option {
             "--plain" => is_plain = true,
-            "--list" => is_list = true,
+            "--generate" => printed = Printed::Calls,
+            "--list" => printed = Printed::Returned,
             _ => return Err(unknown(option)),
         }
-    }
-    if is_list && !plays.is_short {
-        return Err("only short plays are listed: --list --short".into());
     }
     let start = Instant::now();
     let mut tally = PlayTally::default();
@@ -211,19 +231,15 @@ fn catalogue_command(words: &[&str]) -> Result<bool, Failure> {
         tally.begin();
         let made = play(&plays, index, is_plain, |played| {
             tally.count(&played);
-            if is_list {
-                let number = returned(played.kept);
-                list::write_sent(&mut out, played.sent, number)
-                    .map_err(|error| error.to_string())?;
-            }
-            Ok(())
+            let written = printed.write(&mut out, &played);
+            written.map_err(|error| error.to_string())
         });
         if let Err(difference) = made {
             eprint!("seed={} first={index}\n{difference}", plays.seed);
             return Ok(false);
         }
     }
-    if !is_list {
+    if printed == Printed::Counts {
         let seconds = start.elapsed().as_secs();
         writeln!(out, "{tally}, no difference, {seconds} s")?;
     }

@@ -90,7 +90,7 @@ fn a_short_play_has_it_all() {
     let made = play(&plays, 0, false, |played| {
         let number = returned(played.kept);
         met.insert((played.sent.ask == Ask::Put, number.min(100)));
-        list::write_sent(&mut bytes, played.sent, number).unwrap();
+        list::write_returned(&mut bytes, played.sent, number).unwrap();
         left = played.catalogue.held().len();
         if is_low && left == 64 {
             fills += 1;
@@ -119,7 +119,7 @@ fn plays_are_the_same_for_a_seed() {
         };
         let mut bytes = Vec::new();
         let made = play(&plays, index, true, |played| {
-            list::write_sent(&mut bytes, played.sent, returned(played.kept)).unwrap();
+            list::write_returned(&mut bytes, played.sent, returned(played.kept)).unwrap();
             Ok(())
         });
         made.unwrap();
