@@ -1,6 +1,8 @@
-//! FIND, WORDS and RENAME beside the Rust, and CHECK beside FIND, in one process, on the same jobs. Each pair's answers are compared first.
+//! FIND, WORDS and RENAME beside the Rust, CHECK beside FIND, and PUT beside RENAME, in one process, on the same jobs. Each pair's answers are
+//! compared first.
 //!
-//! With an argument, one part alone: `find`, `many`, `lists`, `check`, `noted`, or `ours`, the search at the largest limits on our side, for a profiler.
+//! With an argument, one part alone: `find`, `many`, `lists`, `check`, `put`, `noted`, or `ours`, the search at the largest limits on our side, for
+//! a profiler.
 //! `beside BEFORE NOW` times the entries of two releases, each a shared library.
 
 mod beside;
@@ -11,6 +13,7 @@ mod lists;
 mod many;
 mod noted;
 mod ours;
+mod put;
 mod table;
 
 fn main() {
@@ -22,12 +25,14 @@ fn main() {
             many::rows(&mut workspace);
             lists::rows(&mut workspace);
             check::rows(&mut workspace);
+            put::rows(&mut workspace);
             noted::rows(&mut workspace);
         }
         Some("find") => find::rows(&mut workspace),
         Some("many") => many::rows(&mut workspace),
         Some("lists") => lists::rows(&mut workspace),
         Some("check") => check::rows(&mut workspace),
+        Some("put") => put::rows(&mut workspace),
         Some("noted") => noted::rows(&mut workspace),
         Some("ours") => find::ours_alone(&mut workspace),
         Some("beside") => {
@@ -36,7 +41,7 @@ fn main() {
         }
         Some(other) => {
             eprintln!(
-                "bench: no part is called {other}: find, many, lists, check, noted, ours or beside BEFORE NOW"
+                "bench: no part is called {other}: find, many, lists, check, put, noted, ours or beside BEFORE NOW"
             );
             std::process::exit(2);
         }

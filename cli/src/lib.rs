@@ -25,6 +25,9 @@ pub const MOST_ROOM: usize = 1 << 25;
 /// What an answer's length is added to in the number that an entry returns.
 pub const ANSWER: usize = 100;
 
+/// The numbers of a catalogue; zeros are an empty one.
+pub const CATALOGUE: usize = 346_113;
+
 /// An entry that takes a text: a job, or CHECK's derivation.
 #[derive(Clone, Copy, Debug, Eq, PartialEq)]
 pub enum Entry {
@@ -148,7 +151,8 @@ mod tests {
             let declaring: Vec<_> = declaring.map(|(file, _)| file).collect();
             assert!(matches!(declaring[..], [file] if file.ends_with("cli/src/entries.rs")));
         }
+        // PUT and WITHDRAW take a catalogue and are no `Entry`.
         let blocks = include_str!("entries.rs").matches("unsafe {").count();
-        assert_eq!(blocks, Entry::ALL.len());
+        assert_eq!(blocks, Entry::ALL.len() + 2);
     }
 }

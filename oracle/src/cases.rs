@@ -1,5 +1,6 @@
 //! The documents' cases, each with the answer that is due.
 
+pub mod catalogue;
 mod check;
 mod many;
 

@@ -1,14 +1,17 @@
-//! The plain answer, compared with the Rust's on every job that passes the refusals before the search, and with
-//! other judges on every derivation that passes 1 to 4.
+//! The plain answer, compared with the Rust's on every job that passes the refusals before the search, with other
+//! judges on every derivation that passes 1 to 4, and with the Rust's lines on every put that passes 1 to 6.
 
 mod cut;
 mod derived;
+mod kinds;
 
 use std::fmt;
 
 use crate::plain::nones::without_cut;
 use crate::plain::{self, Block, MOST_SLOTS, joined};
 use crate::{Call, Entry, Given, rust};
+
+pub use kinds::Judged;
 
 /// A call on which two answers differ.
 #[derive(Debug)]

@@ -1,4 +1,4 @@
-//! The oracle: what documents 01 and 02 and the Rust answer to a job or a derivation.
+//! The oracle: what documents 01 and 02 and the Rust answer to a job, a derivation or a call on a catalogue.
 
 pub mod cases;
 pub mod checked;
@@ -6,6 +6,7 @@ pub mod generate;
 pub mod list;
 pub mod options;
 pub mod plain;
+pub mod play;
 pub mod rust;
 pub mod tally;
 
@@ -61,4 +62,45 @@ pub struct Call {
     pub slots: usize,
     pub room: usize,
     pub job: Vec<u8>,
+}
+
+/// The entries on a catalogue.
+#[derive(Clone, Copy, Debug, Eq, PartialEq)]
+pub enum Ask {
+    Put,
+    Withdraw,
+}
+
+impl Ask {
+    pub fn name(self) -> &'static str {
+        ["put", "withdraw"][self as usize]
+    }
+}
+
+/// The numbers of a catalogue's buffer.
+pub const CATALOGUE: usize = 346_113;
+
+/// One call on a catalogue: the entry, the numbers of the buffer and the text.
+#[derive(Clone, Debug, Eq, PartialEq)]
+pub struct Sent {
+    pub ask: Ask,
+    pub numbers: usize,
+    pub text: Vec<u8>,
+}
+
+impl Sent {
+    /// A call on a catalogue's whole buffer.
+    pub fn new(ask: Ask, text: impl Into<Vec<u8>>) -> Sent {
+        Sent {
+            ask,
+            numbers: CATALOGUE,
+            text: text.into(),
+        }
+    }
+
+    pub fn show(&self) -> String {
+        let Sent { ask, numbers, text } = self;
+        let text = String::from_utf8_lossy(text);
+        format!("entry={} numbers={numbers}\n--- text\n{text}\n", ask.name())
+    }
 }

@@ -4,19 +4,22 @@ use std::io::{self, BufWriter, Read, Write};
 use std::process::ExitCode;
 use std::time::Instant;
 
+use oracle::cases::catalogue::{self, Play};
 use oracle::cases::{Case, cases};
-use oracle::generate::{KINDS, Plan};
+use oracle::generate::{KINDS, PLAY_KINDS, Plan, Plays};
 use oracle::options::{self, Failure, about, unknown, value};
-use oracle::tally::Tally;
-use oracle::{About, Call, Entry, PROGRAM_ROOM, PROGRAM_SLOTS, checked, list};
+use oracle::plain::catalogue::returned;
+use oracle::play::{Played, play};
+use oracle::tally::{PlayTally, Tally};
+use oracle::{About, CATALOGUE, Call, Entry, PROGRAM_ROOM, PROGRAM_SLOTS, checked, list};
 
 const HELP: &str = "\
 oracle answer ENTRY [--slots N] [--room N] [--number]
     Reads one job, or one derivation, on standard input and prints what the call gives, or the refusal.
     ENTRY is find, words, rename or check. 400 slots and 32768 bytes of room unless said.
     --number prints the number that the call returns instead.
-oracle cases [--one] [--many] [--check] [--list]
-    Runs the documents' cases; or writes them as `oracle list` does.
+oracle cases [--one] [--many] [--check] [--catalogue] [--list]
+    Runs the documents' cases; or writes them as `oracle list` does, of the catalogue those on its whole buffer.
 oracle generate OPTIONS
     Writes calls: a line `entry slots room job_length`, then the job's bytes.
 oracle list OPTIONS
@@ -24,13 +27,20 @@ oracle list OPTIONS
     `entry slots room job_length number answer_length`, then the job's and the answer's bytes.
 oracle check OPTIONS
     Makes the same calls, compares both implementations and prints counts.
+oracle catalogue [--seed S] [--first N] [--plays N] [--calls N] [--short] [--plain] [--list | --generate]
+    Makes plays (10), each of so many calls (500) on a catalogue that is empty at first, compares both
+    implementations and prints counts. --short makes short texts and no other buffers, --plain leaves the Rust out,
+    --first is the first play's index (0). --list and --generate write the calls on a whole buffer as `oracle list`
+    and `oracle generate` do.
 
 OPTIONS: --seed S (default 1), --count N (default 1000), --kind K (default all, mixed),
     --one, --many, --check (only kinds for one right side, for several, for CHECK; or for two of them),
     --light (no heavy calls), --max-slots N, --max-room N (larger buffers are drawn as this), --max-job N (longer texts are cut).
-Entries in records: 1 find, 2 words, 3 rename, 4 check. Number: 0, or the refusal's.
+Entries in records: 1 find, 2 words, 3 rename, 4 check, 5 put, 6 withdraw. Number: 0, or the refusal's; of put
+    and withdraw what is returned.
 
-Kinds, with their share in 2,000:
+Kinds, with their share in 2,000; of plays with their shares in 1,000 while the catalogue fills, in the mixed phase
+and while it is drained:
 ";
 
 fn main() -> ExitCode {
@@ -54,6 +64,7 @@ fn run(words: &[String]) -> Result<bool, Failure> {
         ["generate", ref options @ ..] => generate(&plan(options)?),
         ["list", ref options @ ..] => write_list(&plan(options)?),
         ["check", ref options @ ..] => check(&plan(options)?),
+        ["catalogue", ref options @ ..] => catalogue_command(options),
         ["--help" | "help"] => {
             print!("{}", help());
             Ok(true)
@@ -74,7 +85,14 @@ fn help() -> String {
             kind.name, kind.share, kind.what
         )
     });
-    HELP.to_owned() + &kinds.collect::<String>()
+    let of_plays = PLAY_KINDS.iter().map(|kind| {
+        let [fill, mix, drain] = kind.shares;
+        format!(
+            "    play  {:11} {fill:3} {mix:3} {drain:3}  {}\n",
+            kind.name, kind.what
+        )
+    });
+    HELP.to_owned() + &kinds.chain(of_plays).collect::<String>()
 }
 
 fn answer(entry: &str, words: &[&str]) -> Result<bool, Failure> {
@@ -113,22 +131,31 @@ fn answer(entry: &str, words: &[&str]) -> Result<bool, Failure> {
 
 fn cases_command(words: &[&str]) -> Result<bool, Failure> {
     let mut about_these = Vec::new();
-    let mut is_list = false;
+    let (mut is_list, mut is_catalogue) = (false, false);
     for &option in words {
         match option {
             "--list" => is_list = true,
+            "--catalogue" => is_catalogue = true,
             _ => about_these.push(about(option).ok_or_else(|| unknown(option))?),
         }
     }
-    let all = cases(&about_these);
+    let is_all = about_these.is_empty() && !is_catalogue;
+    let all = match is_all || !about_these.is_empty() {
+        true => cases(&about_these),
+        false => Vec::new(),
+    };
+    let plays = match is_all || is_catalogue {
+        true => catalogue::plays(),
+        false => Vec::new(),
+    };
     if is_list {
-        list_cases(&all)
+        list_cases(&all, &plays)
     } else {
-        Ok(run_cases(&all))
+        Ok(run_cases(&all, &plays))
     }
 }
 
-fn run_cases(all: &[Case]) -> bool {
+fn run_cases(all: &[Case], plays: &[Play]) -> bool {
     let mut failed = 0;
     for case in all {
         if let Some(fault) = case.fault() {
@@ -136,14 +163,85 @@ fn run_cases(all: &[Case]) -> bool {
             println!("case {}\n{fault}", case.name);
         }
     }
-    println!("{} passed, {failed} failed", all.len() - failed);
+    for play in plays {
+        for fault in play.faults() {
+            failed += 1;
+            println!("case {}\n{fault}", play.name);
+        }
+    }
+    let calls: usize = plays.iter().map(|play| play.calls.len()).sum();
+    println!("{} passed, {failed} failed", all.len() + calls - failed);
     failed == 0
 }
 
-fn list_cases(all: &[Case]) -> Result<bool, Failure> {
+fn list_cases(all: &[Case], plays: &[Play]) -> Result<bool, Failure> {
     let mut out = BufWriter::new(io::stdout().lock());
     for case in all {
         list::write_record(&mut out, &case.call, &case.given())?;
+    }
+    for (sent, number) in plays.iter().flat_map(|play| &play.calls) {
+        if sent.numbers == CATALOGUE {
+            list::write_returned(&mut out, sent, *number)?;
+        }
+    }
+    out.flush()?;
+    Ok(true)
+}
+
+/// What is printed of plays: counts, the calls, or the calls with what they return.
+#[derive(Clone, Copy, PartialEq)]
+enum Printed {
+    Counts,
+    Calls,
+    Returned,
+}
+
+impl Printed {
+    /// Writes a call as this asks for; those on a buffer of another length are in no list.
+    fn write(self, out: &mut impl Write, played: &Played) -> io::Result<()> {
+        let sent = played.sent;
+        match self {
+            _ if sent.numbers != CATALOGUE => Ok(()),
+            Printed::Counts => Ok(()),
+            Printed::Calls => list::write_sent(out, sent),
+            Printed::Returned => list::write_returned(out, sent, returned(played.kept)),
+        }
+    }
+}
+
+fn catalogue_command(words: &[&str]) -> Result<bool, Failure> {
+    let mut plays = Plays::default();
+    let (mut is_plain, mut printed) = (false, Printed::Counts);
+    let mut rest = words.iter();
+    while let Some(&option) = rest.next() {
+        if options::take_plays(&mut plays, option, &mut rest)? {
+            continue;
+        }
+        match option {
+            "--plain" => is_plain = true,
+            "--generate" => printed = Printed::Calls,
+            "--list" => printed = Printed::Returned,
+            _ => return Err(unknown(option)),
+        }
+    }
+    let start = Instant::now();
+    let mut tally = PlayTally::default();
+    let mut out = BufWriter::new(io::stdout().lock());
+    for index in plays.first..plays.first + plays.count {
+        tally.begin();
+        let made = play(&plays, index, is_plain, |played| {
+            tally.count(&played);
+            let written = printed.write(&mut out, &played);
+            written.map_err(|error| error.to_string())
+        });
+        if let Err(difference) = made {
+            eprint!("seed={} first={index}\n{difference}", plays.seed);
+            return Ok(false);
+        }
+    }
+    if printed == Printed::Counts {
+        let seconds = start.elapsed().as_secs();
+        writeln!(out, "{tally}, no difference, {seconds} s")?;
     }
     out.flush()?;
     Ok(true)

@@ -4,7 +4,7 @@ use std::slice::Iter;
 use std::str::FromStr;
 
 use crate::About;
-use crate::generate::{KINDS, Plan};
+use crate::generate::{KINDS, Plan, Plays};
 
 pub type Failure = Box<dyn std::error::Error>;
 
@@ -23,6 +23,19 @@ pub fn take(plan: &mut Plan, option: &str, rest: &mut Iter<&str>) -> Result<bool
             let kind = KINDS.iter().position(|kind| kind.name == name);
             plan.kind = Some(kind.ok_or_else(|| format!("there is no kind {name}"))?);
         }
+        _ => return Ok(false),
+    }
+    Ok(true)
+}
+
+/// Takes an option of plays likewise.
+pub fn take_plays(plays: &mut Plays, option: &str, rest: &mut Iter<&str>) -> Result<bool, Failure> {
+    match option {
+        "--seed" => plays.seed = value(option, rest)?,
+        "--first" => plays.first = value(option, rest)?,
+        "--plays" => plays.count = value(option, rest)?,
+        "--calls" => plays.calls = value(option, rest)?,
+        "--short" => plays.is_short = true,
         _ => return Ok(false),
     }
     Ok(true)

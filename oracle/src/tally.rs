@@ -1,11 +1,15 @@
 //! Counts of what calls gave, by kind, entry and answer.
 
+mod plays;
+
 use std::collections::BTreeMap;
 use std::fmt;
 
 use crate::generate::KINDS;
 use crate::plain::nones::nones;
 use crate::{Call, Entry, Given};
+
+pub use plays::PlayTally;
 
 /// How often each key was counted.
 type Counts = BTreeMap<String, usize>;

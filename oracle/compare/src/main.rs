@@ -1,7 +1,9 @@
 //! Drives the static library on generated calls and holds each to the oracle's answer.
 
 mod held;
+mod kept;
 mod lent;
+mod plays;
 
 use std::process::ExitCode;
 use std::sync::atomic::{AtomicBool, Ordering};
@@ -19,6 +21,9 @@ use held::Buffers;
 const HELP: &str = "\
 compare OPTIONS
     Makes the documents' cases and then generated calls, and holds the static library to the oracle.
+
+compare catalogue [--seed S] [--first N] [--plays N] [--calls N] [--short] [--threads N] [--plain]
+    Makes the cases of the catalogue and then plays, as `oracle catalogue` takes them.
 
 OPTIONS: --seed S (default 1), --count N (default 1000), --first N (default 0, the first call's
     index), --kind K, --one, --many, --check, --light, --max-job N, --max-slots N, --max-room N as
@@ -43,8 +48,12 @@ fn main() -> ExitCode {
         print!("{HELP}");
         return ExitCode::SUCCESS;
     }
-    match read(&words) {
-        Ok(run) => compare(&run),
+    let run = match &words[..] {
+        ["catalogue", rest @ ..] => plays::read(rest).map(|run| plays::compare(&run)),
+        _ => read(&words).map(|run| compare(&run)),
+    };
+    match run {
+        Ok(status) => status,
         Err(failure) => {
             eprint!("{failure}\n\n{HELP}");
             ExitCode::from(2)

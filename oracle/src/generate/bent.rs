@@ -105,7 +105,7 @@ fn one_result(random: &mut Random, source: &Term, is_meant: impl Fn(&Line) -> bo
 }
 
 /// The term with another item in one place.
-fn item_changed(random: &mut Random, term: &Term) -> Term {
+pub fn item_changed(random: &mut Random, term: &Term) -> Term {
     let at = random.below(term.size());
     changed_at(random, term, at)
 }

@@ -30,7 +30,7 @@ pub fn words(random: &mut Random) -> Call {
 }
 
 /// Sixteen atoms or fewer, summed by threes and fours, multiplied.
-fn product_of_sums(random: &mut Random, pool: &[u16]) -> Term {
+pub fn product_of_sums(random: &mut Random, pool: &[u16]) -> Term {
     let mut widths = vec![3, 3, 3, 3, 4];
     match random.below(4) {
         0 => widths = vec![2; 8],

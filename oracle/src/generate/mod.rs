@@ -9,14 +9,19 @@ mod draft;
 mod listed;
 mod measured;
 mod plans;
+mod plays;
+mod puts;
 mod random;
 mod refused;
 mod searched;
 mod spoilt;
 mod terms;
+mod unfit;
 mod unread;
+mod withdrawals;
 
 use crate::{About, Call};
+pub use plays::{PLAY_KINDS, Player, Plays};
 pub use random::Random;
 
 /// A kind of call, its share in a mixed list, and what it is.

@@ -1,5 +1,7 @@
-//! A plain implementation of documents 01 and 02: jobs and derivations, refusals, search and answers.
+//! A plain implementation of documents 01 and 02: jobs and derivations, refusals, search and answers, and the
+//! catalogue.
 
+pub mod catalogue;
 pub mod check;
 pub mod job;
 pub mod law;
@@ -8,6 +10,7 @@ pub mod nones;
 pub mod proof;
 pub mod rename;
 pub mod search;
+pub mod stored;
 pub mod term;
 pub mod tried;
 pub mod words;

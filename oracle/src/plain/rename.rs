@@ -6,37 +6,50 @@ use super::words::{Word, oriented, show_words, word_lists};
 
 /// The answer of RENAME.
 pub fn rename_text(equation: &Equation) -> String {
+    let (left, right) = least_sides(equation);
+    term_lines(&left, &right) + &word_lines(least_lists(equation).as_ref())
+}
+
+/// Its first two lines.
+pub fn term_lines(left: &Term, right: &Term) -> String {
+    format!("left={}\nright={}\n", left.show(), right.show())
+}
+
+/// Its last two lines: both lists, or `-` twice if there are none.
+pub fn word_lines(lists: Option<&(Vec<Word>, Vec<Word>)>) -> String {
+    let (left, right) = match lists {
+        Some((left, right)) => (show_words(left), show_words(right)),
+        None => ("-".to_owned(), "-".to_owned()),
+    };
+    format!("wleft={left}\nwright={right}\n")
+}
+
+/// Both sides renamed.
+pub fn least_sides(equation: &Equation) -> (Term, Term) {
     let letters = letters_of(&equation.left, &equation.right);
-    let (left, right) = least(letters, |renaming| {
+    least(letters, |renaming| {
         (
             renamed_term(&equation.left, renaming),
             renamed_term(&equation.right, renaming),
         )
-    });
-    let (wleft, wright) = renamed_lists(equation);
-    format!(
-        "left={}\nright={}\nwleft={wleft}\nwright={wright}\n",
-        left.show(),
-        right.show()
-    )
+    })
 }
 
-/// Both word lists renamed by themselves, or `-` twice if they agree.
-fn renamed_lists(equation: &Equation) -> (String, String) {
+/// Both word lists renamed by themselves; none if they agree.
+pub fn least_lists(equation: &Equation) -> Option<(Vec<Word>, Vec<Word>)> {
     let (left, right) = word_lists(equation);
     if left == right {
-        return ("-".to_owned(), "-".to_owned());
+        return None;
     }
     let mut letters: Vec<u16> = left.iter().chain(&right).flatten().copied().collect();
     letters.sort_unstable();
     letters.dedup();
-    let (left, right) = least(letters, |renaming| {
+    Some(least(letters, |renaming| {
         (
             renamed_list(&left, renaming),
             renamed_list(&right, renaming),
         )
-    });
-    (show_words(&left), show_words(&right))
+    }))
 }
 
 /// The letter that takes the number 0, the one that takes 1, and so on.

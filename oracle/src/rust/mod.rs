@@ -1,5 +1,5 @@
-//! Answers made from the Rust sources, for jobs that pass every refusal before the search, and what the Rust
-//! says of derivations.
+//! Answers made from the Rust sources, for jobs that pass every refusal before the search, what the Rust says of
+//! derivations, and the kinds of a catalogue's entries.
 
 pub mod chain;
 mod readback;
@@ -10,6 +10,7 @@ use upstream::{
 };
 
 use crate::plain::{
+    catalogue::Key,
     job::{Equation, Job, Limits},
     term::{ONE, PRODUCT, SUM, ZERO, part},
 };
@@ -26,15 +27,28 @@ pub fn answer(entry: Entry, job: &[u8]) -> Given {
 
 /// The Rust's answer to one equation, under any limits.
 pub fn block(entry: Entry, equation: &Equation, limits: &Limits) -> String {
-    let Equation { left, right } = equation;
-    let equation = EquationCandidate::new(tree(left.run()), tree(right.run()));
-    let equation = equation.expect("the sides differ");
+    let equation = candidate(equation);
     match entry {
         Entry::Find => find_text(&equation, limits),
         Entry::Words => words_text(&equation),
         Entry::Rename => rename_text(&equation),
         Entry::Check => unreachable!("CHECK takes no job"),
     }
+}
+
+/// The lines of RENAME that make the kind of a catalogue's entry.
+pub fn kind_lines(key: Key, equation: &Equation) -> String {
+    let equation = candidate(equation);
+    match key {
+        Key::Raw => term_lines(&equation),
+        Key::Words => word_lines(&equation),
+    }
+}
+
+fn candidate(equation: &Equation) -> EquationCandidate {
+    let Equation { left, right } = equation;
+    let equation = EquationCandidate::new(tree(left.run()), tree(right.run()));
+    equation.expect("the sides differ")
 }
 
 fn find_text(equation: &EquationCandidate, limits: &Limits) -> String {
@@ -84,19 +98,26 @@ fn words_text(equation: &EquationCandidate) -> String {
 }
 
 fn rename_text(equation: &EquationCandidate) -> String {
+    term_lines(equation) + &word_lines(equation)
+}
+
+/// The first two lines of RENAME.
+fn term_lines(equation: &EquationCandidate) -> String {
     let least = equation.canonicalize_variables();
-    let (wleft, wright) = match equation.semiring_normalize() {
+    let (left, right) = (show(least.lhs()), show(least.rhs()));
+    format!("left={left}\nright={right}\n")
+}
+
+/// The last two.
+fn word_lines(equation: &EquationCandidate) -> String {
+    let (left, right) = match equation.semiring_normalize() {
         Some(lists) => {
             let least = lists.canonicalize_variables();
             (show_words(least.lhs()), show_words(least.rhs()))
         }
         None => ("-".to_owned(), "-".to_owned()),
     };
-    format!(
-        "left={}\nright={}\nwleft={wleft}\nwright={wright}\n",
-        show(least.lhs()),
-        show(least.rhs())
-    )
+    format!("wleft={left}\nwright={right}\n")
 }
 
 /// The Rust's term of a run.
