@@ -17,6 +17,18 @@ unsafe extern "C" {
     fn puvainy_rename(job: *const u8, job_len: usize, output: *mut u8, output_len: usize) -> usize;
     fn puvainy_check(text: *const u8, text_len: usize, output: *mut u8, output_len: usize)
     -> usize;
+    fn puvainy_put(
+        text: *const u8,
+        text_len: usize,
+        catalogue: *mut u32,
+        catalogue_len: usize,
+    ) -> usize;
+    fn puvainy_withdraw(
+        text: *const u8,
+        text_len: usize,
+        catalogue: *mut u32,
+        catalogue_len: usize,
+    ) -> usize;
 }
 
 /// FIND: what the call returns, `ANSWER` plus the answer's length or the number of a refusal.
@@ -43,4 +55,18 @@ pub fn rename(job: &[u8], output: &mut [u8]) -> usize {
 pub fn check(text: &[u8], output: &mut [u8]) -> usize {
     // SAFETY: pointers and lengths are those of two slices.
     unsafe { puvainy_check(text.as_ptr(), text.len(), output.as_mut_ptr(), output.len()) }
+}
+
+/// PUT: what the call returns, `ANSWER` plus the count of kinds then held or the number of a refusal.
+pub fn put(text: &[u8], catalogue: &mut [u32]) -> usize {
+    let count = catalogue.len();
+    // SAFETY: pointers and lengths are those of two slices.
+    unsafe { puvainy_put(text.as_ptr(), text.len(), catalogue.as_mut_ptr(), count) }
+}
+
+/// WITHDRAW, likewise.
+pub fn withdraw(text: &[u8], catalogue: &mut [u32]) -> usize {
+    let count = catalogue.len();
+    // SAFETY: pointers and lengths are those of two slices.
+    unsafe { puvainy_withdraw(text.as_ptr(), text.len(), catalogue.as_mut_ptr(), count) }
 }
