@@ -62,8 +62,8 @@ static int name_files(const char *name)
     path = realpath(name, NULL);
     if (!path && errno == ENOENT && lstat(name, &is))
         path = strdup(name);
-    if (path && !stat(path, &is) && S_ISDIR(is.st_mode)) {
-        errno = EISDIR;
+    if (path && !stat(path, &is) && !S_ISREG(is.st_mode)) {
+        errno = S_ISDIR(is.st_mode) ? EISDIR : EINVAL;
         return 0;
     }
     return path && (new_path = beside(".new")) && (lock_path = beside(".lock"));

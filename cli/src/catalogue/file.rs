@@ -9,7 +9,8 @@ use std::path::{Path, PathBuf};
 
 use puvainy::CATALOGUE;
 
-use crate::failure::{Failure, plain, shown};
+use crate::failure::{Failure, plain};
+use crate::streams::Source;
 
 /// The bytes of each number, and of the whole file.
 const NUMBER: usize = 4;
@@ -36,9 +37,10 @@ impl Kept {
         let found = match fs::canonicalize(path) {
             Err(error) if is_new(&error) => Ok(path.to_owned()),
             Ok(file) if file.is_dir() => Err(ErrorKind::IsADirectory.into()),
+            Ok(file) if !file.is_file() => Err(Error::other("it keeps nothing")),
             found => found,
         };
-        let shown = shown(&name.to_string_lossy());
+        let shown = Source::File(path.to_owned()).name();
         let file = found.map_err(|error| cannot("read", &shown, &error))?;
         let beside = |ending| {
             let mut name = file.clone().into_os_string();
