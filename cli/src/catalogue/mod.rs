@@ -23,25 +23,28 @@ pub struct Changing {
 /// Makes all the changes and prints what each gives. The status is the highest of any. A failure to keep the catalogue, or to print what
 /// was kept, ends it: what follows might build on what failed.
 pub fn make_all(changing: &Changing, texts: &[Source]) -> Result<Status, Failure> {
-    tell_typed(texts, changing.change.name());
+    let what = match changing.change {
+        Change::Put => "put",
+        Change::Withdraw => "withdrawal",
+    };
+    tell_typed(texts, what);
     let mut printer = Printer::standard(texts)?;
     let mut status = Status::Answered;
-    for (text, left) in texts.iter().zip((0..texts.len()).rev()) {
-        let ended = |Failure(why): Failure, begin: &str, end: &str| {
-            let left = match left {
-                0 => String::new(),
-                _ => format!("; nothing behind {} is done", text.name()),
-            };
-            Failure(format!("{begin}{why}{end}{left}"))
+    for (place, text) in texts.iter().enumerate() {
+        let name = text.name();
+        let behind = match place + 1 < texts.len() {
+            true => format!("; nothing behind {name} is done"),
+            false => String::new(),
         };
         let made = changing.make(text, |line| printer.say(line));
-        let told = made.map_err(|why| ended(why, &format!("{}: ", text.name()), ""))?;
+        let told = made.map_err(|Failure(why)| Failure(format!("{name}: {why}{behind}")))?;
         status = status.max(told.status);
+        let done = match told.status {
+            Status::Answered => format!("; {name} is done"),
+            _ => String::new(),
+        };
         let printed = printer.print(text, &told).and_then(|()| printer.wait());
-        printed.map_err(|why| match told.status {
-            Status::Answered => ended(why, "", &format!("; {} is done", text.name())),
-            _ => ended(why, "", ""),
-        })?;
+        printed.map_err(|Failure(why)| Failure(format!("{why}{done}{behind}")))?;
     }
     printer.finish()?;
     Ok(status)

@@ -13,7 +13,7 @@ use crate::names::Names;
 pub const PUT: Word = Word {
     name: "put",
     usage: "--catalogue FILE [--names FILE] [TEXT...]",
-    does: "puts an equation into a catalogue, under a number, and tells how many kinds it then holds",
+    does: "an equation is put into a catalogue, under a number: how many kinds the catalogue then holds",
     more: "\
 A put is read from each TEXT, or from standard input if none is named (or by the TEXT -): a line number=,
 1 to 999, a line key=, raw or words, and the six lines of a job. It gives the one line `kinds=N` on standard
@@ -32,7 +32,7 @@ on standard error; it leaves the catalogue as it was, and the others are put.
 pub const WITHDRAW: Word = Word {
     name: "withdraw",
     usage: "--catalogue FILE [TEXT...]",
-    does: "takes an equation out of a catalogue, by its number, and tells how many kinds it then holds",
+    does: "the equation with a number is taken out of a catalogue: how many kinds are left",
     more: "\
 A withdrawal is read from each TEXT, or from standard input if none is named (or by the TEXT -): the one
 line number=. It gives the one line `kinds=N` on standard output, once the catalogue is on the disk; of

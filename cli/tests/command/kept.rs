@@ -95,7 +95,7 @@ fn one_that_waits_for_its_text_holds_up_nobody() {
     );
 }
 
-/// The system lets files grow to 256,000 bytes alone: the run is stopped while it writes, or told.
+/// The system lets files grow to some 500,000 bytes at most: the run is stopped while it writes, or told.
 #[test]
 fn a_run_that_is_stopped_while_it_writes_leaves_the_catalogue_as_it_was() {
     let folder = Folder::new("stopped");
