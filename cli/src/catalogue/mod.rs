@@ -106,3 +106,6 @@ fn listed(numbers: &[u32]) -> String {
         _ => counted(listed),
     }
 }
+
+#[cfg(test)]
+mod tests;
