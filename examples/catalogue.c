@@ -62,11 +62,19 @@ static int name_files(const char *name)
     path = realpath(name, NULL);
     if (!path && errno == ENOENT && lstat(name, &is))
         path = strdup(name);
-    if (path && !stat(path, &is) && !S_ISREG(is.st_mode)) {
-        errno = S_ISDIR(is.st_mode) ? EISDIR : EINVAL;
-        return 0;
-    }
     return path && (new_path = beside(".new")) && (lock_path = beside(".lock"));
+}
+
+/* Whether the file is a catalogue, or not there yet. Answers a status, 0 if so. */
+static int look(const char *name)
+{
+    struct stat is;
+    if (stat(path, &is))
+        return errno == ENOENT ? 0 : cannot("read", name, "", 2);
+    if (S_ISREG(is.st_mode) && is.st_size == sizeof numbers)
+        return 0;
+    fprintf(stderr, "catalogue: %s is no catalogue: that is a file of %zu bytes\n", name, sizeof numbers);
+    return 2;
 }
 
 /* Waits until nobody else changes the catalogue. The lock is held until this process ends. */
@@ -79,15 +87,13 @@ static int lock(void)
 /* Reads the catalogue, unless there is no file yet. Answers a status, 0 if all is well. */
 static int read_catalogue(const char *name)
 {
-    struct stat is;
-    if (stat(path, &is))
-        return errno == ENOENT ? 0 : cannot("read", name, "", 2);
-    if (is.st_size != sizeof numbers) {
-        fprintf(stderr, "catalogue: %s is no catalogue: it has not %zu bytes\n", name, sizeof numbers);
-        return 2;
-    }
+    int status = look(name);
+    if (status)
+        return status;
     FILE *file = fopen(path, "rb");
-    if (!file || fread(numbers, sizeof numbers, 1, file) != 1)
+    if (!file)
+        return errno == ENOENT ? 0 : cannot("read", name, "", 2);
+    if (fread(numbers, sizeof numbers, 1, file) != 1)
         return cannot("read", name, "", 2);
     fclose(file);
     return 0;
@@ -145,36 +151,48 @@ static int keep(const char *name)
     return 0;
 }
 
-int main(int count, char **words)
+/* Reads the text. Answers a status, 0 if all is well. */
+static int read_text(const char *name, size_t *length)
 {
-    entry *asked = count == 4 ? named(words[1]) : NULL;
-    if (!asked) {
-        fprintf(stderr, "usage: catalogue put|withdraw CATALOGUE FILE (- is standard input)\n");
-        return 2;
-    }
-    FILE *file = strcmp(words[3], "-") ? fopen(words[3], "rb") : stdin;
+    FILE *file = strcmp(name, "-") ? fopen(name, "rb") : stdin;
     if (!file)
-        return cannot("open", words[3], "", 2);
-    size_t length = fread(text, 1, sizeof text, file);
-    if (ferror(file))
-        return cannot("read", words[3], "", 2);
-    if (!name_files(words[2]))
-        return cannot("take", words[2], "", 2);
-    if (!lock())
-        return cannot("lock", lock_path, "", 1);
-    int status = read_catalogue(words[2]);
-    if (status)
-        return status;
+        return cannot("open", name, "", 2);
+    *length = fread(text, 1, sizeof text, file);
+    return ferror(file) ? cannot("read", name, "", 2) : 0;
+}
 
-    size_t number = asked(text, length, numbers, PUVAINY_CATALOGUE);
-    if (number >= PUVAINY_ANSWER && (status = keep(words[2])))
-        return status;
+/* Prints what the call returned. */
+static int answer(size_t number)
+{
     signal(SIGPIPE, SIG_IGN); /* a pipe that nobody reads is told as a failed write */
     if (number < PUVAINY_ANSWER)
         printf("answer=refused\nnumber=%zu\n", number);
     else
         printf("kinds=%zu\n", number - PUVAINY_ANSWER);
-    if (fflush(stdout) || ferror(stdout))
-        return cannot("write", "the answer", "", 1);
-    return 0;
+    return fflush(stdout) || ferror(stdout) ? cannot("write", "the answer", "", 1) : 0;
+}
+
+int main(int count, char **words)
+{
+    size_t length;
+    entry *asked = count == 4 ? named(words[1]) : NULL;
+    if (!asked) {
+        fprintf(stderr, "usage: catalogue put|withdraw CATALOGUE FILE (- is standard input)\n");
+        return 2;
+    }
+    int status = read_text(words[3], &length);
+    if (status)
+        return status;
+    if (!name_files(words[2]))
+        return cannot("find", words[2], "", 2);
+    if ((status = look(words[2])))
+        return status;
+    if (!lock())
+        return cannot("lock", lock_path, "", 1);
+    if ((status = read_catalogue(words[2])))
+        return status;
+    size_t number = asked(text, length, numbers, PUVAINY_CATALOGUE);
+    if (number >= PUVAINY_ANSWER && (status = keep(words[2])))
+        return status;
+    return answer(number);
 }

@@ -59,6 +59,11 @@ impl Kept {
         &self.name
     }
 
+    /// Whether a file is there that is no catalogue: it is left alone, and nothing is put beside it.
+    pub fn is_other(&self) -> bool {
+        fs::metadata(&self.file).is_ok_and(|is| is.len() != BYTES as u64)
+    }
+
     /// Waits until nobody else changes the catalogue, and tells if that takes a while.
     pub fn lock(&self, tell: impl FnOnce(&str)) -> Result<Locked<'_>, Failure> {
         let cannot = |error| cannot("lock", &self.name, &error);
@@ -117,14 +122,13 @@ pub struct Locked<'a> {
 impl Locked<'_> {
     /// The catalogue's numbers, zeros if there is no file yet; none if the file is no catalogue.
     pub fn read(&self) -> Result<Vec<u32>, Failure> {
-        let file = &self.kept.file;
-        let read = match fs::metadata(file) {
+        if self.kept.is_other() {
+            return Ok(Vec::new());
+        }
+        let bytes = match fs::read(&self.kept.file) {
             Err(error) if error.kind() == ErrorKind::NotFound => return Ok(vec![0; CATALOGUE]),
-            Ok(is) if is.len() != BYTES as u64 => return Ok(Vec::new()),
-            Ok(_) => fs::read(file),
-            Err(error) => Err(error),
+            read => read.map_err(|error| cannot("read", &self.kept.name, &error))?,
         };
-        let bytes = read.map_err(|error| cannot("read", &self.kept.name, &error))?;
         let (numbers, _) = bytes.as_chunks::<NUMBER>();
         Ok(numbers.iter().copied().map(u32::from_le_bytes).collect())
     }

@@ -57,23 +57,21 @@ impl Changing {
             Ok(bytes) => bytes,
             Err(Failure(why)) => return Ok(Told::failed(why)),
         };
+        if self.kept.is_other() {
+            return Ok(self.refused(source, self.change.call(&bytes, &mut []), &bytes, &[]));
+        }
         let file = self.kept.lock(tell)?;
         let mut numbers = file.read()?;
         let number = self.change.call(&bytes, &mut numbers);
-        match number.checked_sub(ANSWER) {
-            Some(kinds) => {
-                file.write(&numbers)?;
-                Ok(Told::answered(format!("kinds={kinds}\n").as_bytes()))
-            }
-            None => {
-                let said = self.refused(&source.name(), number, &bytes, &numbers);
-                Ok(Told::refused(number, said))
-            }
-        }
+        let Some(kinds) = number.checked_sub(ANSWER) else {
+            return Ok(self.refused(source, number, &bytes, &numbers));
+        };
+        file.write(&numbers)?;
+        Ok(Told::answered(format!("kinds={kinds}\n").as_bytes()))
     }
 
     /// What is said of a refusal: of a put's terms with names both sides, of what the catalogue holds the numbers listed.
-    fn refused(&self, name: &str, number: usize, bytes: &[u8], numbers: &[u32]) -> Vec<String> {
+    fn refused(&self, source: &Source, number: usize, bytes: &[u8], numbers: &[u32]) -> Told {
         let text = Text::new(self.change, bytes);
         let here = |fault| Some(Found::new(fault, self.kept.name().to_owned(), Vec::new()));
         let found = match number {
@@ -82,7 +80,7 @@ impl Changing {
             _ => text.fault(number),
         };
         let told = refusals::sentence(CHANGES.iter().chain(&JOBS), number, found);
-        let mut said = vec![format!("{name}: {told}")];
+        let mut said = vec![format!("{}: {told}", source.name())];
         match number {
             13..=15 => said.push(format!("listed: {}", listed(numbers))),
             99 => {}
@@ -91,7 +89,7 @@ impl Changing {
                 said.extend(sides.filter_map(|(key, side)| self.names.side(&key, side)));
             }
         }
-        said
+        Told::refused(number, said)
     }
 }
 

@@ -186,6 +186,7 @@ fn what_is_no_catalogue_is_left_alone() {
         );
         assert_eq!(gave.said, said);
         assert!(fs::read(&file).unwrap() == vec![b'a'; bytes]);
+        assert_eq!(folder.files(), ["training.catalogue"]);
     }
 }
 
