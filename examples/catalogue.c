@@ -165,16 +165,19 @@ static int read_text(const char *name, size_t *length)
 static int answer(size_t number)
 {
     signal(SIGPIPE, SIG_IGN); /* a pipe that nobody reads is told as a failed write */
-    if (number < PUVAINY_ANSWER)
-        printf("answer=refused\nnumber=%zu\n", number);
-    else
+    int is_kept = number >= PUVAINY_ANSWER;
+    if (is_kept)
         printf("kinds=%zu\n", number - PUVAINY_ANSWER);
-    return fflush(stdout) || ferror(stdout) ? cannot("write", "the answer", "", 1) : 0;
+    else
+        printf("answer=refused\nnumber=%zu\n", number);
+    if (fflush(stdout) || ferror(stdout))
+        return cannot("write", "the answer", is_kept ? "; the catalogue is changed" : "", 1);
+    return 0;
 }
 
 int main(int count, char **words)
 {
-    size_t length;
+    size_t length = 0;
     entry *asked = count == 4 ? named(words[1]) : NULL;
     if (!asked) {
         fprintf(stderr, "usage: catalogue put|withdraw CATALOGUE FILE (- is standard input)\n");
