@@ -1,4 +1,4 @@
-/* Answers a job, or a derivation, by one of the four entries, from C.
+/* Answers a job, or a derivation, by one of the four entries that print an answer, from C.
  * host ENTRY FILE: ENTRY is find, words or rename, which take a job, or check, which takes a derivation;
  * the FILE `-` is standard input.
  * Prints the answer, or `answer=refused` and `number=N`. Status 1: the answer could not be written;

@@ -1,10 +1,11 @@
-/* Holds the four entries to the stack that puvainy.h grants them, and measures what they take.
+/* Holds the six entries to the stack that puvainy.h grants them, and measures what they take.
  *
  * Standard input has calls as `oracle generate` writes them: a line `entry slots room length`, then the
- * bytes of the job or derivation; examples/deep.calls has those that go deepest. Each call is made on a thread
- * of its own whose stack ends at pages that cannot be touched, where the header's figure is used up:
- * a call that takes more ends the program, which then names it. The stack is full of one byte before
- * the call; the deepest byte that another stands in afterwards says how much was used.
+ * bytes of the text; examples/deep.calls has those that go deepest. Entries 5 and 6, PUT and WITHDRAW, change
+ * one catalogue, which is empty before the first call. Each call is made on a thread of its own whose stack
+ * ends at pages that cannot be touched, where the header's figure is used up: a call that takes more ends the
+ * program, which then names it. The stack is full of one byte before the call; the deepest byte that another
+ * stands in afterwards says how much was used.
  *
  * What a thread takes by itself is measured by an empty call and added on top, so that a call has the
  * header's figure to the byte.
@@ -22,14 +23,14 @@
 #include "puvainy.h"
 
 /* The guard is larger than any frame, so that no frame reaches past it. */
-enum { PAINT = 0xa5, ENTRIES = 4, GUARD = 1 << 20, MOST = 1 << 19 };
+enum { PAINT = 0xa5, ENTRIES = 6, GUARD = 1 << 20, MOST = 1 << 19 };
 
 /* A thread's first frame may be aligned to so many bytes, a call's to so few. */
 enum { COARSE = 256, FINE = 16 };
 
-static const char *const names[ENTRIES] = {"find", "words", "rename", "check"};
-static const size_t granted[ENTRIES] = {PUVAINY_FIND_STACK, PUVAINY_WORDS_STACK, PUVAINY_RENAME_STACK,
-                                        PUVAINY_CHECK_STACK};
+static const char *const names[ENTRIES] = {"find", "words", "rename", "check", "put", "withdraw"};
+static const size_t granted[ENTRIES] = {PUVAINY_FIND_STACK,  PUVAINY_WORDS_STACK, PUVAINY_RENAME_STACK,
+                                        PUVAINY_CHECK_STACK, PUVAINY_PUT_STACK,   PUVAINY_WITHDRAW_STACK};
 
 struct call {
     size_t entry, slots, room, length;
@@ -41,6 +42,9 @@ struct call {
     void *given_away;
     uintptr_t top; /* where the stack stands when the entry is called */
 };
+
+/* The catalogue of all the calls. */
+static uint32_t catalogue[PUVAINY_CATALOGUE];
 
 /* What the handler says of the call that is being made. */
 static char too_deep[200];
@@ -88,6 +92,10 @@ static void *run(void *given)
         c->number = puvainy_rename(c->text, c->length, c->output, c->room);
     if (c->entry == 4)
         c->number = puvainy_check(c->text, c->length, c->output, c->room);
+    if (c->entry == 5)
+        c->number = puvainy_put(c->text, c->length, catalogue, PUVAINY_CATALOGUE);
+    if (c->entry == 6)
+        c->number = puvainy_withdraw(c->text, c->length, catalogue, PUVAINY_CATALOGUE);
     return NULL;
 }
 

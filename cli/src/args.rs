@@ -83,6 +83,20 @@ impl Iterator for Args {
     }
 }
 
+/// The files to read, standard input if none is named.
+pub fn sources(mut named: Vec<Source>) -> Result<Vec<Source>, Failure> {
+    if named.is_empty() {
+        named.push(Source::Input);
+    }
+    let inputs = named.iter().filter(|&source| *source == Source::Input);
+    match inputs.count() > 1 {
+        true => Err(Failure(
+            "- is standard input, which can be read once only".to_owned(),
+        )),
+        false => Ok(named),
+    }
+}
+
 /// What is said of an option that the word does not have.
 pub fn unknown(option: &str) -> Failure {
     Failure(format!(

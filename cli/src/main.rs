@@ -2,6 +2,7 @@
 
 mod args;
 mod ask;
+mod catalogue;
 mod closed;
 mod derivation;
 mod failure;
@@ -13,6 +14,7 @@ mod refusals;
 mod side;
 mod streams;
 mod term;
+mod whole;
 mod word;
 
 use std::process::ExitCode;

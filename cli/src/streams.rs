@@ -2,13 +2,16 @@
 
 use std::ffi::OsStr;
 use std::fs::File;
-use std::io::{BufWriter, Error, Read, Write, stdin, stdout};
+use std::io::{BufWriter, Error, IsTerminal, Read, Write, stdin, stdout};
 use std::os::fd::AsFd;
 use std::os::unix::ffi::OsStrExt;
 use std::path::PathBuf;
 
 use crate::closed;
-use crate::failure::{Failure, plain, shown};
+use crate::failure::{Failure, plain, say, shown};
+
+/// More bytes than any text for an entry may have, so that a longer text is refused and an endless one is not read on.
+pub const MOST_TEXT: usize = 1 << 16;
 
 /// Where a text comes from.
 #[derive(Clone, Debug, Eq, PartialEq)]
@@ -73,6 +76,15 @@ impl Source {
 
     fn unread(&self, why: &str) -> Failure {
         Failure(format!("cannot read {}: {why}", self.name()))
+    }
+}
+
+/// Says that one of the texts is to be typed at the terminal, if so.
+pub fn tell_typed(texts: &[Source], what: &str) {
+    if texts.contains(&Source::Input) && stdin().is_terminal() {
+        say(&format!(
+            "reading a {what} from the terminal; end it by Ctrl-D"
+        ));
     }
 }
 

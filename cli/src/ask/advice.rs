@@ -61,11 +61,7 @@ pub fn too_few(fault: Fault, slots: usize) -> Found {
         MOST_SLOTS => format!("with all {MOST_SLOTS} slots"),
         _ => format!("with --slots {slots}"),
     };
-    Found {
-        fault,
-        place,
-        sides: Vec::new(),
-    }
+    Found::new(fault, place, Vec::new())
 }
 
 /// What is said of the only block: its sides are shown as they are oriented.

@@ -4,51 +4,13 @@ use std::sync::Arc;
 
 use puvainy::{Buffers, Entry, Room};
 
-use super::Asking;
-use super::advice;
 use super::blocks::{Block, blocks};
+use super::{Asking, Told, advice};
 use crate::derivation::Derivation;
 use crate::failure::{Failure, Status};
 use crate::job::Job;
 use crate::refusals::{self, DERIVATIONS, Fault, Found, JOBS};
-use crate::streams::Source;
-
-/// More bytes than any text may have, so that a longer text is refused and an endless one is not read on.
-const MOST_BYTES: usize = 1 << 16;
-
-/// What a job gave.
-pub struct Told {
-    pub status: Status,
-    /// For standard output: the answer, or a refusal's two lines.
-    pub printed: Vec<u8>,
-    /// For standard error, line by line.
-    pub said: Vec<String>,
-}
-
-impl Told {
-    /// Of a job that broke down.
-    pub fn lost(job: &Source) -> Told {
-        let why = "this job broke down and is not answered; the others are";
-        Told::failed(format!("{}: {why}", job.name()))
-    }
-
-    /// Of an answer of which nothing is said.
-    pub fn answered(answer: &[u8]) -> Told {
-        Told {
-            status: Status::Answered,
-            printed: answer.to_vec(),
-            said: Vec::new(),
-        }
-    }
-
-    fn failed(why: String) -> Told {
-        Told {
-            status: Status::Failed,
-            printed: Vec::new(),
-            said: vec![why],
-        }
-    }
-}
+use crate::streams::{MOST_TEXT, Source};
 
 /// One thread's asker, with buffers of its own.
 pub struct Asker {
@@ -71,7 +33,7 @@ impl Asker {
 
     /// Reads the text and asks the entry.
     pub fn ask(&mut self, source: &Source) -> Told {
-        let bytes = match source.read_begin(MOST_BYTES) {
+        let bytes = match source.read_begin(MOST_TEXT) {
             Ok(bytes) => bytes,
             Err(Failure(why)) => return Told::failed(why),
         };
@@ -81,14 +43,11 @@ impl Asker {
             Ok(answer) => return answered(&name, answer, &bytes, asking),
             Err(number) => number,
         };
-        Told {
-            status: Status::Refused,
-            said: match asking.entry {
-                Entry::Check => self.broken(&name, number, &bytes),
-                _ => refused(&name, number, &Job::new(asking.entry, &bytes), asking),
-            },
-            printed: format!("answer=refused\nnumber={number}\n").into_bytes(),
-        }
+        let said = match asking.entry {
+            Entry::Check => self.broken(&name, number, &bytes),
+            _ => refused(&name, number, &Job::new(asking.entry, &bytes), asking),
+        };
+        Told::refused(number, said)
     }
 
     /// What is said of a refused derivation. Which of its lines are no chain's is asked of the entry, line by line.
@@ -162,11 +121,10 @@ fn lacking(number: usize, job: &Job, asking: &Asking) -> Option<Found> {
 /// The fault of an answer that is too long, with the room that was given.
 fn little_room(number: usize, fault: Fault, asking: &Asking) -> Option<Found> {
     match (number, asking.room) {
-        (TOO_LONG, Room::Bytes(bytes)) => Some(Found {
-            fault,
-            place: format!("with --room {bytes}"),
-            sides: Vec::new(),
-        }),
+        (TOO_LONG, Room::Bytes(bytes)) => {
+            let place = format!("with --room {bytes}");
+            Some(Found::new(fault, place, Vec::new()))
+        }
         _ => None,
     }
 }

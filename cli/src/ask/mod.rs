@@ -6,18 +6,20 @@ mod blocks;
 mod crew;
 mod printer;
 mod progress;
+mod told;
 
-use std::io::{IsTerminal, Write, stdin};
+use std::io::Write;
 use std::sync::Arc;
 
 use puvainy::{Entry, Room};
 
-use crate::failure::{Failure, Status, say};
+use crate::failure::{Failure, Status};
 use crate::names::Names;
-use crate::streams::Source;
-use asker::{Asker, Told};
+use crate::streams::{Source, tell_typed};
+use asker::Asker;
 use crew::News;
-use printer::Printer;
+pub use printer::Printer;
+pub use told::Told;
 
 /// What is asked of every job.
 pub struct Asking {
@@ -29,15 +31,11 @@ pub struct Asking {
 
 /// Asks all the jobs and prints what each gives. The status is the highest of any.
 pub fn ask(asking: Asking, jobs: Vec<Source>) -> Result<Status, Failure> {
-    if jobs.contains(&Source::Input) && stdin().is_terminal() {
-        let what = match asking.entry {
-            Entry::Check => "derivation",
-            _ => "job",
-        };
-        say(&format!(
-            "reading a {what} from the terminal; end it by Ctrl-D"
-        ));
-    }
+    let what = match asking.entry {
+        Entry::Check => "derivation",
+        _ => "job",
+    };
+    tell_typed(&jobs, what);
     let printer = Printer::standard(&jobs)?;
     let asking = Arc::new(asking);
     let asker = move || {

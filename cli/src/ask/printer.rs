@@ -3,7 +3,7 @@
 use std::fs::File;
 use std::io::{IsTerminal, Stderr, Write, stderr, stdin, stdout};
 
-use super::asker::Told;
+use super::Told;
 use super::progress::Progress;
 use crate::failure::Failure;
 use crate::streams::{Output, Source};
@@ -72,6 +72,11 @@ impl<O: Write, E: Write> Printer<O, E> {
         }
         self.done += 1;
         self.show()
+    }
+
+    /// Says a line that belongs to no answer.
+    pub fn say(&mut self, line: &str) {
+        self.progress.say(&[line.to_owned()]);
     }
 
     /// While the next job is not done: what is printed reaches its reader.

@@ -7,11 +7,11 @@ use std::collections::BTreeSet;
 
 use puvainy::Entry;
 
-use crate::job::is_foreign;
 use crate::law::Made;
 use crate::refusals::{Fault, Found};
 use crate::side;
 use crate::term::{MOST_LETTERS, Term, is_letter};
+use crate::whole::{self, in_whole};
 use step::Step;
 
 /// The lines before the step lines: left's and right's.
@@ -25,7 +25,7 @@ pub struct Derivation<'a> {
 
 impl<'a> Derivation<'a> {
     pub fn new(bytes: &'a [u8]) -> Derivation<'a> {
-        let lines = bytes.split_inclusive(|&byte| byte == b'\n').collect();
+        let lines = whole::lines(bytes);
         Derivation { bytes, lines }
     }
 
@@ -49,7 +49,11 @@ impl<'a> Derivation<'a> {
             2 => self.in_terms(side::in_term),
             3 => self.in_terms(side::in_size),
             4 => self.in_letters(),
-            11 => Some(found(Fault::NoStep, format!("behind {}", place(1)), vec![])),
+            11 => Some(Found::new(
+                Fault::NoStep,
+                format!("behind {}", place(1)),
+                vec![],
+            )),
             12 => self.in_chain(holds),
             _ => None,
         }
@@ -67,9 +71,7 @@ impl<'a> Derivation<'a> {
 
     /// What stands behind the key in that line, if the line has it.
     fn value(&self, line: usize) -> Option<&'a [u8]> {
-        self.line(line)?
-            .strip_prefix(key(line).as_bytes())?
-            .strip_prefix(b"=")
+        whole::value(self.lines.get(line)?, key(line))
     }
 
     /// The text of the term in that line.
@@ -83,15 +85,9 @@ impl<'a> Derivation<'a> {
 
     /// A fault of the text as a whole.
     fn in_text(&self) -> Option<Found> {
-        let whole = |fault| Some(found(fault, "the whole text".to_owned(), vec![]));
-        if self.is_long() {
-            return whole(Fault::Long);
-        }
-        if is_foreign(self.bytes) {
-            return whole(Fault::Mark);
-        }
         let is_answer = self.bytes.starts_with(b"answer=");
-        is_answer.then(|| found(Fault::Answer, "line 1".to_owned(), vec![]))
+        let answer = || is_answer.then(|| Found::new(Fault::Answer, "line 1".to_owned(), vec![]));
+        in_whole(self.bytes, Entry::Check.most_job()).or_else(answer)
     }
 
     /// A line that is missing, is another one or lacks its end, or a step line with a wrong part.
@@ -102,7 +98,7 @@ impl<'a> Derivation<'a> {
                 Fault::Step => format!("line {}", line + 1),
                 _ => place(line) + &told,
             };
-            Some(found(fault, place, vec![]))
+            Some(Found::new(fault, place, vec![]))
         })
     }
 
@@ -123,7 +119,11 @@ impl<'a> Derivation<'a> {
     fn in_terms(&self, find: fn(&[u8]) -> Option<(Fault, String)>) -> Option<Found> {
         (0..self.lines.len()).find_map(|line| {
             let (fault, told) = find(self.term(line)?)?;
-            Some(found(fault, format!("{}{told}", place(line)), vec![line]))
+            Some(Found::new(
+                fault,
+                format!("{}{told}", place(line)),
+                vec![line],
+            ))
         })
     }
 
@@ -136,7 +136,7 @@ impl<'a> Derivation<'a> {
                 letters.insert(item);
                 if letters.len() > MOST_LETTERS {
                     let told = format!("{}, where {item} is letter {}", place(line), letters.len());
-                    return Some(found(Fault::Letters, told, vec![line]));
+                    return Some(Found::new(Fault::Letters, told, vec![line]));
                 }
             }
         }
@@ -152,7 +152,7 @@ impl<'a> Derivation<'a> {
             }
         }
         let last = self.lines.len() - 1;
-        Some(found(Fault::Stops, place(last), vec![last, 1]))
+        Some(Found::new(Fault::Stops, place(last), vec![last, 1]))
     }
 
     /// The derivation of that step line alone, with this result, from the term before it.
@@ -186,7 +186,7 @@ impl<'a> Derivation<'a> {
                 Fault::Result
             }
         };
-        Some(found(fault, told, vec![before(line), line]))
+        Some(Found::new(fault, told, vec![before(line), line]))
     }
 }
 
@@ -217,14 +217,6 @@ fn name(line: usize) -> String {
 
 fn place(line: usize) -> String {
     format!("line {} ({})", line + 1, name(line))
-}
-
-fn found(fault: Fault, place: String, sides: Vec<usize>) -> Found {
-    Found {
-        fault,
-        place,
-        sides,
-    }
 }
 
 #[cfg(test)]

@@ -8,25 +8,30 @@ use crate::failure::counted;
 use crate::refusals::{Fault, Found};
 use crate::side;
 use crate::term::{MOST_LETTERS, is_letter, ranks};
+use crate::whole::{self, in_ends, in_whole, is_number};
 
 /// The lines behind the sides, in order: the limits with their bounds.
 const LIMITS: [(&str, usize); 4] = [("steps", 16), ("size", 31), ("depth", 15), ("nodes", 4096)];
-
-/// The marks that editors put before a text to tell its encoding.
-const MARKS: [&[u8]; 3] = [b"\xef\xbb\xbf", b"\xff\xfe", b"\xfe\xff"];
 
 /// A job's text for an entry, cut after each line feed. Line 0 is left's, line K that of right side K, and the limits follow.
 pub struct Job<'a> {
     entry: Entry,
     bytes: &'a [u8],
     lines: Vec<&'a [u8]>,
+    /// How many lines stand before the job's in the text that it is part of.
+    before: usize,
     /// How many lines are right sides': one at least, and one alone where the entry takes no more.
     rights: usize,
 }
 
 impl<'a> Job<'a> {
     pub fn new(entry: Entry, bytes: &'a [u8]) -> Job<'a> {
-        let lines: Vec<_> = bytes.split_inclusive(|&byte| byte == b'\n').collect();
+        Job::behind(0, entry, bytes)
+    }
+
+    /// A job behind so many lines of a text, by which its own are counted on.
+    pub fn behind(before: usize, entry: Entry, bytes: &'a [u8]) -> Job<'a> {
+        let lines = whole::lines(bytes);
         let rights = lines.iter().skip(1);
         let rights = rights.take_while(|line| line.starts_with(b"right="));
         let rights = match entry.most_rights() {
@@ -37,6 +42,7 @@ impl<'a> Job<'a> {
             entry,
             bytes,
             lines,
+            before,
             rights,
         }
     }
@@ -98,10 +104,7 @@ impl<'a> Job<'a> {
 
     /// What stands behind the key in that line, if the line has it.
     fn value(&self, line: usize) -> Option<&'a [u8]> {
-        let text = self.lines.get(line)?;
-        let text = text.strip_suffix(b"\n").unwrap_or(text);
-        text.strip_prefix(self.key(line).as_bytes())?
-            .strip_prefix(b"=")
+        whole::value(self.lines.get(line)?, self.key(line))
     }
 
     /// The first fault that the number stands for, if it is one that can be placed; for 4, 6 and 10 in all right sides that have it.
@@ -121,19 +124,11 @@ impl<'a> Job<'a> {
 
     /// A fault of the text as a whole.
     fn in_text(&self) -> Option<Found> {
-        let whole = |fault| Some(found(fault, "the whole text".to_owned(), Vec::new()));
-        if self.bytes.len() > self.entry.most_job() {
-            return whole(Fault::Long);
-        }
-        if is_foreign(self.bytes) {
-            return whole(Fault::Mark);
-        }
-        let returned = self.lines.iter().position(|line| line.ends_with(b"\r\n"));
-        returned.map(|line| at(Fault::Windows, line))
+        in_whole(self.bytes, self.entry.most_job()).or_else(|| in_ends(&self.lines))
     }
 
     /// A line that is missing, is another one, lacks its end or holds no number; or a line too many.
-    fn in_lines(&self) -> Option<Found> {
+    pub fn in_lines(&self) -> Option<Found> {
         let count = 1 + self.rights + LIMITS.len();
         for line in 0..count {
             let fault = match (self.lines.get(line), self.value(line)) {
@@ -146,7 +141,8 @@ impl<'a> Job<'a> {
             return Some(self.in_line(fault, line));
         }
         let more = self.lines.get(count)?;
-        Some(self.in_stray(count, more).unwrap_or(at(Fault::More, count)))
+        let stray = self.in_stray(count, more);
+        Some(stray.unwrap_or(self.at(Fault::More, count)))
     }
 
     /// A line with another key than is due. Behind the right sides of FIND one more could stand.
@@ -155,8 +151,8 @@ impl<'a> Job<'a> {
             return stray;
         }
         if line == 1 + self.rights && self.entry.most_rights() > 1 {
-            let place = format!("line {} (right or steps)", line + 1);
-            return found(Fault::Key, place, Vec::new());
+            let place = format!("line {} (right or steps)", self.number(line));
+            return Found::new(Fault::Key, place, Vec::new());
         }
         self.in_line(Fault::Key, line)
     }
@@ -168,7 +164,7 @@ impl<'a> Job<'a> {
             _ => Fault::Stray,
         };
         let is_stray = line > self.rights && text.starts_with(b"right=");
-        is_stray.then(|| at(fault, line))
+        is_stray.then(|| self.at(fault, line))
     }
 
     /// The first right side that is one too many.
@@ -182,7 +178,7 @@ impl<'a> Job<'a> {
         (0..=self.rights).find_map(|line| {
             let (fault, place) = find(self.value(line)?)?;
             let Found { place: begin, .. } = self.in_line(fault, line);
-            Some(found(fault, begin + &place, vec![line]))
+            Some(Found::new(fault, begin + &place, vec![line]))
         })
     }
 
@@ -231,14 +227,14 @@ impl<'a> Job<'a> {
         let left = self.text(0)?;
         let is_at_fault = |&line: &usize| self.text(line).is_some_and(|right| is_such(left, right));
         let rights: Vec<_> = (1..=self.rights).filter(is_at_fault).collect();
-        let lines = counted(rights.iter().map(|line| line + 1));
+        let lines = counted(rights.iter().map(|&line| self.number(line)));
         let place = match rights[..] {
             [] => return None,
-            [_] if !self.has_several() => "lines 1 and 2".to_owned(),
+            [_] if !self.has_several() => format!("lines {} and {lines}", self.number(0)),
             [right] => format!("line {lines} (right {right})"),
             _ => format!("lines {lines} (right {})", counted(rights.iter().copied())),
         };
-        Some(found(fault, place, rights))
+        Some(Found::new(fault, place, rights))
     }
 
     /// The text of that side.
@@ -248,9 +244,19 @@ impl<'a> Job<'a> {
 
     /// A fault of that line, with the line's name.
     fn in_line(&self, fault: Fault, line: usize) -> Found {
-        let place = format!("line {} ({})", line + 1, self.name(line));
+        let place = format!("line {} ({})", self.number(line), self.name(line));
         let side = (line <= self.rights).then_some(line);
-        found(fault, place, side.into_iter().collect())
+        Found::new(fault, place, side.into_iter().collect())
+    }
+
+    /// A fault of that line, which is none of a job's.
+    fn at(&self, fault: Fault, line: usize) -> Found {
+        Found::new(fault, format!("line {}", self.number(line)), Vec::new())
+    }
+
+    /// The line's number in the text, for people.
+    fn number(&self, line: usize) -> usize {
+        self.before + line + 1
     }
 }
 
@@ -259,29 +265,6 @@ fn letters(left: &str, right: &str) -> usize {
     let items = left.split(' ').chain(right.split(' '));
     let letters: BTreeSet<_> = items.filter(|item| is_letter(item)).collect();
     letters.len()
-}
-
-fn found(fault: Fault, place: String, sides: Vec<usize>) -> Found {
-    Found {
-        fault,
-        place,
-        sides,
-    }
-}
-
-/// A fault of that line; the first is 0.
-fn at(fault: Fault, line: usize) -> Found {
-    found(fault, format!("line {}", line + 1), Vec::new())
-}
-
-/// Whether the text begins with such a mark or holds bytes 0, as other encodings do.
-pub fn is_foreign(bytes: &[u8]) -> bool {
-    MARKS.iter().any(|mark| bytes.starts_with(mark)) || bytes.contains(&0)
-}
-
-fn is_number(digits: &[u8]) -> bool {
-    let is_plain = !digits.is_empty() && digits.iter().all(u8::is_ascii_digit);
-    is_plain && (digits == b"0" || digits[0] != b'0')
 }
 
 #[cfg(test)]

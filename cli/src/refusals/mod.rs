@@ -1,8 +1,10 @@
-//! What is said of a refusal: a table for jobs and one for derivations, which the guide shows too.
+//! What is said of a refusal: a table for jobs, one for derivations and one for puts and withdrawals, which the guide shows too.
 
+mod changes;
 mod derivations;
 mod jobs;
 
+pub use changes::CHANGES;
 pub use derivations::DERIVATIONS;
 pub use jobs::JOBS;
 
@@ -50,6 +52,12 @@ pub enum Fault {
     Match,
     Result,
     Stops,
+    NoCatalogue,
+    Number,
+    Name,
+    Listed,
+    Unlisted,
+    Full,
 }
 
 /// A fault, and in words where it is.
@@ -59,6 +67,16 @@ pub struct Found {
     pub place: String,
     /// The sides that it is in, if any: 0 is left, K right side K. Of a derivation the lines of the terms, the first is 0.
     pub sides: Vec<usize>,
+}
+
+impl Found {
+    pub fn new(fault: Fault, place: String, sides: Vec<usize>) -> Found {
+        Found {
+            fault,
+            place,
+            sides,
+        }
+    }
 }
 
 /// A row of the table, in which the numbers stand in the order in which they are looked at. Back quotes are for the guide.
@@ -104,14 +122,18 @@ const LEFT: Row = row(
     "put each sign before its two parts",
 );
 
-/// What is wrong, where, what to do, by a table: a sentence without its full stop. Where the fault is not found, the number's first row
-/// is told.
-pub fn sentence(rows: &[Row], number: usize, found: Option<Found>) -> String {
+/// What is wrong, where, what to do, by the first row that fits: a sentence without its full stop. Where the fault is not found, the
+/// number's first row is told.
+pub fn sentence<'a>(
+    rows: impl IntoIterator<Item = &'a Row>,
+    number: usize,
+    found: Option<Found>,
+) -> String {
     let fits = |row: &&Row| match &found {
         Some(found) => row.fault == found.fault,
         None => row.number == number,
     };
-    let Some(Row { wrong, to_do, .. }) = rows.iter().find(fits) else {
+    let Some(Row { wrong, to_do, .. }) = rows.into_iter().find(fits) else {
         return format!("this command knows nothing of refusal {number}; see the guide");
     };
     let place = found.map_or_else(String::new, |found| format!("{}: ", found.place));
@@ -128,6 +150,7 @@ mod tests {
         for (title, rows) in [
             ("Refusals\n", &JOBS[..]),
             ("A refused derivation\n", &DERIVATIONS),
+            ("A refused put or withdrawal\n", &CHANGES),
         ] {
             let mut sections = guide.split("\n## ");
             let section = sections.find(|text| text.starts_with(title)).unwrap();
@@ -147,7 +170,7 @@ mod tests {
 
     #[test]
     fn a_number_without_a_row_is_told_as_such() {
-        let told = sentence(&JOBS, 99, None);
-        assert!(told.starts_with("this command knows nothing of refusal 99"));
+        let told = sentence(&JOBS, 98, None);
+        assert!(told.starts_with("this command knows nothing of refusal 98"));
     }
 }

@@ -5,11 +5,10 @@ use std::ffi::OsString;
 use puvainy::{Entry, MOST_ROOM, MOST_SLOTS, Room};
 
 use super::{Run, Word};
-use crate::args::{Arg, Args, unknown};
+use crate::args::{Arg, Args, sources, unknown};
 use crate::ask::{Asking, ask};
 use crate::failure::{Failure, Status};
 use crate::names::Names;
-use crate::streams::Source;
 
 pub const FIND: Word = word(
     "find",
@@ -84,14 +83,7 @@ pub fn run(word: &Word, entry: Entry, words: Vec<OsString>) -> Result<Status, Fa
             _ => return Err(unknown(&option)),
         }
     }
-    if jobs.is_empty() {
-        jobs.push(Source::Input);
-    }
-    if jobs.iter().filter(|&job| *job == Source::Input).count() > 1 {
-        return Err(Failure(
-            "- is standard input, which can be read once only".to_owned(),
-        ));
-    }
+    let jobs = sources(jobs)?;
     asking.names = Names::chosen(names)?;
     ask(asking, jobs)
 }

@@ -1,5 +1,6 @@
 //! The words of the command, in one table: each later entry adds its row here.
 
+mod changes;
 mod check;
 mod draw;
 mod jobs;
@@ -24,17 +25,19 @@ pub struct Word {
 /// Does what the words behind its name ask.
 type Run = fn(Vec<OsString>) -> Result<Status, Failure>;
 
-pub const WORDS: [&Word; 5] = [
+pub const WORDS: [&Word; 7] = [
     &jobs::FIND,
     &jobs::WORDS,
     &jobs::RENAME,
     &check::CHECK,
+    &changes::PUT,
+    &changes::WITHDRAW,
     &draw::DRAW,
 ];
 
 const STATUSES: &str = "\
-Exit status: 0 answered, 1 refused (of several jobs, derivations or blocks: any), 2 could not read or
-write, or a wrong call.
+Exit status: 0 answered, 1 refused (of several texts or blocks: any), 2 could not read or write, or a
+wrong call.
 ";
 
 /// Does what the words ask.

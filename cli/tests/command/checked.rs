@@ -15,7 +15,7 @@ fn refused(gave: Gave, number: usize, said: &str) {
 fn sections() -> String {
     let guide = stored("../guide.md");
     let begin = guide.find("\n## Checking a derivation\n").unwrap();
-    let end = guide.find("\n## Asking by the command\n").unwrap();
+    let end = guide.find("\n## A catalogue for training\n").unwrap();
     guide[begin..end].to_owned()
 }
 

@@ -68,3 +68,38 @@ pub fn shell(line: &str) -> Gave {
         .current_dir(guide());
     command.output().expect("the shell starts").into()
 }
+
+/// A folder for the files of one test, which is gone when the test ends.
+pub struct Folder(PathBuf);
+
+impl Folder {
+    pub fn new(name: &str) -> Folder {
+        let name = format!("{name}-{}", std::process::id());
+        let folder = Path::new(env!("CARGO_TARGET_TMPDIR")).join(name);
+        std::fs::create_dir_all(&folder).expect("a folder");
+        Folder(folder)
+    }
+
+    /// The name of a file in it.
+    pub fn file(&self, name: &str) -> String {
+        let file = self.0.join(name);
+        file.to_str().expect("text").to_owned()
+    }
+
+    /// What lies in it.
+    pub fn files(&self) -> Vec<String> {
+        let entries = std::fs::read_dir(&self.0).expect("the folder");
+        let names = entries.map(|entry| entry.expect("a file").file_name());
+        let mut files: Vec<_> = names
+            .map(|name| name.into_string().expect("text"))
+            .collect();
+        files.sort();
+        files
+    }
+}
+
+impl Drop for Folder {
+    fn drop(&mut self) {
+        let _ = std::fs::remove_dir_all(&self.0);
+    }
+}

@@ -1,9 +1,11 @@
 //! The built command, called as people call it.
 
+mod changed;
 mod checked;
 mod common;
 mod drawn;
 mod jobs;
+mod kept;
 mod nones;
 mod several;
 mod status;

@@ -86,10 +86,10 @@ fn what_cannot_be_read_is_2() {
 fn a_wrong_call_is_2() {
     failed(
         puvainy(&[]),
-        "what shall be done? Name one of find, words, rename, check, draw, or --help",
+        "what shall be done? Name one of find, words, rename, check, put, withdraw, draw, or --help",
     );
-    let words =
-        "there is no command \"fnd\": name one of find, words, rename, check, draw, or --help";
+    let words = "there is no command \"fnd\": \
+                 name one of find, words, rename, check, put, withdraw, draw, or --help";
     failed(puvainy(&["fnd", "archive.job"]), words);
     let option = "there is no option --slot here; --help shows those there are";
     failed(puvainy(&["find", "--slot", "4", "archive.job"]), option);
@@ -172,19 +172,21 @@ fn a_closed_standard_error_changes_no_answer() {
 fn help_and_version_are_0() {
     let whole = puvainy(&["--help"]);
     assert_eq!((whole.status, whole.said.as_str()), (Some(0), ""));
-    for word in ["find", "words", "rename", "check", "draw"] {
+    for word in [
+        "find", "words", "rename", "check", "put", "withdraw", "draw",
+    ] {
+        let usage = match word {
+            "put" | "withdraw" => format!("puvainy {word} --catalogue FILE ["),
+            _ => format!("puvainy {word} ["),
+        };
         assert!(
-            whole.printed.contains(&format!("\n  puvainy {word} [")),
+            whole.printed.contains(&format!("\n  {usage}")),
             "{}",
             whole.printed
         );
         let own = puvainy(&[word, "--help"]);
         assert_eq!(own.status, Some(0));
-        assert!(
-            own.printed.starts_with(&format!("puvainy {word} [")),
-            "{}",
-            own.printed
-        );
+        assert!(own.printed.starts_with(&usage), "{}", own.printed);
         assert!(own.printed.contains("Exit status: 0 answered, 1 refused"));
     }
     assert_eq!(
