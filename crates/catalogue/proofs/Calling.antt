@@ -26,7 +26,7 @@ use Rattle.catalogue.specs.Theory.Steps.{refused-step, put-listed, put-f
 
 -- nothing was written
 pub unchanged : (cat : List ℕ) (k : ℕ) → Elsewhere cat cat k
-unchanged cat k = record { size = refl; before = λ i h. refl; behind = λ i h l. refl }
+unchanged cat k = record { size = refl; before = λ i h. refl; behind = λ i h l. refl; spare = λ i low high. refl }
 
 pub refused-harmless : {ns : List ℕ} (cat : List ℕ) (n : ℕ) → n ∈ ns → Harmless ns cat n cat
 refused-harmless cat n i = record { untouched = λ h. refl; numbered = λ h. i; elsewhere = (0, omega arith, unchanged cat 0) }

@@ -26,6 +26,7 @@ module _ {cat cat₁ : List ℕ} {k : ℕ} (whole : length cat ≡ LENGTH) (insi
         size = counted-length ∙ E .size;
         before = λ i h. counted-still i (omega arith) ∙ E .before i h;
         behind = λ i h l. counted-still i l ∙ E .behind i h l;
+        spare = λ i low high. counted-still (PLACE * k + i) (omega arith) ∙ E .spare i low high;
       }
 
   counted-number : number-at (set cat₁ COUNT m) k ≡ number-at cat₁ k
@@ -69,6 +70,7 @@ freed cat k =
       size = length-set cat (PLACE * k) 0;
       before = λ i h. getD-set-other cat (PLACE * k) i 0 0 (λ e. omega arith);
       behind = λ i h l. getD-set-other cat (PLACE * k) i 0 0 (λ e. omega arith);
+      spare = λ i low high. getD-set-other cat (PLACE * k) (PLACE * k + i) 0 0 (λ e. omega arith);
     }
 
 pub taken-counted : {cat : List ℕ} {k : ℕ} → length cat ≡ LENGTH → k < PLACES → (m : ℕ)

@@ -64,6 +64,12 @@ module _ (cat : List ℕ) (k n key : ℕ) (left right : List ℕ) (whole : lengt
         since-keyed i (⊎-elim (λ l. inl (omega arith)) (λ l. inr (omega arith)) h)
         ∙ keyed-other i (⊎-elim (λ l e. omega arith) (λ l e. omega arith) h) (⊎-elim (λ l e. omega arith) (λ l e. omega arith) h)
 
+    spare-still : (i : ℕ) → 4 ≤ i → i < 8 → getD cat₂ (PLACE * k + i) 0 ≡ getD cat (PLACE * k + i) 0
+    spare-still i low high =
+        R .others (PLACE * k + i) (λ e. omega arith) (inl (omega arith))
+        ∙ L .others (PLACE * k + i) (λ e. omega arith) (inl (omega arith))
+        ∙ keyed-other (PLACE * k + i) (λ e. omega arith) (λ e. omega arith)
+
     left-kept : take (length left) (drop (PLACE * k + 8) cat₂) ≡ left
     left-kept =
         part-same cat₂ cat₁ (PLACE * k + 8) (length left) (R .length) (λ i low high. R .others i (λ e. omega arith) (inl (omega arith)))
@@ -77,6 +83,7 @@ module _ (cat : List ℕ) (k n key : ℕ) (left right : List ℕ) (whole : lengt
                 size = R .length ∙ L .length ∙ keyed-length ∙ sym whole;
                 before = λ i h. still i (inl h);
                 behind = λ i h _. still i (inr h);
+                spare = spare-still;
               };
           count = still COUNT (inr (omega arith));
           number =

@@ -1,5 +1,5 @@
 -- The catalogue in 32-bit numbers: 64 places of 5,408 numbers, and behind them the kept count. Of a place, number 0 is the entry's number,
--- 0 where the place is free; 1 is its key, 2 and 3 are the lengths of two lists of numbers, 4 to 7 are free for later rules, and the lists
+-- 0 where the place is free; 1 is its key, 2 and 3 are the lengths of two lists of numbers, 4 to 7 are 0, for later rules, and the lists
 -- stand from 8 and from 2,708 on. So all zeros are an empty catalogue.
 use Prim.Native.Nat.{ℕ, _+_, _*_, _≤_, _<_}
 use mathlib.Core.Path.{_≡_}
@@ -101,13 +101,15 @@ At cat k (some e) = Stored cat k e
 pub record Holds (cat : List ℕ) (c : Catalogue Kind) : Type 0 where
   pub size : length cat ≡ LENGTH
   pub places : (k : ℕ) → k < PLACES → At cat k (getD (c .places) k none)
+  pub spare : (k : ℕ) → k < PLACES → (i : ℕ) → 4 ≤ i → i < 8 → getD cat (PLACE * k + i) 0 ≡ 0
   pub kept : getD cat COUNT 0 ≡ c .kept
 
--- the numbers of all places but k stay
+-- the numbers of all places but k stay, and of place k those for later rules
 pub record Elsewhere (cat cat′ : List ℕ) (k : ℕ) : Type 0 where
   pub size : length cat′ ≡ length cat
   pub before : (i : ℕ) → i < PLACE * k → getD cat′ i 0 ≡ getD cat i 0
   pub behind : (i : ℕ) → PLACE * k + PLACE ≤ i → i < COUNT → getD cat′ i 0 ≡ getD cat i 0
+  pub spare : (i : ℕ) → 4 ≤ i → i < 8 → getD cat′ (PLACE * k + i) 0 ≡ getD cat (PLACE * k + i) 0
 
 -- the numbers of the refusals, in the order in which they are looked at
 abbrev pub call-numbers : Text → List ℕ

@@ -53,11 +53,20 @@ module _ (cat cat′ : List ℕ) (size : length cat′ ≡ length cat) (j : ℕ)
 pub rewritten : {cat cat′ : List ℕ} {c : Catalogue Kind} (k : ℕ) → k < PLACES → length (c .places) ≡ PLACES → Holds cat c → Elsewhere cat cat′ k
     → (p : Option (Entry Kind)) → At cat′ k p → (n : ℕ) → getD cat′ COUNT 0 ≡ n → Holds cat′ (record { places = set (c .places) k p; kept = n })
 rewritten {cat} {cat′} {c} k inside all H E p A n e =
-    record { size = E .size ∙ H .size; places = λ j h. go j h (eqb j k) (eqb-reflects j k); kept = e }
+    record {
+      size = E .size ∙ H .size;
+      places = λ j h. go j h (eqb j k) (eqb-reflects j k);
+      spare = λ j h i low high. spare j h i low high (eqb j k) (eqb-reflects j k) ∙ H .spare j h i low high;
+      kept = e;
+    }
   where
     other : (j : ℕ) → j < PLACES → (j ≡ k → ⊥) → (i : ℕ) → PLACE * j ≤ i → i < PLACE * j + PLACE → getD cat′ i 0 ≡ getD cat i 0
     other j h ne i low high =
         ⊎-elim (λ b. E .before i (omega arith)) (λ b. ⊎-elim (λ g. E .behind i (omega arith) (omega arith)) (λ g. absurd (ne (omega arith))) (below? k j)) (below? j k)
+
+    spare : (j : ℕ) → j < PLACES → (i : ℕ) → 4 ≤ i → i < 8 → (b : Bool) → Reflects (j ≡ k) b → getD cat′ (PLACE * j + i) 0 ≡ getD cat (PLACE * j + i) 0
+    spare j h i low high true q = subst (λ l. getD cat′ (PLACE * l + i) 0 ≡ getD cat (PLACE * l + i) 0) (sym q) (E .spare i low high)
+    spare j h i low high false q = other j h q (PLACE * j + i) (omega arith) (omega arith)
 
     go : (j : ℕ) → j < PLACES → (b : Bool) → Reflects (j ≡ k) b → At cat′ j (getD (set (c .places) k p) j none)
     go j h true q =

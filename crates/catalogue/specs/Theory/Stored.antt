@@ -34,6 +34,7 @@ zeros-hold z =
     record {
       size = z .size;
       places = λ k h. rw (getD-replicate {A = Option (Entry Kind)} PLACES k none none h) (z .zero (PLACE * k));
+      spare = λ k h i low high. z .zero (PLACE * k + i);
       kept = z .zero COUNT;
     }
 
