@@ -93,13 +93,7 @@ pub fn same_words(left: &[u32], right: &[u32]) -> bool
 }
 
 // The lists of words renamed into two buffers: nothing where they agree, since none is put then.
-pub fn renamed_lists(
-    left: &[u32],
-    right: &[u32],
-    same: bool,
-    u: &mut [u32],
-    v: &mut [u32],
-) -> Lengths
+fn renamed_lists(left: &[u32], right: &[u32], same: bool, u: &mut [u32], v: &mut [u32]) -> Lengths
     ensures { λ r. ⌜ (same ≡ false → CanonicalWords (now (left .entry)) (now (right .entry)) (now (u .entry)) (now (v .entry)) r (now (u .exit)) (now (v .exit))) ⌝ }
 {
     if same {
