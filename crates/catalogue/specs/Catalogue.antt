@@ -41,7 +41,7 @@ unfoldable pub listed : {K : Type 0} → ℕ → List (Entry K) → Bool
 listed n [] = false
 listed n (e ∷ es) = elim (eqb (e .number) n) [ true ↦ true | false ↦ listed n es ]
 
--- a put takes the first free place, so that a withdrawn entry's place serves the next put
+-- a put takes the first free place: a withdrawn entry's, where none before it is free
 unfoldable pub put-first : {K : Type 0} → Entry K → List (Option (Entry K)) → List (Option (Entry K))
 put-first e [] = []
 put-first e (none ∷ ps) = some e ∷ ps

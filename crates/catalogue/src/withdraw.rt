@@ -14,7 +14,7 @@ use crate::places::has_another;
 use crate::places::keep_count;
 use crate::places::place_of;
 
-// Whether another place has an entry of the kind that place k has.
+// Whether another place has an entry of the kind that place k has. Lengths that no list has are left uncompared.
 fn is_shared(cat: &[u32], k: usize) -> bool
     requires { ⌜ (length (now cat) ≡ stored.LENGTH) × (k < abstract.PLACES) ⌝ }
     ensures { λ r. ⌜ Shares (now (cat .entry)) k r ⌝ }
