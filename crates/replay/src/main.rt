@@ -7,6 +7,7 @@ mod tally;
 ghost use Prim.Native.Nat.{_<_, _≤_};
 ghost use lib.ListN.{length};
 use crate::record::Reading;
+use catalogue::places::LENGTH;
 use libc::STDIN_FILENO;
 use libc::STDOUT_FILENO;
 
@@ -18,6 +19,8 @@ fn replay_one(
     output: &mut [u8],
     workspace: &mut [u32],
     former: &mut [u32],
+    catalogue: &mut [u32],
+    before: &mut [u32],
     counts: &mut [u32],
 ) -> usize
     requires { ⌜ at < length (now s) ⌝ }
@@ -28,19 +31,21 @@ fn replay_one(
         io::write_all(STDOUT_FILENO, b"the list breaks off\n");
         return s.len();
     };
-    let fault = call::fault_of(s, call, first, output, workspace, former);
+    let fault = call::fault_of(s, call, first, output, workspace, former, catalogue, before);
     tally::count(counts, call, fault);
     call.next
 }
 
 // Makes the calls that start before a position, and answers where the next one does. Each finds the workspace
-// as former calls left it, and an output full of other bytes.
+// and the catalogue as former calls left them, and an output full of other bytes.
 fn replay(
     s: &[u8],
     upto: usize,
     output: &mut [u8],
     workspace: &mut [u32],
     former: &mut [u32],
+    catalogue: &mut [u32],
+    before: &mut [u32],
     counts: &mut [u32],
 ) -> usize
     requires { ⌜ upto ≤ length (now s) ⌝ }
@@ -49,7 +54,17 @@ fn replay(
     let mut first: u8 = 0;
     let mut at: usize = 0;
     while at < upto {
-        at = replay_one(s, at, first, output, workspace, former, counts);
+        at = replay_one(
+            s,
+            at,
+            first,
+            output,
+            workspace,
+            former,
+            catalogue,
+            before,
+            counts,
+        );
         first = std::num::wrapping_add_u8(first, 1);
     }
     at
@@ -61,6 +76,8 @@ fn replay_list(
     output: &mut [u8],
     workspace: &mut [u32],
     former: &mut [u32],
+    catalogue: &mut [u32],
+    before: &mut [u32],
     counts: &mut [u32],
 ) {
     dirt::fill_numbers(workspace, 7);
@@ -70,7 +87,16 @@ fn replay_list(
         let n = io::read_full(STDIN_FILENO, &mut input[held..]);
         let end = held + n;
         let upto = record::starts_up_to(end, input.len());
-        let next = replay(&input[..end], upto, output, workspace, former, counts);
+        let next = replay(
+            &input[..end],
+            upto,
+            output,
+            workspace,
+            former,
+            catalogue,
+            before,
+            counts,
+        );
         if end < input.len() {
             return;
         }
@@ -85,15 +111,15 @@ fn print_field(name: &[u8], n: u32) {
     io::print_decimal(STDOUT_FILENO, n as u64);
 }
 
-// The answers and the refusals 1 to 12 of an entry.
+// The answers and the refusals 1 to 15 of an entry.
 fn print_entry(counts: &[u32], name: &[u8], entry: usize) {
     io::write_all(STDOUT_FILENO, name);
-    if 4 < entry {
+    if 6 < entry {
         return;
     }
     print_field(b" answers=", tally::count_at(counts, entry * 16));
     let mut n: usize = 1;
-    while n < 13 {
+    while n < 16 {
         io::write_all(STDOUT_FILENO, b" refused_");
         io::print_decimal(STDOUT_FILENO, n as u64);
         print_field(b"=", tally::count_at(counts, entry * 16 + n));
@@ -113,6 +139,8 @@ fn print_counts(counts: &[u32]) {
     print_entry(counts, b"words", 2);
     print_entry(counts, b"rename", 3);
     print_entry(counts, b"check", 4);
+    print_entry(counts, b"put", 5);
+    print_entry(counts, b"withdraw", 6);
 }
 
 fn main() {
@@ -120,12 +148,16 @@ fn main() {
     let mut output = [0u8; 32768];
     let mut workspace = [0u32; 16040];
     let mut former = [0u32; 16040];
-    let mut counts = [0u32; 80];
+    let mut catalogue = [0u32; LENGTH];
+    let mut before = [0u32; LENGTH];
+    let mut counts = [0u32; 112];
     replay_list(
         &mut input,
         &mut output,
         &mut workspace,
         &mut former,
+        &mut catalogue,
+        &mut before,
         &mut counts,
     );
     print_counts(&counts);

@@ -1,7 +1,7 @@
 // Counts of calls: how many, how many that differ, and for each entry its answers and refusals.
 ghost use mathlib.Core.Path.{_≡_};
 ghost use lib.ListN.{getD};
-ghost use Rattle.replay.specs.Tally.{one-more, place, is-fault, counted};
+ghost use Rattle.replay.specs.Tally.{one-more, refusal, place, is-fault, counted};
 use crate::call::Fault;
 use crate::record::Record;
 use libc::STDOUT_FILENO;
@@ -32,17 +32,28 @@ pub fn count_at(counts: &[u32], at: usize) -> u32
     counts[at]
 }
 
+// The number of a refusal: an answer is stored as 0 or, of PUT and WITHDRAW, as 100 and more.
+fn refusal_of(number: usize) -> usize
+    ensures { λ r. ⌜ r ≡ refusal number ⌝ }
+{
+    if 99 < number {
+        return 0;
+    }
+    number
+}
+
 // Where a call is counted by its entry and what it is to give.
 fn place_of(entry: usize, number: usize) -> usize
     ensures { λ r. ⌜ r ≡ place entry number ⌝ }
 {
-    if 4 < entry {
+    let n = refusal_of(number);
+    if 6 < entry {
         return 0;
     }
-    if 15 < number {
+    if 15 < n {
         return 0;
     }
-    entry * 16 + number
+    entry * 16 + n
 }
 
 fn is_fault(fault: Fault) -> bool
@@ -54,6 +65,7 @@ fn is_fault(fault: Fault) -> bool
         Fault::Number(_, _) => true,
         Fault::Output => true,
         Fault::Workspace => true,
+        Fault::Catalogue => true,
     }
 }
 
@@ -102,6 +114,9 @@ fn print_fault(at: u32, call: Record, fault: Fault) {
         }
         Fault::Workspace => {
             io::write_all(STDOUT_FILENO, b" changed the workspace");
+        }
+        Fault::Catalogue => {
+            io::write_all(STDOUT_FILENO, b" changed the catalogue");
         }
     }
     io::write_all(STDOUT_FILENO, b"\n");

@@ -5,10 +5,10 @@ use Rattle.replay.proofs.print_entry.Statement.{statement}
 use Rattle.replay.proofs.print_entry.Tie as tie
 
 abbrev Inv-loop : tie.InvT-loop
-Inv-loop counts name entry n₀ t6 t7 t8 n = n ≤ 13
+Inv-loop counts name entry n₀ t6 t7 t8 n = n ≤ 16
 
 abbrev μ-loop : tie.MeasureT-loop
-μ-loop counts name entry n₀ t6 t7 t8 n = 13 - n
+μ-loop counts name entry n₀ t6 t7 t8 n = 16 - n
 
 write-all-requires : tie.Need-write-all-requires Inv-loop μ-loop
 write-all-requires c κs = search needs

@@ -7,15 +7,17 @@ use Rattle.replay.proofs.replay.Statement.{statement}
 use Rattle.replay.proofs.replay.Tie as tie
 
 abbrev Inv-loop : tie.InvT-loop
-Inv-loop s upto output₀ workspace₀ former₀ counts₀ first₀ at₀ output workspace former counts first at =
+Inv-loop s upto output₀ workspace₀ former₀ catalogue₀ before₀ counts₀ first₀ at₀ output workspace former catalogue before counts first at =
     (length output ≡ length output₀)
     × (length workspace ≡ length workspace₀)
     × (length former ≡ length former₀)
+    × (length catalogue ≡ length catalogue₀)
+    × (length before ≡ length before₀)
     × (length counts ≡ length counts₀)
     × (at ≤ length s)
 
 abbrev μ-loop : tie.MeasureT-loop
-μ-loop s upto output₀ workspace₀ former₀ counts₀ first₀ at₀ output workspace former counts first at =
+μ-loop s upto output₀ workspace₀ former₀ catalogue₀ before₀ counts₀ first₀ at₀ output workspace former catalogue before counts first at =
     length s - at
 
 loop-holds : tie.Need-loop-holds Inv-loop μ-loop
@@ -45,6 +47,12 @@ same-length-3 c = search needs
 same-length-4 : tie.Need-same-length-4 Inv-loop μ-loop
 same-length-4 c = search needs
 
+same-length-5 : tie.Need-same-length-5 Inv-loop μ-loop
+same-length-5 c = search needs
+
+same-length-6 : tie.Need-same-length-6 Inv-loop μ-loop
+same-length-6 c = search needs
+
 returns : tie.Need-returns Inv-loop μ-loop
 returns c = search needs
 
@@ -63,4 +71,6 @@ replay-spec =
     same-length-2
     same-length-3
     same-length-4
+    same-length-5
+    same-length-6
     returns)

@@ -8,17 +8,19 @@ use Rattle.replay.proofs.replay_list.Statement.{statement}
 use Rattle.replay.proofs.replay_list.Tie as tie
 
 abbrev Inv-loop : tie.InvT-loop
-Inv-loop input₀ output₀ workspace₀ former₀ counts₀ held₀ part₀ t12 input output workspace former counts held part =
+Inv-loop input₀ output₀ workspace₀ former₀ catalogue₀ before₀ counts₀ held₀ part₀ t12 input output workspace former catalogue before counts held part =
     (length input ≡ length input₀)
     × (length output ≡ length output₀)
     × (length workspace ≡ length workspace₀)
     × (length former ≡ length former₀)
+    × (length catalogue ≡ length catalogue₀)
+    × (length before ≡ length before₀)
     × (length counts ≡ length counts₀)
     × (held ≤ length input)
     × (part ≤ 64)
 
 abbrev μ-loop : tie.MeasureT-loop
-μ-loop input₀ output₀ workspace₀ former₀ counts₀ held₀ part₀ t12 input output workspace former counts held part =
+μ-loop input₀ output₀ workspace₀ former₀ catalogue₀ before₀ counts₀ held₀ part₀ t12 input output workspace former catalogue before counts held part =
     64 - part
 
 fill-numbers-requires : tie.Need-fill-numbers-requires Inv-loop μ-loop
@@ -69,6 +71,12 @@ same-length-4 c = search needs
 same-length-5 : tie.Need-same-length-5 Inv-loop μ-loop
 same-length-5 c = search needs
 
+same-length-6 : tie.Need-same-length-6 Inv-loop μ-loop
+same-length-6 c = search needs
+
+same-length-7 : tie.Need-same-length-7 Inv-loop μ-loop
+same-length-7 c = search needs
+
 returns : tie.Need-returns Inv-loop μ-loop
 returns c = search needs
 
@@ -90,12 +98,6 @@ slice-aggregate-write-all c = search needs
 write-all-requires : tie.Need-write-all-requires Inv-loop μ-loop
 write-all-requires c κs = search needs
 
-same-length-6 : tie.Need-same-length-6 Inv-loop μ-loop
-same-length-6 c = search needs
-
-same-length-7 : tie.Need-same-length-7 Inv-loop μ-loop
-same-length-7 c = search needs
-
 same-length-8 : tie.Need-same-length-8 Inv-loop μ-loop
 same-length-8 c = search needs
 
@@ -104,6 +106,18 @@ same-length-9 c = search needs
 
 same-length-10 : tie.Need-same-length-10 Inv-loop μ-loop
 same-length-10 c = search needs
+
+same-length-11 : tie.Need-same-length-11 Inv-loop μ-loop
+same-length-11 c = search needs
+
+same-length-12 : tie.Need-same-length-12 Inv-loop μ-loop
+same-length-12 c = search needs
+
+same-length-13 : tie.Need-same-length-13 Inv-loop μ-loop
+same-length-13 c = search needs
+
+same-length-14 : tie.Need-same-length-14 Inv-loop μ-loop
+same-length-14 c = search needs
 
 returns-2 : tie.Need-returns-2 Inv-loop μ-loop
 returns-2 c = search needs
@@ -130,6 +144,8 @@ replay-list-spec =
     same-length-3
     same-length-4
     same-length-5
+    same-length-6
+    same-length-7
     returns
     move-to-front-requires
     add-part
@@ -137,9 +153,11 @@ replay-list-spec =
     loop-again
     slice-aggregate-write-all
     write-all-requires
-    same-length-6
-    same-length-7
     same-length-8
     same-length-9
     same-length-10
+    same-length-11
+    same-length-12
+    same-length-13
+    same-length-14
     returns-2)

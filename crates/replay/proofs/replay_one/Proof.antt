@@ -26,14 +26,14 @@ returns c = search needs
 
 -- the record that was read is whole
 whole : (c : tie.After-reading) →
-    let a = c .before .before .before .before .before .before .before .before .args in
+    let a = c .before .before .before .before .before .before .before .before .before .before .args in
     Reads (a .s .now) (a .at) (Whole (c .reading .given .0 .0))
 whole c =
-    let a = c .before .before .before .before .before .before .before .before .args in
+    let a = c .before .before .before .before .before .before .before .before .before .before .args in
     subst (Reads (a .s .now) (a .at)) (c .reading .given .1) (c .before .before .record-at .ensures)
 
 fault-of-requires : tie.Need-fault-of-requires
-fault-of-requires c κs = whole (c .before .before .before .before) .1
+fault-of-requires c κs = whole (c .before .before .before .before .before .before) .1
 
 count-requires : tie.Need-count-requires
 count-requires c κs = search needs
@@ -50,9 +50,15 @@ same-length-3 c = search needs
 same-length-4 : tie.Need-same-length-4
 same-length-4 c = search needs
 
+same-length-5 : tie.Need-same-length-5
+same-length-5 c = search needs
+
+same-length-6 : tie.Need-same-length-6
+same-length-6 c = search needs
+
 returns-2 : tie.Need-returns-2
 returns-2 c =
-    let r = c .before .before .before .before .before .before .before .before .before .before .before .before .before .before .before in
+    let r = c .before .before .before .before .before .before .before .before .before .before .before .before .before .before .before .before .before .before .before .before .before in
     let w = whole r in
     (w .0, w .1 .2)
 
@@ -72,4 +78,6 @@ replay-one-spec =
     same-length-2
     same-length-3
     same-length-4
+    same-length-5
+    same-length-6
     returns-2)

@@ -23,6 +23,9 @@ fill-bytes-requires c κs = search needs
 copy-numbers-requires : tie.Need-copy-numbers-requires
 copy-numbers-requires c κs = search needs
 
+copy-numbers-requires-2 : tie.Need-copy-numbers-requires-2
+copy-numbers-requires-2 c κs = search needs
+
 sub-made : tie.Need-sub-made
 sub-made c = search needs
 
@@ -47,32 +50,8 @@ slice-aggregate-made-2 c = simp length-take (omega arith)
 made-requires : tie.Need-made-requires
 made-requires c κs = search needs
 
-sub-due-number : tie.Need-sub-due-number
-sub-due-number c = search needs
-
-part-due-number-start : tie.Need-part-due-number-start
-part-due-number-start c = search needs
-
-part-due-number-end : tie.Need-part-due-number-end
-part-due-number-end c = search needs
-
-due-number-requires : tie.Need-due-number-requires
-due-number-requires c κs = search needs
-
-changed-up-to-requires : tie.Need-changed-up-to-requires
-changed-up-to-requires c κs = search needs
-
-sub-verdict : tie.Need-sub-verdict
-sub-verdict c = search needs
-
-part-verdict-start : tie.Need-part-verdict-start
-part-verdict-start c = search needs
-
-part-verdict-end : tie.Need-part-verdict-end
-part-verdict-end c = search needs
-
-verdict-requires : tie.Need-verdict-requires
-verdict-requires c κs = search needs
+judged-requires : tie.Need-judged-requires
+judged-requires c κs = search needs
 
 same-length : tie.Need-same-length
 same-length c = search needs
@@ -83,19 +62,26 @@ same-length-2 c = search needs
 same-length-3 : tie.Need-same-length-3
 same-length-3 c = search needs
 
+same-length-4 : tie.Need-same-length-4
+same-length-4 c = search needs
+
+same-length-5 : tie.Need-same-length-5
+same-length-5 c = search needs
+
 returns-3 : tie.Need-returns-3
 returns-3 c =
     let m = c .before .before .before .before .before .before .before .before .before .before .before .before in
-    let p = m .before .before .before .before .before .before in
+    let o = m .before .before .before .before .before .before .before in
+    let p = o .before .before .before .before .before in
+    let f = p .before .before .before .before .before in
     inr
     (replayed
-    (p .before .before .before .before .before .before .before .before .before .numbers-for .ensures)
-    (p .before .before .before .before .before .fill-bytes .ensures)
+    (f .before .before .before .before .numbers-for .ensures)
+    (f .fill-bytes .ensures)
     (p .copy-numbers .ensures)
+    (o .copy-numbers2 .ensures)
     (m .made .ensures)
-    (c .before .before .before .before .before .before .due-number .ensures)
-    (c .before .before .before .before .before .changed-up-to .ensures)
-    (c .verdict .ensures))
+    (c .judged .ensures))
 
 pub fault-of-spec : {M : Type 1} → statement M
 fault-of-spec =
@@ -106,6 +92,7 @@ fault-of-spec =
     returns-2
     fill-bytes-requires
     copy-numbers-requires
+    copy-numbers-requires-2
     sub-made
     part-made-start
     part-made-end
@@ -114,16 +101,10 @@ fault-of-spec =
     slice-relend-prefix-made-2
     slice-aggregate-made-2
     made-requires
-    sub-due-number
-    part-due-number-start
-    part-due-number-end
-    due-number-requires
-    changed-up-to-requires
-    sub-verdict
-    part-verdict-start
-    part-verdict-end
-    verdict-requires
+    judged-requires
     same-length
     same-length-2
     same-length-3
+    same-length-4
+    same-length-5
     returns-3)

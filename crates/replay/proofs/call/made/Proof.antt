@@ -1,6 +1,6 @@
 -- `made` meets its contract.
 use borrow.Author.Needs.{needs}
-use Rattle.replay.proofs.Calling.{made-find, made-words, made-rename, made-check}
+use Rattle.replay.proofs.Calling.{made-find, made-words, made-rename, made-put, made-withdraw, made-check}
 use Rattle.replay.proofs.call.made.Statement.{statement}
 use Rattle.replay.proofs.call.made.Tie as tie
 
@@ -34,14 +34,32 @@ same-length-4 c = search needs
 returns-3 : tie.Need-returns-3
 returns-3 c = search (made-rename, needs)
 
-puvainy-check-requires : tie.Need-puvainy-check-requires
-puvainy-check-requires c κs = search needs
+puvainy-put-requires : tie.Need-puvainy-put-requires
+puvainy-put-requires c κs = search needs
 
 same-length-5 : tie.Need-same-length-5
 same-length-5 c = search needs
 
 returns-4 : tie.Need-returns-4
-returns-4 c = search (made-check, needs)
+returns-4 c = search (made-put, needs)
+
+puvainy-withdraw-requires : tie.Need-puvainy-withdraw-requires
+puvainy-withdraw-requires c κs = search needs
+
+same-length-6 : tie.Need-same-length-6
+same-length-6 c = search needs
+
+returns-5 : tie.Need-returns-5
+returns-5 c = search (made-withdraw, needs)
+
+puvainy-check-requires : tie.Need-puvainy-check-requires
+puvainy-check-requires c κs = search needs
+
+same-length-7 : tie.Need-same-length-7
+same-length-7 c = search needs
+
+returns-6 : tie.Need-returns-6
+returns-6 c = search (made-check, needs)
 
 pub made-spec : {M : Type 1} → statement M
 made-spec =
@@ -57,6 +75,12 @@ made-spec =
     puvainy-rename-requires
     same-length-4
     returns-3
-    puvainy-check-requires
+    puvainy-put-requires
     same-length-5
-    returns-4)
+    returns-4
+    puvainy-withdraw-requires
+    same-length-6
+    returns-5
+    puvainy-check-requires
+    same-length-7
+    returns-6)

@@ -4,6 +4,9 @@ use Rattle.replay.proofs.Counting.{place-entry, place-number, place-bot
 use Rattle.replay.proofs.tally.place_of.Statement.{statement}
 use Rattle.replay.proofs.tally.place_of.Tie as tie
 
+refusal-of-requires : tie.Need-refusal-of-requires
+refusal-of-requires c κs = search needs
+
 returns : tie.Need-returns
 returns c = search (place-entry, needs)
 
@@ -20,4 +23,4 @@ returns-3 : tie.Need-returns-3
 returns-3 c = search (place-both, needs)
 
 pub place-of-spec : {M : Type 1} → statement M
-place-of-spec = tie.close (tie.spec returns returns-2 mul-result add-result returns-3)
+place-of-spec = tie.close (tie.spec refusal-of-requires returns returns-2 mul-result add-result returns-3)
