@@ -100,6 +100,7 @@ At cat k (some e) = Stored cat k e
 -- the numbers are those of the catalogue
 pub record Holds (cat : List ℕ) (c : Catalogue Kind) : Type 0 where
   pub size : length cat ≡ LENGTH
+  pub count : length (c .places) ≡ PLACES
   pub places : (k : ℕ) → k < PLACES → At cat k (getD (c .places) k none)
   pub spare : (k : ℕ) → k < PLACES → (i : ℕ) → 4 ≤ i → i < 8 → getD cat (PLACE * k + i) 0 ≡ 0
   pub kept : getD cat COUNT 0 ≡ c .kept
