@@ -1,15 +1,30 @@
 -- Calls one after another on one buffer: what each returns, and what the buffer holds at the end.
 use Prim.Native.Nat.{ℕ, _+_}
-use mathlib.Core.Path.{_≡_, refl, ap, ap₂, _∙_}
+use native.Mathlib.Omega.{arith}
+use mathlib.Core.Path.{_≡_, refl, sym, ap, ap₂, _∙_}
+use mathlib.Core.Logic.{⊎-elim}
 use mathlib.Core.List.{List, [], _∷_}
-use Rattle.text.specs.Answer.{Answer, refused, accepted}
-use Rattle.catalogue.specs.Catalogue.{Catalogue, empty, returned, left-by}
-use Rattle.catalogue.specs.Calls.{Sound}
-use Rattle.catalogue.specs.Texts.{Kind, same-kind, Text, sent, after-texts}
+use Rattle.terms.specs.Lists.{_∈_, here, there, not-in-nil, cons-cases}
+use Rattle.text.specs.Answer.{Answer, refused, accepted, _>>=_}
+use Rattle.catalogue.specs.Catalogue.{Entry, Catalogue, empty, returned, left-by}
+use Rattle.catalogue.specs.Calls.{Call, puts, withdraws, Stands, last, later, accepted-calls, Sound}
+use Rattle.catalogue.specs.Calls as calls
+use Rattle.catalogue.specs.Texts.{
+  Kind,
+  same-kind,
+  Text,
+  put-text,
+  withdraw-text,
+  read-put,
+  read-withdrawal,
+  read-call,
+  sent,
+  after-texts,
+}
 use Rattle.catalogue.specs.Stored.{Holds}
-use Rattle.catalogue.specs.Claims.{Zeros, Played, end, call, returned-afresh, all-returned, Kept}
+use Rattle.catalogue.specs.Claims.{Zeros, Played, end, call, calls-in, returned-afresh, all-returned, Kept}
 use Rattle.catalogue.specs.Theory.Kept.{empty-sound}
-use Rattle.catalogue.specs.Theory.Texts.{kinds-told, sent-sound, texts-held, texts-kept}
+use Rattle.catalogue.specs.Theory.Texts.{kinds-told, sent-sound, texts-sound, texts-held, texts-kept}
 use Rattle.catalogue.specs.Theory.Stored.{zeros-hold}
 
 -- the number that a call returns is that of the count made afresh
@@ -28,13 +43,63 @@ played c h S (call {t = t} s p) =
     let (k, e) = played (left-by c (sent t c)) (step .after) S′ p in
     (k, ap₂ _∷_ (step .number ∙ returns-afresh c (sent t c) S′) e)
 
+-- an entry that stands was put by one of the calls
+stands-put : {e : Entry Kind} {xs : List (Call Kind)} → Stands e xs → puts e ∈ xs
+stands-put (last h) = here refl
+stands-put (later s) = there (stands-put s)
+
+-- a call that was accepted is one of those made
+accepted-made : (xs : List (Call Kind)) (c : Catalogue Kind) {x : Call Kind} → x ∈ accepted-calls same-kind xs c → x ∈ xs
+unfolding accepted-calls
+accepted-made [] c i = i
+accepted-made (y ∷ xs) c {x} i = go (calls.call same-kind y c) i (λ d j. accepted-made xs d j)
+  where
+    go : (a : Answer (Catalogue Kind)) → x ∈ elim a [ refused n ↦ accepted-calls same-kind xs c | accepted d ↦ y ∷ accepted-calls same-kind xs d ]
+        → ((d : Catalogue Kind) → x ∈ accepted-calls same-kind xs d → x ∈ xs) → x ∈ y ∷ xs
+    go (refused n) i rest = there (rest c i)
+    go (accepted d) i rest = ⊎-elim (λ p. here p) (λ j. there (rest d j)) (cons-cases i)
+
+-- and one that a text asks for
+asked : (ts : List Text) {x : Call Kind} → x ∈ calls-in ts → (t : Text) × (t ∈ ts) × (read-call t ≡ accepted x)
+unfolding calls-in
+asked [] i = absurd (not-in-nil i)
+asked (t ∷ ts) {x} i = go (read-call t) refl i (asked ts)
+  where
+    go : (a : Answer (Call Kind)) → read-call t ≡ a → x ∈ elim a [ refused n ↦ calls-in ts | accepted y ↦ y ∷ calls-in ts ]
+        → (x ∈ calls-in ts → (u : Text) × (u ∈ ts) × (read-call u ≡ accepted x)) → (u : Text) × (u ∈ t ∷ ts) × (read-call u ≡ accepted x)
+    go (refused n) e i rest = let (u, j, f) = rest i in (u, there j, f)
+    go (accepted y) e i rest = ⊎-elim (λ p. (t, here refl, e ∙ ap accepted (sym p))) (λ j. let (u, k, f) = rest j in (u, there k, f)) (cons-cases i)
+
+-- a text that asks for a put of the entry
+asks-put : {ts : List Text} {e : Entry Kind} (t : Text) → t ∈ ts → read-call t ≡ accepted (puts e) → (bs : List ℕ) × (put-text bs ∈ ts) × (read-put bs ≡ accepted e)
+unfolding read-call _>>=_
+asks-put {ts} {e} (put-text bs) i f = (bs, i, go (read-put bs) f)
+  where
+    go : (a : Answer (Entry Kind)) → _>>=_ a (λ d. accepted (puts d)) ≡ accepted (puts e) → a ≡ accepted e
+    go (refused n) f = absurd (let z : _≡_ {A = ℕ} 0 1 = cc in omega arith)
+    go (accepted d) f = let q : d ≡ e = cc in ap accepted q
+asks-put {ts} {e} (withdraw-text bs) i f = absurd (go (read-withdrawal bs) f)
+  where
+    go : (a : Answer ℕ) → _>>=_ a (λ n. accepted (withdraws n)) ≡ accepted (puts e) → ⊥
+    go (refused n) f = let z : _≡_ {A = ℕ} 0 1 = cc in omega arith
+    go (accepted n) f = let z : _≡_ {A = ℕ} 0 1 = cc in omega arith
+
+-- an entry that stands was put by one of the texts
+pub put-by-text : (ts : List Text) (c : Catalogue Kind) {e : Entry Kind} → Stands e (accepted-calls same-kind (calls-in ts) c)
+    → (bs : List ℕ) × (put-text bs ∈ ts) × (read-put bs ≡ accepted e)
+put-by-text ts c s =
+    let (t, i, f) = asked ts (accepted-made (calls-in ts) c (stands-put s)) in
+    asks-put t i f
+
 pub zeros-played : {cat cat′ : List ℕ} {ts : List Text} {rs : List ℕ} → Zeros cat → Played cat ts rs cat′ → Kept ts rs cat′
 zeros-played {ts = ts} z p =
     let (h, e) = played empty (zeros-hold z) (empty-sound kinds-told) p in
     record {
       catalogue = after-texts ts empty;
       holds = h;
+      sound = texts-sound ts empty (empty-sound kinds-told);
       returns = e;
       entries = texts-held ts;
+      texts = λ e m. put-by-text ts empty (texts-held ts e .0 m);
       count = h .kept ∙ texts-kept ts;
     }
