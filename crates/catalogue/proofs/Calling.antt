@@ -5,7 +5,7 @@ use mathlib.Core.Path.{_≡_, refl, sym, ap, subst, _∙_}
 use mathlib.Core.Logic.{_⊎_, ⊎-elim}
 use mathlib.Core.List.{List, [], _∷_, _++_}
 use lib.ListN.{length, take, getD, length-take}
-use Rattle.terms.specs.Lists.{_∈_, here, there, in-right}
+use Rattle.terms.specs.Lists.{_∈_, here, there, in-left, in-right}
 use Rattle.search.specs.Runs.{Shows}
 use Rattle.text.specs.Claims.{job-numbers}
 use Rattle.words.specs.Spelled.{SLOT}
@@ -15,7 +15,7 @@ use Rattle.text.specs.Answer.{Answer, refused, accepted, _>>=_}
 use Rattle.catalogue.specs.Catalogue.{PLACES, Entry, Catalogue}
 use Rattle.catalogue.specs.Calls.{Call, puts, withdraws, call, Sound}
 use Rattle.catalogue.specs.Texts.{Kind, same-kind, Text, put-text, withdraw-text, read-put, read-withdrawal, read-call, sent}
-use Rattle.catalogue.specs.Stored.{ROOM, COUNT, LENGTH, Holds, Elsewhere, call-numbers, Harmless, Step, SentCall}
+use Rattle.catalogue.specs.Stored.{ROOM, COUNT, LENGTH, Holds, Elsewhere, late-numbers, call-numbers, Harmless, Step, SentCall}
 use Rattle.catalogue.specs.Theory.Numbers.{read-call-numbered}
 use Rattle.catalogue.specs.Promises.{number-of, Seeks, TakesPut, PutsAt, MakesLists, PutsLists, PutsEquation, TakesOut, WithdrawsEntry}
 use Rattle.catalogue.specs.declared.places.Place.{Place}
@@ -101,14 +101,10 @@ module _ (t : Text) (cat : List ℕ) where
   other-length h =
       record {
         step = λ c H S. absurd (h (H .size));
-        harmless = refused-harmless cat 99 (outside t);
+        harmless = refused-harmless cat 99 (here refl);
         text = λ n l e. absurd (h l);
         other = λ _. refl;
       }
-    where
-      outside : (t : Text) → 99 ∈ call-numbers t
-      outside (put-text bs) = here refl
-      outside (withdraw-text bs) = here refl
 
   module _ (whole : length cat ≡ LENGTH) where
     -- a text that is refused
@@ -117,7 +113,7 @@ module _ (t : Text) (cat : List ℕ) where
     text-refused {n} e =
         record {
           step = λ c H S. refused-step H (rw e);
-          harmless = refused-harmless cat n (rw e at (read-call-numbered t));
+          harmless = refused-harmless cat n (there (in-left (late-numbers t) (rw e at (read-call-numbered t))));
           text = λ m l f. let g = sym e ∙ f in cc;
           other = λ h. absurd (h whole);
         }

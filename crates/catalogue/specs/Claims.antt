@@ -2,15 +2,17 @@
 use Prim.Native.Nat.{ℕ, _+_}
 use mathlib.Core.Path.{_≡_}
 use mathlib.Core.Logic.{_↔_}
+use mathlib.Core.Bool.{true, false}
 use mathlib.Core.List.{List, [], _∷_, _++_}
+use lib.Dec.{leb}
 use lib.ListN.{length, getD}
 use Rattle.terms.specs.Lists.{_∈_}
 use Rattle.text.specs.Bytes.{number}
 use Rattle.text.specs.Answer.{Answer, refused, accepted, field, values}
 use Rattle.text.specs.Rename.{rename-entry}
 use Rattle.catalogue.specs.Catalogue.{Entry, Catalogue, empty, held, kinds, left-by}
-use Rattle.catalogue.specs.Calls.{Call, Stands, accepted-calls}
-use Rattle.catalogue.specs.Texts.{Key, raw, worded, key-name, Kind, same-kind, Text, read-call, read-put, sent}
+use Rattle.catalogue.specs.Calls.{Call, Stands, Sound}
+use Rattle.catalogue.specs.Texts.{Key, raw, worded, key-name, Kind, same-kind, Text, put-text, read-call, read-put, sent}
 use Rattle.catalogue.specs.Stored.{COUNT, LENGTH, Holds, SentCall}
 
 -- a buffer that a host has made: of the stated length, with zeros only
@@ -41,14 +43,25 @@ unfolding sent
 all-returned [] c = []
 all-returned (t ∷ ts) c = returned-afresh (sent t c) ∷ all-returned ts (left-by c (sent t c))
 
+-- the calls that were accepted, as the host sees it: of the texts whose number is 100 or more
+unfoldable pub accepted-by : List Text → (rs : List ℕ) → List (Call Kind)
+unfolding read-call
+accepted-by [] rs = []
+accepted-by (t ∷ ts) [] = []
+accepted-by (t ∷ ts) (r ∷ rs) =
+    elim (read-call t) [ refused n ↦ accepted-by ts rs | accepted x ↦ elim (leb 100 r) [ true ↦ x ∷ accepted-by ts rs | false ↦ accepted-by ts rs ] ]
+
 -- after every list of calls from zeros
 pub record Kept (ts : List Text) (rs cat′ : List ℕ) : Type 0 where
   pub catalogue : Catalogue Kind
   pub holds : Holds cat′ catalogue
+  pub sound : Sound same-kind catalogue
   -- each returned 100 plus the count of kinds then held, or its refusal
   pub returns : rs ≡ all-returned ts empty
   -- the entries held are those accepted and not withdrawn since
-  pub entries : (e : Entry Kind) → (e ∈ held (catalogue .places)) ↔ Stands e (accepted-calls same-kind (calls-in ts) empty)
+  pub entries : (e : Entry Kind) → (e ∈ held (catalogue .places)) ↔ Stands e (accepted-by ts rs)
+  -- each was put by one of the texts
+  pub texts : (e : Entry Kind) → e ∈ held (catalogue .places) → (bs : List ℕ) × (put-text bs ∈ ts) × (read-put bs ≡ accepted e)
   -- and the kept count equals a count of their kinds made afresh
   pub count : getD cat′ COUNT 0 ≡ kinds same-kind (held (catalogue .places))
 

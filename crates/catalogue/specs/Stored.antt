@@ -100,6 +100,7 @@ At cat k (some e) = Stored cat k e
 -- the numbers are those of the catalogue
 pub record Holds (cat : List ℕ) (c : Catalogue Kind) : Type 0 where
   pub size : length cat ≡ LENGTH
+  pub count : length (c .places) ≡ PLACES
   pub places : (k : ℕ) → k < PLACES → At cat k (getD (c .places) k none)
   pub spare : (k : ℕ) → k < PLACES → (i : ℕ) → 4 ≤ i → i < 8 → getD cat (PLACE * k + i) 0 ≡ 0
   pub kept : getD cat COUNT 0 ≡ c .kept
@@ -111,10 +112,18 @@ pub record Elsewhere (cat cat′ : List ℕ) (k : ℕ) : Type 0 where
   pub behind : (i : ℕ) → PLACE * k + PLACE ≤ i → i < COUNT → getD cat′ i 0 ≡ getD cat i 0
   pub spare : (i : ℕ) → 4 ≤ i → i < 8 → getD cat′ (PLACE * k + i) 0 ≡ getD cat (PLACE * k + i) 0
 
--- the numbers of the refusals, in the order in which they are looked at
+-- the numbers of the refusals: of a text that is not read, and of one that is
+abbrev pub read-numbers : Text → List ℕ
+read-numbers (put-text bs) = job-numbers
+read-numbers (withdraw-text bs) = 1 ∷ []
+
+abbrev pub late-numbers : Text → List ℕ
+late-numbers (put-text bs) = 13 ∷ 15 ∷ []
+late-numbers (withdraw-text bs) = 14 ∷ []
+
+-- all of them, in the order in which they are looked at
 abbrev pub call-numbers : Text → List ℕ
-call-numbers (put-text bs) = 99 ∷ (job-numbers ++ (13 ∷ 15 ∷ []))
-call-numbers (withdraw-text bs) = 99 ∷ 1 ∷ 14 ∷ []
+call-numbers t = 99 ∷ (read-numbers t ++ late-numbers t)
 
 -- of a call that returned r, with one of these numbers if it was refused, whatever the buffer held
 pub record Harmless (ns cat : List ℕ) (r : ℕ) (cat′ : List ℕ) : Type 0 where

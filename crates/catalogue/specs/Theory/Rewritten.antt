@@ -7,7 +7,7 @@ use mathlib.Core.Bool.{Bool, true, false}
 use mathlib.Core.Option.{Option, none, some}
 use mathlib.Core.List.{List}
 use lib.Dec.{eqb}
-use lib.ListN.{length, take, drop, getD, set, length-take, length-drop}
+use lib.ListN.{length, take, drop, getD, set, length-set, length-take, length-drop}
 use lib.Seq.{ext-getD, getD-take, getD-drop, getD-set-same, getD-set-other}
 use Rattle.terms.specs.Theory.Reflects.{Reflects, eqb-reflects}
 use Rattle.terms.specs.Theory.Order.{below?}
@@ -50,11 +50,12 @@ module _ (cat cat′ : List ℕ) (size : length cat′ ≡ length cat) (j : ℕ)
       }
 
 -- place k is free now, or has an entry, and the kept count is n
-pub rewritten : {cat cat′ : List ℕ} {c : Catalogue Kind} (k : ℕ) → k < PLACES → length (c .places) ≡ PLACES → Holds cat c → Elsewhere cat cat′ k
+pub rewritten : {cat cat′ : List ℕ} {c : Catalogue Kind} (k : ℕ) → k < PLACES → Holds cat c → Elsewhere cat cat′ k
     → (p : Option (Entry Kind)) → At cat′ k p → (n : ℕ) → getD cat′ COUNT 0 ≡ n → Holds cat′ (record { places = set (c .places) k p; kept = n })
-rewritten {cat} {cat′} {c} k inside all H E p A n e =
+rewritten {cat} {cat′} {c} k inside H E p A n e =
     record {
       size = E .size ∙ H .size;
+      count = length-set (c .places) k p ∙ H .count;
       places = λ j h. go j h (eqb j k) (eqb-reflects j k);
       spare = λ j h i low high. spare j h i low high (eqb j k) (eqb-reflects j k) ∙ H .spare j h i low high;
       kept = e;
@@ -70,7 +71,7 @@ rewritten {cat} {cat′} {c} k inside all H E p A n e =
 
     go : (j : ℕ) → j < PLACES → (b : Bool) → Reflects (j ≡ k) b → At cat′ j (getD (set (c .places) k p) j none)
     go j h true q =
-        let s : getD (set (c .places) k p) j none ≡ p = ap (λ i. getD (set (c .places) k p) i none) q ∙ getD-set-same (c .places) k p none (omega (arith, all)) in
+        let s : getD (set (c .places) k p) j none ≡ p = ap (λ i. getD (set (c .places) k p) i none) q ∙ getD-set-same (c .places) k p none (omega (arith, H .count)) in
         subst (λ o. At cat′ j o) (sym s) (subst (λ i. At cat′ i p) (sym q) A)
     go j h false q =
         let s : getD (set (c .places) k p) j none ≡ getD (c .places) j none = getD-set-other (c .places) k j p none q in

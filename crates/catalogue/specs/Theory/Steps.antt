@@ -114,7 +114,7 @@ module _ {cat : List ℕ} {c : Catalogue Kind} (H : Holds cat c) (S : Sound same
         (P .returns ∙ ap (λ m. 100 + m) count)
         (subst (λ ps. Holds cat′ (record { places = ps; kept = c .kept + fresh same-kind (e .kind) (held (c .places)) }))
         (sym (put-at e (c .places) k (omega (arith, S .places)) empty (λ j i a. filled j i (free-number j (omega arith) a))))
-        (rewritten k h (S .places) H (P .elsewhere) (some e) stored (c .kept + fresh same-kind (e .kind) (held (c .places))) count))
+        (rewritten k h H (P .elsewhere) (some e) stored (c .kept + fresh same-kind (e .kind) (held (c .places))) count))
       where
         e : Entry Kind
         e = entry n key lines
@@ -168,7 +168,7 @@ module _ {cat : List ℕ} {c : Catalogue Kind} (H : Holds cat c) (S : Sound same
   unfolding withdraw _>>=_ or-refuse
   withdraw-step n k pos (h, number, before) {r} {cat′} W =
       accepted-step {d = d} (rw found) (W .returns ∙ ap (λ m. 100 + m) count)
-      (subst (λ ps. Holds cat′ (record { places = ps; kept = d .kept })) (sym taken) (rewritten k h (S .places) H (W .elsewhere) none (W .free) (d .kept) count))
+      (subst (λ ps. Holds cat′ (record { places = ps; kept = d .kept })) (sym taken) (rewritten k h H (W .elsewhere) none (W .free) (d .kept) count))
     where
       there-is : (e : Entry Kind) × (at (c .places) k ≡ some e)
       there-is = number-entry k h (omega arith)

@@ -7,7 +7,7 @@ use mathlib.Core.Logic.{_↔_, inl, inr}
 use mathlib.Core.Bool.{true}
 use mathlib.Core.Option.{Option, none, some}
 use mathlib.Core.List.{List, []}
-use lib.ListN.{take, drop, getD, getD-replicate}
+use lib.ListN.{take, drop, getD, getD-replicate, length-replicate}
 use lib.Seq.{ext-getD}
 use Rattle.terms.specs.Term.{Term}
 use Rattle.terms.specs.Held.{IsRun}
@@ -21,7 +21,6 @@ use Rattle.text.specs.Rename.{term-lines, word-lines}
 use Rattle.text.specs.Words.{word-list}
 use Rattle.text.specs.Theory.Printed.{term-lines-apart, word-lines-apart, dash-lines-apart}
 use Rattle.catalogue.specs.Catalogue.{PLACES, Entry, Catalogue, empty}
-use Rattle.catalogue.specs.Calls.{Sound}
 use Rattle.catalogue.specs.Texts.{Key, raw, worded, Kind, same-kind}
 use Rattle.catalogue.specs.Stored.{PLACE, COUNT, key-number, RawLines, DifferentLines, Lines, KindAt, Stored, At, Holds}
 use Rattle.catalogue.specs.Claims.{Zeros}
@@ -33,6 +32,7 @@ unfolding empty
 zeros-hold z =
     record {
       size = z .size;
+      count = length-replicate {A = Option (Entry Kind)} PLACES none;
       places = λ k h. rw (getD-replicate {A = Option (Entry Kind)} PLACES k none none h) (z .zero (PLACE * k));
       spare = λ k h i low high. z .zero (PLACE * k + i);
       kept = z .zero COUNT;
@@ -143,10 +143,10 @@ module _ (cat : List ℕ) (k : ℕ) where
   place-once (some e) none S B = absurd (omega (arith, B, S .number, S .listed))
   place-once (some e) (some f) S R = ap some (stored-once S R)
 
-pub holds-once : {cat : List ℕ} {c d : Catalogue Kind} → Holds cat c → Sound same-kind c → Holds cat d → Sound same-kind d → c ≡ d
-holds-once {cat} {c} {d} H S G R =
+pub holds-once : {cat : List ℕ} {c d : Catalogue Kind} → Holds cat c → Holds cat d → c ≡ d
+holds-once {cat} {c} {d} H G =
     let places : c .places ≡ d .places =
-    ext-getD none (c .places) (d .places) (S .places ∙ sym (R .places))
-    (λ k l. place-once cat k (getD (c .places) k none) (getD (d .places) k none) (H .places k (omega (arith, S .places))) (G .places k (omega (arith, S .places)))) in
+    ext-getD none (c .places) (d .places) (H .count ∙ sym (G .count))
+    (λ k l. place-once cat k (getD (c .places) k none) (getD (d .places) k none) (H .places k (omega (arith, H .count))) (G .places k (omega (arith, H .count)))) in
     let kept : c .kept ≡ d .kept = sym (H .kept) ∙ G .kept in
     λ i. record { places = places i; kept = kept i }

@@ -51,6 +51,11 @@ sent-sound t {c} S = go (read-call t)
     go (refused n) = S
     go (accepted x) = call-sound kinds-told x S
 
+pub texts-sound : (ts : List Text) (c : Catalogue Kind) → Sound same-kind c → Sound same-kind (after-texts ts c)
+unfolding after-texts
+texts-sound [] c S = S
+texts-sound (t ∷ ts) c S = texts-sound ts (left-by c (sent t c)) (sent-sound t S)
+
 pub texts-are-calls : (ts : List Text) (c : Catalogue Kind) → after-texts ts c ≡ after same-kind (calls-in ts) c
 unfolding after-texts calls-in after sent _>>=_
 texts-are-calls [] c = refl
