@@ -43,13 +43,13 @@ fresh-new same k es e = rw (e, fresh)
 module _ {cat : List ℕ} {c : Catalogue Kind} (H : Holds cat c) (S : Sound same-kind c) where
   -- what a place has
 
-  stored-at : (j : ℕ) → j < PLACES → {e : Entry Kind} → at (c .places) j ≡ some e → Stored cat j e
+  pub stored-at : (j : ℕ) → j < PLACES → {e : Entry Kind} → at (c .places) j ≡ some e → Stored cat j e
   stored-at j h a = subst (At cat j) a (H .places j h)
 
-  free-number : (j : ℕ) → j < PLACES → at (c .places) j ≡ none → number-at cat j ≡ 0
+  pub free-number : (j : ℕ) → j < PLACES → at (c .places) j ≡ none → number-at cat j ≡ 0
   free-number j h a = subst (At cat j) a (H .places j h)
 
-  number-entry : (j : ℕ) → j < PLACES → 0 < number-at cat j → (e : Entry Kind) × (at (c .places) j ≡ some e)
+  pub number-entry : (j : ℕ) → j < PLACES → 0 < number-at cat j → (e : Entry Kind) × (at (c .places) j ≡ some e)
   number-entry j h some-number = go (at (c .places) j) refl
     where
       go : (o : Option (Entry Kind)) → at (c .places) j ≡ o → (e : Entry Kind) × (at (c .places) j ≡ some e)
