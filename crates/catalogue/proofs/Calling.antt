@@ -3,11 +3,10 @@ use Prim.Native.Nat.{ℕ, _+_, _*_, _≤_, _<_}
 use native.Mathlib.Omega.{arith}
 use mathlib.Core.Path.{_≡_, refl, sym, ap, subst, _∙_}
 use mathlib.Core.Logic.{_⊎_, ⊎-elim}
-use mathlib.Core.List.{List, [], _∷_, _++_}
+use mathlib.Core.List.{List}
 use lib.ListN.{length, take, getD, length-take}
 use Rattle.terms.specs.Lists.{_∈_, here, there, in-left, in-right}
 use Rattle.search.specs.Runs.{Shows}
-use Rattle.text.specs.Claims.{job-numbers}
 use Rattle.words.specs.Spelled.{SLOT}
 use Rattle.words.specs.Multiply.{MOST}
 use Rattle.words.specs.declared.candidate.Lengths.{Lengths}
@@ -15,8 +14,8 @@ use Rattle.text.specs.Answer.{Answer, refused, accepted, _>>=_}
 use Rattle.catalogue.specs.Catalogue.{PLACES, Entry, Catalogue}
 use Rattle.catalogue.specs.Calls.{Call, puts, withdraws, call, Sound}
 use Rattle.catalogue.specs.Texts.{Kind, same-kind, Text, put-text, withdraw-text, read-put, read-withdrawal, read-call, sent}
-use Rattle.catalogue.specs.Stored.{ROOM, COUNT, LENGTH, Holds, Elsewhere, late-numbers, call-numbers, Harmless, Step, SentCall}
-use Rattle.catalogue.specs.Theory.Numbers.{read-call-numbered}
+use Rattle.catalogue.specs.Stored.{ROOM, COUNT, LENGTH, Holds, Elsewhere, read-numbers, late-numbers, call-numbers, Harmless, Step, SentCall}
+use Rattle.catalogue.specs.Theory.Numbers.{read-call-numbered, numbers-low}
 use Rattle.catalogue.specs.Promises.{number-of, Seeks, TakesPut, PutsAt, MakesLists, PutsLists, PutsEquation, TakesOut, WithdrawsEntry}
 use Rattle.catalogue.specs.declared.places.Place.{Place}
 use Rattle.catalogue.specs.declared.places.Place.the-variants.{At, Nowhere}
@@ -28,12 +27,13 @@ use Rattle.catalogue.specs.Theory.Steps.{refused-step, put-listed, put-f
 pub unchanged : (cat : List ℕ) (k : ℕ) → Elsewhere cat cat k
 unchanged cat k = record { size = refl; before = λ i h. refl; behind = λ i h l. refl; spare = λ i low high. refl }
 
-pub refused-harmless : {ns : List ℕ} (cat : List ℕ) (n : ℕ) → n ∈ ns → Harmless ns cat n cat
-refused-harmless cat n i = record { untouched = λ h. refl; numbered = λ h. i; elsewhere = (0, omega arith, unchanged cat 0) }
+pub refused-harmless : {ns : List ℕ} (cat : List ℕ) (n : ℕ) → n < 100 → n ∈ ns → Harmless ns cat n cat
+refused-harmless cat n low i =
+    record { untouched = λ h. refl; numbered = λ h. i; returns = λ h. absurd (omega arith); elsewhere = (0, omega arith, unchanged cat 0) }
 
 accepted-harmless : {ns cat cat′ : List ℕ} {k r : ℕ} → k < PLACES → Elsewhere cat cat′ k → r ≡ 100 + getD cat′ COUNT 0 → Harmless ns cat r cat′
 accepted-harmless {k = k} inside E e =
-    record { untouched = λ h. absurd (omega arith); numbered = λ h. absurd (omega arith); elsewhere = (k, inside, E) }
+    record { untouched = λ h. absurd (omega arith); numbered = λ h. absurd (omega arith); returns = λ h. e; elsewhere = (k, inside, E) }
 
 -- ---- a put
 
@@ -44,7 +44,7 @@ module _ (cat : List ℕ) (k n : ℕ) (inside : k < PLACES) (key : Key) {xs ys u
   pub lists-long : (ROOM < m .left) ⊎ (ROOM < m .right) → PutsLists cat k n key xs ys 15 cat
   lists-long h =
       record {
-        harmless = refused-harmless cat 15 (there (here refl));
+        harmless = refused-harmless cat 15 (omega arith) (there (here refl));
         exact = λ j p q F.
             let L = M .exact j p q F room-u room-v in
             absurd
@@ -64,7 +64,7 @@ module _ (cat : List ℕ) (n : ℕ) (low : 0 < n) where
     pub put-again : {k : ℕ} → Seeks cat n (At k) → PutsEquation cat n key xs ys 13 cat
     put-again {k} found =
         record {
-          harmless = refused-harmless cat 13 (here refl);
+          harmless = refused-harmless cat 13 (omega arith) (here refl);
           step = λ j p q F c H S. refused-step H (put-listed H S _ k low found);
         }
 
@@ -72,7 +72,7 @@ module _ (cat : List ℕ) (n : ℕ) (low : 0 < n) where
       pub put-nowhere : Seeks cat 0 Nowhere → PutsEquation cat n key xs ys 15 cat
       put-nowhere full =
           record {
-            harmless = refused-harmless cat 15 (there (here refl));
+            harmless = refused-harmless cat 15 (omega arith) (there (here refl));
             step = λ j p q F c H S. refused-step H (put-full H S _ new full);
           }
 
@@ -87,7 +87,7 @@ module _ (cat : List ℕ) (n : ℕ) (low : 0 < n) where
 
   pub not-there : Seeks cat n Nowhere → WithdrawsEntry cat n 14 cat
   not-there out =
-      record { harmless = refused-harmless cat 14 (here refl); step = λ c H S. refused-step H (withdraw-unlisted H S n out) }
+      record { harmless = refused-harmless cat 14 (omega arith) (here refl); step = λ c H S. refused-step H (withdraw-unlisted H S n out) }
 
   pub taken-there : (k : ℕ) → Seeks cat n (At k) → {r : ℕ} {cat′ : List ℕ} → TakesOut cat k r cat′ → WithdrawsEntry cat n r cat′
   taken-there k found W =
@@ -101,8 +101,9 @@ module _ (t : Text) (cat : List ℕ) where
   other-length h =
       record {
         step = λ c H S. absurd (h (H .size));
-        harmless = refused-harmless cat 99 (here refl);
+        harmless = refused-harmless cat 99 (omega arith) (here refl);
         text = λ n l e. absurd (h l);
+        late = λ x l e low. absurd (h l);
         other = λ _. refl;
       }
 
@@ -111,23 +112,31 @@ module _ (t : Text) (cat : List ℕ) where
     pub text-refused : {n : ℕ} → read-call t ≡ refused n → SentCall t cat n cat
     unfolding sent _>>=_
     text-refused {n} e =
+        let among : n ∈ call-numbers t = there (in-left (late-numbers t) (rw e at (read-call-numbered t))) in
         record {
           step = λ c H S. refused-step H (rw e);
-          harmless = refused-harmless cat n (there (in-left (late-numbers t) (rw e at (read-call-numbered t))));
+          harmless = refused-harmless cat n (numbers-low t among) among;
           text = λ m l f. let g = sym e ∙ f in cc;
+          late = λ x l f low. absurd (let g = sym e ∙ f in let z : _≡_ {A = ℕ} 0 1 = cc in omega arith);
           other = λ h. absurd (h whole);
         }
 
     -- a text that is read
-    pub text-read : {x : Call Kind} {ns : List ℕ} {r : ℕ} {cat′ : List ℕ} → read-call t ≡ accepted x
-        → ((n : ℕ) → n ∈ ns → n ∈ call-numbers t) → Harmless ns cat r cat′
+    pub text-read : {x : Call Kind} {r : ℕ} {cat′ : List ℕ} → read-call t ≡ accepted x → Harmless (late-numbers t) cat r cat′
         → ((c : Catalogue Kind) → Holds cat c → Sound same-kind c → Step c (call same-kind x c) r cat′) → SentCall t cat r cat′
     unfolding sent _>>=_
-    text-read {x} e wider h step =
+    text-read {x} e h step =
         record {
           step = λ c H S. rw e (step c H S);
-          harmless = record { untouched = h .untouched; numbered = λ l. wider _ (h .numbered l); elsewhere = h .elsewhere };
+          harmless =
+              record {
+                untouched = h .untouched;
+                numbered = λ l. there (in-right (read-numbers t) (h .numbered l));
+                returns = h .returns;
+                elsewhere = h .elsewhere;
+              };
           text = λ n l f. absurd (let g = sym e ∙ f in let z : _≡_ {A = ℕ} 0 1 = cc in omega arith);
+          late = λ y l f low. h .numbered low;
           other = λ l. absurd (l whole);
         }
 
@@ -153,16 +162,10 @@ pub put-sent : (bs cat : List ℕ) → length cat ≡ LENGTH → {p : Put} {left
     → {r : ℕ} {cat′ : List ℕ} → PutsEquation cat (p .number) (p .key) xs ys r cat′ → SentCall (put-text bs) cat r cat′
 unfolding call
 put-sent bs cat whole {p} {left} T e f P =
-    text-read (put-text bs) cat whole (put-read bs (T .read)) among (P .harmless)
+    text-read (put-text bs) cat whole (put-read bs (T .read)) (P .harmless)
     (P .step (T .job) (rw e (T .left-run)) (f .exact (T .job .right) (T .right-run)) (T .fit))
-  where
-    among : (m : ℕ) → m ∈ 13 ∷ 15 ∷ [] → m ∈ 99 ∷ (job-numbers ++ (13 ∷ 15 ∷ []))
-    among m i = there (in-right job-numbers i)
 
 pub withdrawal-sent : (bs cat : List ℕ) → length cat ≡ LENGTH → {n : ℕ} → read-withdrawal bs ≡ accepted n
     → {r : ℕ} {cat′ : List ℕ} → WithdrawsEntry cat n r cat′ → SentCall (withdraw-text bs) cat r cat′
 unfolding call
-withdrawal-sent bs cat whole {n} e W = text-read (withdraw-text bs) cat whole (withdrawal-read bs e) among (W .harmless) (W .step)
-  where
-    among : (m : ℕ) → m ∈ 14 ∷ [] → m ∈ 99 ∷ 1 ∷ 14 ∷ []
-    among m i = there (there i)
+withdrawal-sent bs cat whole {n} e W = text-read (withdraw-text bs) cat whole (withdrawal-read bs e) (W .harmless) (W .step)

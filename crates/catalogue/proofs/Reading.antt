@@ -4,7 +4,7 @@ use native.Mathlib.Omega.{arith}
 use mathlib.Core.Path.{_≡_, refl, sym, ap, subst, _∙_}
 use mathlib.Core.Logic.{_⊎_, ⊎-elim}
 use mathlib.Core.Bool.{Bool, true, false, _&&_}
-use mathlib.Core.Option.{Option, none, some, bind, Option·none-ne-some}
+use mathlib.Core.Option.{Option, none, some, Option·none-ne-some}
 use mathlib.Core.List.{List, [], _∷_, _++_}
 use lib.Dec.{T, leb, leb→le, le→leb}
 use lib.ListN.{length, take, drop, drop-of-length-le, length-drop}
@@ -22,14 +22,13 @@ use Rattle.text.specs.Accepting.{ReadsJob}
 use Rattle.text.specs.declared.job.accept.Reading.{Reading}
 use Rattle.text.specs.declared.job.accept.Reading.the-variants.{Refused, Accepted}
 use Rattle.text.specs.declared.job.accept.Read.{Read}
-use Rattle.text.specs.StepText.{which}
 use Rattle.text.specs.Theory.Keyed.{keyed-field, after-key, after-only, end-only, keyed-parts}
 use Rattle.text.specs.Theory.StepRead.{which-only}
-use Rattle.text.specs.Theory.AtLeast.{Printable, tested}
 use Rattle.text.specs.Theory.Jobs.{job-accepted}
 use Rattle.catalogue.specs.Catalogue.{Entry}
 use Rattle.catalogue.specs.Texts.{Kind, key-name, read-key, in-catalogue, read-put, read-withdrawal, lines-by}
 use Rattle.catalogue.specs.Texts as texts
+use Rattle.catalogue.specs.Theory.Written.{printed-key, key-read}
 use Rattle.catalogue.specs.Promises.{key-of, entry, NumberAt, NumberIn, KeyAt, KeyIn, TakesPut}
 use Rattle.catalogue.specs.declared.kind.Key.{Key}
 use Rattle.catalogue.specs.declared.kind.Key.the-variants.{Raw, Words}
@@ -79,19 +78,9 @@ module _ (s : List ℕ) where
 
 -- ---- the key
 
-printed-key : (k : texts.Key) → Printable (key-name k)
-unfolding key-name ascii
-printed-key texts.raw = tested _ _ tt
-printed-key texts.worded = tested _ _ tt
-
 -- the whole line of a key
 abbrev pub key-line : texts.Key → List ℕ
 key-line k = field "key=" (key-name k)
-
-key-read : (k : texts.Key) → read-key (key-name k) ≡ some k
-unfolding read-key which key-name ascii after end bind
-key-read texts.raw = refl
-key-read texts.worded = refl
 
 module _ (s : List ℕ) (from : ℕ) where
   -- a key's line stands at the position

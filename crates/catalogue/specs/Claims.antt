@@ -1,5 +1,5 @@
 -- What is claimed of every list of calls of PUT and WITHDRAW on one buffer, and of kinds and RENAME's lines.
-use Prim.Native.Nat.{ℕ, _+_}
+use Prim.Native.Nat.{ℕ, _+_, _≤_, _<_}
 use mathlib.Core.Path.{_≡_}
 use mathlib.Core.Logic.{_↔_}
 use mathlib.Core.Bool.{true, false}
@@ -10,10 +10,10 @@ use Rattle.terms.specs.Lists.{_∈_}
 use Rattle.text.specs.Bytes.{number}
 use Rattle.text.specs.Answer.{Answer, refused, accepted, field, values}
 use Rattle.text.specs.Rename.{rename-entry}
-use Rattle.catalogue.specs.Catalogue.{Entry, Catalogue, empty, held, kinds, left-by}
+use Rattle.catalogue.specs.Catalogue.{PLACES, Entry, Catalogue, empty, held, kinds, left-by}
 use Rattle.catalogue.specs.Calls.{Call, Stands, Sound}
-use Rattle.catalogue.specs.Texts.{Key, raw, worded, key-name, Kind, same-kind, Text, put-text, read-call, read-put, sent}
-use Rattle.catalogue.specs.Stored.{COUNT, LENGTH, Holds, SentCall}
+use Rattle.catalogue.specs.Texts.{Key, raw, worded, key-name, Kind, same-kind, Text, put-text, withdraw-text, read-call, read-put, read-withdrawal, sent}
+use Rattle.catalogue.specs.Stored.{COUNT, LENGTH, number-at, Stored, Holds, SentCall}
 
 -- a buffer that a host has made: of the stated length, with zeros only
 pub record Zeros (cat : List ℕ) : Type 0 where
@@ -64,6 +64,15 @@ pub record Kept (ts : List Text) (rs cat′ : List ℕ) : Type 0 where
   pub texts : (e : Entry Kind) → e ∈ held (catalogue .places) → (bs : List ℕ) × (put-text bs ∈ ts) × (read-put bs ≡ accepted e)
   -- and the kept count equals a count of their kinds made afresh
   pub count : getD cat′ COUNT 0 ≡ kinds same-kind (held (catalogue .places))
+
+-- a withdrawn entry's place serves the next put: the number in place k is withdrawn, where no place before it is free, and the entry of
+-- the put that follows, if it is accepted, stands in place k
+abbrev pub Serves : Type 0
+Serves = (cat cat₁ cat₂ : List ℕ) (c : Catalogue Kind) (k n r r′ : ℕ) (bs ps : List ℕ) (e : Entry Kind) → Holds cat c → Sound same-kind c
+    → k < PLACES → number-at cat k ≡ n → 0 < n → ((j : ℕ) → j < k → number-at cat j ≡ 0 → ⊥)
+    → read-withdrawal bs ≡ accepted n → SentCall (withdraw-text bs) cat r cat₁
+    → read-put ps ≡ accepted e → SentCall (put-text ps) cat₁ r′ cat₂ → 100 ≤ r′
+    → (100 ≤ r) × Stored cat₂ k e
 
 -- the lines of RENAME's answer that a key goes by
 abbrev pub lines-under : Key → List ℕ → List (List ℕ)

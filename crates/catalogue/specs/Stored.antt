@@ -15,12 +15,12 @@ use Rattle.words.specs.Words.{Word}
 use Rattle.words.specs.Spelled.{spelled}
 use Rattle.text.specs.Bytes.{ascii}
 use Rattle.text.specs.TermText.{Readable}
-use Rattle.text.specs.Answer.{Answer, refused}
+use Rattle.text.specs.Answer.{Answer, refused, accepted}
 use Rattle.text.specs.Rename.{term-lines, word-lines}
 use Rattle.text.specs.Words.{word-list}
 use Rattle.text.specs.Claims.{job-numbers}
 use Rattle.catalogue.specs.Catalogue.{PLACES, Entry, Catalogue, returned, left-by}
-use Rattle.catalogue.specs.Calls.{Sound}
+use Rattle.catalogue.specs.Calls.{Call, Sound}
 use Rattle.catalogue.specs.Texts.{Key, raw, worded, Kind, same-kind, Text, put-text, withdraw-text, read-call, sent}
 
 -- the most numbers that the words of a side of 31 nodes take, each letter plus 1, and 0 behind each word
@@ -130,7 +130,9 @@ pub record Harmless (ns cat : List ℕ) (r : ℕ) (cat′ : List ℕ) : Type 0 w
   -- a refused call leaves the catalogue unchanged, to the last number
   pub untouched : r < 100 → cat′ ≡ cat
   pub numbered : r < 100 → r ∈ ns
-  -- an accepted one writes to one place and to the kept count alone
+  -- an accepted one returns 100 plus the kept count
+  pub returns : 100 ≤ r → r ≡ 100 + getD cat′ COUNT 0
+  -- and writes to one place and to the kept count alone
   pub elsewhere : (k : ℕ) × (k < PLACES) × Elsewhere cat cat′ k
 
 -- a call that is a step of the catalogue c
@@ -145,5 +147,7 @@ pub record SentCall (t : Text) (cat : List ℕ) (r : ℕ) (cat′ : List ℕ) : 
   pub harmless : Harmless (call-numbers t) cat r cat′
   -- whatever the buffer held: a text that is refused by 1 to 6, or a withdrawal's by 1, is refused so
   pub text : (n : ℕ) → length cat ≡ LENGTH → read-call t ≡ refused n → r ≡ n
+  -- and one that is read is refused by later numbers only
+  pub late : (x : Call Kind) → length cat ≡ LENGTH → read-call t ≡ accepted x → r < 100 → r ∈ late-numbers t
   -- a buffer of another length is answered by 99
   pub other : (length cat ≡ LENGTH → ⊥) → r ≡ 99

@@ -120,7 +120,7 @@ module _ {K : Type 0} where
         go true rest = refl
         go false rest = rest
 
-  -- an entry of a kind, found in a place, or in none
+  -- an entry of a kind, found in a place
   module _ (same : K → K → Bool) (k : K) where
     abbrev pub Alike : Entry K → Type 0
     Alike e = same k (e .kind) ≡ true
@@ -136,16 +136,6 @@ module _ {K : Type 0} where
         go : (b : Bool) → has-kind same k (held ps) ≡ true → elim b [ true ↦ true | false ↦ has-kind same k (held ps) ] ≡ true
         go true rest = refl
         go false rest = rest
-
-    pub no-kind-at : (ps : List (Option (Entry K))) → NoneBelow Alike ps (length ps) → has-kind same k (held ps) ≡ false
-    unfolding held has-kind
-    no-kind-at [] f = refl
-    no-kind-at (none ∷ ps) f = no-kind-at ps (λ j i x b. f (suc j) (omega arith) x b)
-    no-kind-at (some d ∷ ps) f = go (same k (d .kind)) refl (no-kind-at ps (λ j i x b. f (suc j) (omega arith) x b))
-      where
-        go : (b : Bool) → same k (d .kind) ≡ b → has-kind same k (held ps) ≡ false → elim b [ true ↦ true | false ↦ has-kind same k (held ps) ] ≡ false
-        go true p rest = absurd (f 0 (omega arith) d refl p)
-        go false p rest = rest
 
     -- where it is found
     pub kind-found : (ps : List (Option (Entry K))) → has-kind same k (held ps) ≡ true → (i : ℕ) × (e : Entry K) × (at ps i ≡ some e) × Alike e

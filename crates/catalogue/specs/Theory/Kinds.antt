@@ -99,7 +99,8 @@ module _ {K : Type 0} {same : K → K → Bool} (tells : Tells same) where
     pub distinct : Distinct ks
     pub all : (k : K) → (k ∈ ks) ↔ (k ∈ kinds-in es)
 
-  different : (es : List (Entry K)) → (ks : List K) × Different es ks × (length ks ≡ kinds same es)
+  -- there are such, as many as are counted
+  pub different : (es : List (Entry K)) → (ks : List K) × Different es ks × (length ks ≡ kinds same es)
   unfolding kinds
   different [] = ([], record { distinct = none; all = λ k. (λ m. m, λ m. m) }, refl)
   different (e ∷ es) = go (different es)

@@ -75,14 +75,3 @@ module _ {K : Type 0} where
       go false p f rest =
           let (B, k) = rest f in
           (record { front = d ∷ B .front; behind = B .behind; without = ap (λ l. d ∷ l) (B .without); with = ap (λ l. d ∷ l) (B .with) }, k)
-
-  -- there is an entry under a number that is listed
-  pub entry-found : (n : ℕ) (es : List (Entry K)) → n ∈ numbers-in es → (e : Entry K) × (entry-of n es ≡ some e)
-  unfolding entry-of
-  entry-found n [] m = absurd (not-in-nil m)
-  entry-found n (d ∷ es) m = go (eqb (d .number) n) (eqb-reflects (d .number) n) (entry-found n es)
-    where
-      go : (b : Bool) → Reflects (d .number ≡ n) b → (n ∈ numbers-in es → (e : Entry K) × (entry-of n es ≡ some e))
-          → (e : Entry K) × (elim b [ true ↦ some d | false ↦ entry-of n es ] ≡ some e)
-      go true p rest = (d, refl)
-      go false p rest = rest (⊎-elim (λ q. absurd (p (sym q))) (λ j. j) (cons-cases m))

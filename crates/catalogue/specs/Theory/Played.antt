@@ -1,15 +1,17 @@
 -- Calls one after another on one buffer: what each returns, and what the buffer holds at the end.
-use Prim.Native.Nat.{ℕ, _+_, _<_}
+use Prim.Native.Nat.{ℕ, _+_, _≤_, _<_}
 use native.Mathlib.Omega.{arith}
 use mathlib.Core.Path.{_≡_, refl, sym, ap, ap₂, subst, _∙_}
 use mathlib.Core.Logic.{_↔_, ⊎-elim}
 use mathlib.Core.Bool.{Bool, true, false}
+use mathlib.Core.Option.{none, some}
 use mathlib.Core.List.{List, [], _∷_}
 use lib.Dec.{leb}
+use lib.Seq.{getD-set-same}
 use borrow.Author.Tests.{le-leb, lt-leb}
 use Rattle.terms.specs.Lists.{_∈_, here, there, not-in-nil, cons-cases}
 use Rattle.text.specs.Answer.{Answer, refused, accepted, _>>=_}
-use Rattle.catalogue.specs.Catalogue.{Entry, Catalogue, empty, held, returned, left-by}
+use Rattle.catalogue.specs.Catalogue.{Entry, Catalogue, empty, held, put, withdraw, returned, left-by}
 use Rattle.catalogue.specs.Calls.{Call, puts, withdraws, Stands, last, later, accepted-calls, Sound}
 use Rattle.catalogue.specs.Calls as calls
 use Rattle.catalogue.specs.Texts.{
@@ -24,12 +26,15 @@ use Rattle.catalogue.specs.Texts.{
   sent,
   after-texts,
 }
-use Rattle.catalogue.specs.Stored.{Holds, SentCall}
-use Rattle.catalogue.specs.Claims.{Zeros, Played, end, call, calls-in, returned-afresh, all-returned, accepted-by, Kept}
+use Rattle.catalogue.specs.Stored.{At, Holds, SentCall}
+use Rattle.catalogue.specs.Claims.{Zeros, Played, end, call, calls-in, returned-afresh, all-returned, accepted-by, Kept, Serves}
 use Rattle.catalogue.specs.Theory.Kept.{empty-sound}
 use Rattle.catalogue.specs.Theory.Texts.{kinds-told, sent-sound, texts-sound, texts-held, texts-kept}
 use Rattle.catalogue.specs.Theory.Numbers.{sent-low}
 use Rattle.catalogue.specs.Theory.Stored.{zeros-hold}
+use Rattle.catalogue.specs.Theory.ByPlace.{at, found-at}
+use Rattle.catalogue.specs.Theory.Served.{withdraw-accepted, first-place, served}
+use Rattle.catalogue.specs.Theory.Steps.{stored-at, free-number, number-entry}
 
 -- the number that a call returns is that of the count made afresh
 pub returns-afresh : (c : Catalogue Kind) (a : Answer (Catalogue Kind)) → Sound same-kind (left-by c a) → returned a ≡ returned-afresh a
@@ -152,3 +157,42 @@ zeros-played {ts = ts} z p =
       texts = λ e m. put-by-text ts empty (texts-held ts e .0 m);
       count = h .kept ∙ texts-kept ts;
     }
+
+-- a withdrawn entry's place serves the next put
+
+-- a call that was accepted
+module _ {t : Text} {cat cat′ : List ℕ} {r : ℕ} {c : Catalogue Kind} (H : Holds cat c) (S : Sound same-kind c) (s : SentCall t cat r cat′) where
+  accepted-sent : 100 ≤ r → (d : Catalogue Kind) × (sent t c ≡ accepted d)
+  accepted-sent high = go (sent t c) refl
+    where
+      go : (a : Answer (Catalogue Kind)) → sent t c ≡ a → (d : Catalogue Kind) × (sent t c ≡ accepted d)
+      go (refused n) e = absurd (let q = s .step c H S .number ∙ ap returned e in omega (arith, sent-low t c e))
+      go (accepted d) e = (d, e)
+
+  accepted-left : {d : Catalogue Kind} → sent t c ≡ accepted d → (100 ≤ r) × Holds cat′ d × Sound same-kind d
+  accepted-left {d} e =
+      let n : r ≡ 100 + d .kept = s .step c H S .number ∙ ap returned e in
+      let left = ap (left-by c) e in
+      (omega arith, subst (Holds cat′) left (s .step c H S .after), subst (Sound same-kind) left (sent-sound t S))
+
+sent-withdrawal : (bs : List ℕ) {n : ℕ} → read-withdrawal bs ≡ accepted n → (c : Catalogue Kind) → sent (withdraw-text bs) c ≡ withdraw same-kind n c
+unfolding sent read-call calls.call _>>=_
+sent-withdrawal bs e c = rw e
+
+sent-put : (bs : List ℕ) {e : Entry Kind} → read-put bs ≡ accepted e → (c : Catalogue Kind) → sent (put-text bs) c ≡ put same-kind e c
+unfolding sent read-call calls.call _>>=_
+sent-put bs f c = rw f
+
+pub place-serves : Serves
+place-serves cat cat₁ cat₂ c k n r r′ bs ps e H S inside number low filled read first read′ second high =
+    let (g, a) = number-entry H S k inside (omega arith) in
+    let m : g .number ≡ n = sym (stored-at H S k inside a .number) ∙ number in
+    let found = found-at n (c .places) k g a m (λ j i x b h. first-place S a m j i b h) in
+    let w = withdraw-accepted same-kind n c found in
+    let (taken, H₁, S₁) = accepted-left H S first (sent-withdrawal bs read c ∙ w) in
+    let (f, p) = accepted-sent H₁ S₁ second high in
+    let (_, H₂, _) = accepted-left H₁ S₁ second p in
+    let is = served S n w k (λ j i free. filled j i (free-number H S j (omega arith) free)) a m e (sym (sent-put ps read′ _) ∙ p) in
+    let here-is : at (f .places) k ≡ some e = ap (λ ps. at ps k) is ∙ getD-set-same (c .places) k (some e) none (omega (arith, H .count)) in
+    let stored = subst (At cat₂ k) here-is (H₂ .places k inside) in
+    (taken, stored)

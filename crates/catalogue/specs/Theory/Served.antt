@@ -1,5 +1,5 @@
 -- A withdrawn entry's place serves the next put.
-use Prim.Native.Nat.{ℕ, zero as 0ℕ, suc, _+_, _<_}
+use Prim.Native.Nat.{ℕ, zero as 0ℕ, suc, _+_, _-_, _<_}
 use native.Mathlib.Omega.{arith}
 use mathlib.Core.Path.{_≡_, refl, sym, ap, _∙_}
 use mathlib.Core.Logic.{⊎-elim}
@@ -12,14 +12,14 @@ use lib.Seq.{getD-set-same, getD-set-other, set-set}
 use borrow.Author.Tests.{lt-ltb}
 use Rattle.terms.specs.Lists.{_∈_, here, there, in-map, Distinct, more}
 use Rattle.terms.specs.Theory.Order.{below?}
-use Rattle.text.specs.Answer.{accepted, _>>=_, require}
+use Rattle.text.specs.Answer.{accepted, _>>=_, require, or-refuse}
 use Rattle.text.specs.Theory.Accepted.{If-accepted, required-then, found-then}
 use Rattle.catalogue.specs.Catalogue.{PLACES, Entry, Catalogue, held, entry-of, listed, put-first, take-out, fresh, put, withdraw}
 use Rattle.catalogue.specs.Calls.{Sound}
 use Rattle.catalogue.specs.Theory.Kinds.{Tells}
 use Rattle.catalogue.specs.Theory.Places.{numbers-in}
 use Rattle.catalogue.specs.Theory.Kept.{withdraw-sound}
-use Rattle.catalogue.specs.Theory.ByPlace.{at, NoneBelow, Filled, Numbered, put-at, taken-at, room-at, held-short}
+use Rattle.catalogue.specs.Theory.ByPlace.{at, NoneBelow, Filled, Numbered, put-at, taken-at, held-short}
 
 module _ {K : Type 0} where
   -- a place that has an entry is one of the places
@@ -85,16 +85,25 @@ module _ {K : Type 0} (same : K → K → Bool) where
   unfolding put _>>=_ require
   put-accepted e c new room = rw (new, lt-ltb (length (held (c .places))) PLACES room)
 
+  -- nor is a withdrawal of a number that is listed
+  pub withdraw-accepted : (n : ℕ) (c : Catalogue K) {g : Entry K} → entry-of n (held (c .places)) ≡ some g
+      → withdraw same n c ≡ accepted (record { places = take-out n (c .places); kept = c .kept - fresh same (g .kind) (held (take-out n (c .places))) })
+  unfolding withdraw _>>=_ or-refuse
+  withdraw-accepted n c found = rw found
+
+-- a number that stands in place k stands in none before it
+pub first-place : {K : Type 0} {same : K → K → Bool} {c : Catalogue K} → Sound same c → {n k : ℕ} {g : Entry K} → at (c .places) k ≡ some g → g .number ≡ n
+    → (j : ℕ) → j < k → {x : Entry K} → at (c .places) j ≡ some x → x .number ≡ n → ⊥
+first-place {c = c} S {k = k} a m j i b h = let q = same-place (c .places) j k b a (h ∙ sym m) (S .numbers) in omega arith
+
 module _ {K : Type 0} {same : K → K → Bool} {c : Catalogue K} (S : Sound same c) (n : ℕ) {d : Catalogue K} (w : withdraw same n c ≡ accepted d) where
-  -- of a full catalogue: the place of the entry that is withdrawn serves the next put
-  pub served : length (held (c .places)) ≡ PLACES → (k : ℕ) {g : Entry K} → at (c .places) k ≡ some g → g .number ≡ n
+  -- where no place before it is free, the place of the entry that is withdrawn serves the next put
+  pub served : (k : ℕ) → Filled (c .places) k → {g : Entry K} → at (c .places) k ≡ some g → g .number ≡ n
       → (e : Entry K) {f : Catalogue K} → put same e d ≡ accepted f → f .places ≡ set (c .places) k (some e)
-  served full k {g} a m e p =
+  served k filled {g} a m e p =
       put-places same e d p
       ∙ ap (put-first e) (withdrawn-places same n c w)
-      ∙ next-put e n (c .places) k g a m
-      (λ j i x b h. let q = same-place (c .places) j k b a (h ∙ sym m) (S .numbers) in omega arith)
-      (λ j i free. omega (arith, room-at (c .places) j (omega (arith, place-inside (c .places) k a)) free, S .places))
+      ∙ next-put e n (c .places) k g a m (λ j i x b h. first-place S a m j i b h) filled
 
   module _ (tells : Tells same) where
     -- there is room after a withdrawal

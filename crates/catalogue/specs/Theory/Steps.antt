@@ -23,7 +23,7 @@ use Rattle.catalogue.specs.Theory.Texts.{kinds-told}
 use Rattle.catalogue.specs.Theory.Stored.{kind-tested}
 use Rattle.catalogue.specs.Theory.ByPlace.{at, put-at, held-short, room-at, full-at, found-at, taken-at, unlisted-at, listed-at, kind-at, kind-found}
 use Rattle.catalogue.specs.Theory.Rewritten.{rewritten}
-use Rattle.catalogue.specs.Theory.Served.{place-inside, put-accepted}
+use Rattle.catalogue.specs.Theory.Served.{place-inside, put-accepted, withdraw-accepted}
 
 -- a call that was refused, or accepted
 pub refused-step : {cat : List ℕ} {c : Catalogue Kind} {a : Answer (Catalogue Kind)} {n : ℕ} → Holds cat c → a ≡ refused n → Step c a n cat
@@ -32,24 +32,26 @@ refused-step H e = rw e (record { number = refl; after = H })
 accepted-step : {cat′ : List ℕ} {c d : Catalogue Kind} {a : Answer (Catalogue Kind)} {r : ℕ} → a ≡ accepted d → r ≡ 100 + d .kept → Holds cat′ d → Step c a r cat′
 accepted-step e n H = rw e (record { number = n; after = H })
 
+-- what a kind counts, by the test
+
 fresh-known : {K : Type 0} (same : K → K → Bool) (k : K) (es : List (Entry K)) → has-kind same k es ≡ true → fresh same k es ≡ 0
 unfolding fresh
 fresh-known same k es e = rw (e, fresh)
 
-fresh-new : {K : Type 0} (same : K → K → Bool) (k : K) (es : List (Entry K)) → has-kind same k es ≡ false → fresh same k es ≡ 1
+fresh-unknown : {K : Type 0} (same : K → K → Bool) (k : K) (es : List (Entry K)) → has-kind same k es ≡ false → fresh same k es ≡ 1
 unfolding fresh
-fresh-new same k es e = rw (e, fresh)
+fresh-unknown same k es e = rw (e, fresh)
 
 module _ {cat : List ℕ} {c : Catalogue Kind} (H : Holds cat c) (S : Sound same-kind c) where
   -- what a place has
 
-  stored-at : (j : ℕ) → j < PLACES → {e : Entry Kind} → at (c .places) j ≡ some e → Stored cat j e
+  pub stored-at : (j : ℕ) → j < PLACES → {e : Entry Kind} → at (c .places) j ≡ some e → Stored cat j e
   stored-at j h a = subst (At cat j) a (H .places j h)
 
-  free-number : (j : ℕ) → j < PLACES → at (c .places) j ≡ none → number-at cat j ≡ 0
+  pub free-number : (j : ℕ) → j < PLACES → at (c .places) j ≡ none → number-at cat j ≡ 0
   free-number j h a = subst (At cat j) a (H .places j h)
 
-  number-entry : (j : ℕ) → j < PLACES → 0 < number-at cat j → (e : Entry Kind) × (at (c .places) j ≡ some e)
+  pub number-entry : (j : ℕ) → j < PLACES → 0 < number-at cat j → (e : Entry Kind) × (at (c .places) j ≡ some e)
   number-entry j h some-number = go (at (c .places) j) refl
     where
       go : (o : Option (Entry Kind)) → at (c .places) j ≡ o → (e : Entry Kind) × (at (c .places) j ≡ some e)
@@ -155,7 +157,7 @@ module _ {cat : List ℕ} {c : Catalogue Kind} (H : Holds cat c) (S : Sound same
               P .new
                   (λ A. false≢true (sym f ∙ ap (λ ps. has-kind same-kind (e .kind) (held ps)) (sym all) ∙ another (e .kind) (L .lines) PLACES .1 A))
                   (omega (arith, H .kept, S .kept, kinds-bound same-kind (held (c .places)), held-short (c .places), S .places)),
-              fresh-new same-kind (e .kind) (held (c .places)) f,
+              fresh-unknown same-kind (e .kind) (held (c .places)) f,
               H .kept,
             )
 
@@ -165,9 +167,8 @@ module _ {cat : List ℕ} {c : Catalogue Kind} (H : Holds cat c) (S : Sound same
   -- ---- a withdrawal from the first place with the number
 
   pub withdraw-step : (n k : ℕ) → 0 < n → Seeks cat n (place.At k) → {r : ℕ} {cat′ : List ℕ} → TakesOut cat k r cat′ → Step c (withdraw same-kind n c) r cat′
-  unfolding withdraw _>>=_ or-refuse
   withdraw-step n k pos (h, number, before) {r} {cat′} W =
-      accepted-step {d = d} (rw found) (W .returns ∙ ap (λ m. 100 + m) count)
+      accepted-step {d = d} (withdraw-accepted same-kind n c found) (W .returns ∙ ap (λ m. 100 + m) count)
       (subst (λ ps. Holds cat′ (record { places = ps; kept = d .kept })) (sym taken) (rewritten k h H (W .elsewhere) none (W .free) (d .kept) count))
     where
       there-is : (e : Entry Kind) × (at (c .places) k ≡ some e)
@@ -204,7 +205,7 @@ module _ {cat : List ℕ} {c : Catalogue Kind} (H : Holds cat c) (S : Sound same
             H .kept,
           )
       shared false f =
-          let one = fresh-new same-kind (e .kind) (held (take-out n (c .places))) f in
+          let one = fresh-unknown same-kind (e .kind) (held (take-out n (c .places))) f in
           omega (
             arith,
             W .last (key-number (e .kind .key)) (R .left) (R .right) (R .kind) (R .left-room) (R .right-room)

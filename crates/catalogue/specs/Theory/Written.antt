@@ -2,7 +2,7 @@
 use Prim.Native.Nat.{ℕ, _≤_}
 use Prim.Native.String.{String}
 use native.Mathlib.Omega.{arith}
-use mathlib.Core.Path.{_≡_, refl, sym, ap, _∙_}
+use mathlib.Core.Path.{_≡_, refl, sym, ap, subst, _∙_}
 use mathlib.Core.Logic.{_↔_}
 use mathlib.Core.Option.{some, bind}
 use mathlib.Core.List.{List, [], _∷_, _++_, append-nil}
@@ -10,11 +10,12 @@ use lib.Dec.{T, leb, leb→le}
 use lib.ListN.{length, length-append}
 use borrow.Author.Tests.{le-leb}
 use Rattle.terms.specs.Theory.Reflects.{both}
-use Rattle.text.specs.Bytes.{ascii, number, read-number, end}
+use Rattle.text.specs.Bytes.{ascii, number, read-number, after, end}
+use Rattle.text.specs.StepText.{which}
 use Rattle.text.specs.Layout.{keyed, Stated, limit-line}
 use Rattle.text.specs.Answer.{accepted, _>>=_, require, or-refuse, field}
 use Rattle.text.specs.Job.{Job, read-job}
-use Rattle.text.specs.Theory.AtLeast.{higher}
+use Rattle.text.specs.Theory.AtLeast.{Printable, higher, tested}
 use Rattle.text.specs.Theory.Numbers.{number-least, read-number-number, read-number-only}
 use Rattle.text.specs.Theory.Lengths.{number-length}
 use Rattle.text.specs.Theory.Keyed.{some-then, end-only, keyed-parts, keyed-field}
@@ -45,8 +46,9 @@ numbers-in-range : (n : ℕ) → T (in-catalogue n) → (1 ≤ n) × (n ≤ 999)
 unfolding in-catalogue
 numbers-in-range n t = let (low, high) = both (leb 1 n) (leb n 999) t in (leb→le 1 n low, leb→le n 999 high)
 
--- a put that was read: its text is number, key and a job, which is accepted, and the kind's lines are by the key
+-- a put that was read: its text, of at most 1,024 bytes, is number, key and a job, which is accepted, and the kind's lines are by the key
 pub record PutRead (bs : List ℕ) (e : Entry Kind) : Type 0 where
+  pub size : length bs ≤ 1024
   pub job : List ℕ
   pub text : bs ≡ field "number=" (number (e .number)) ++ (field "key=" (key-name (e .kind .key)) ++ job)
   pub listed : (1 ≤ e .number) × (e .number ≤ 999)
@@ -57,13 +59,14 @@ pub record PutRead (bs : List ℕ) (e : Entry Kind) : Type 0 where
 puts-read : (bs : List ℕ) → If-accepted (PutRead bs) (read-put bs)
 unfolding read-put
 puts-read bs =
-    required-then P 1 (leb (length bs) 1024) _ λ _.
+    required-then P 1 (leb (length bs) 1024) _ λ short.
     found-then P 1 (limit-line "number=" bs) _ λ n stated.
     required-then P 1 (in-catalogue (n .number)) _ λ within.
     found-then P 1 (keyed "key=" (n .rest)) _ λ k keyed.
     found-then P 1 (read-key (k .front)) _ λ key named.
     accepted-then P (read-job (k .rest)) _ λ j read.
     record {
+      size = leb→le (length bs) 1024 short;
       job = k .rest;
       text =
           number-parts "number=" bs stated
@@ -80,6 +83,42 @@ puts-read bs =
 
 pub put-read : {bs : List ℕ} {e : Entry Kind} → read-put bs ≡ accepted e → PutRead bs e
 put-read {bs} f = rw f at (puts-read bs)
+
+-- and each such text is read so
+
+pub printed-key : (k : Key) → Printable (key-name k)
+unfolding key-name ascii
+printed-key raw = tested _ _ tt
+printed-key worded = tested _ _ tt
+
+pub key-read : (k : Key) → read-key (key-name k) ≡ some k
+unfolding read-key which key-name ascii after end bind
+key-read raw = refl
+key-read worded = refl
+
+pub put-written : (n : ℕ) (key : Key) (job : List ℕ) {j : Job} → length (field "number=" (number n) ++ (field "key=" (key-name key) ++ job)) ≤ 1024
+    → 1 ≤ n → n ≤ 999 → read-job job ≡ accepted j
+    → read-put (field "number=" (number n) ++ (field "key=" (key-name key) ++ job)) ≡ accepted (record { number = n; kind = record { key = key; lines = lines-by key j } })
+unfolding read-put _>>=_ require or-refuse in-catalogue
+put-written n key job short low high read =
+    rw (
+      le-leb (length (field "number=" (number n) ++ (field "key=" (key-name key) ++ job))) 1024 short,
+      number-line "number=" n (field "key=" (key-name key) ++ job),
+      le-leb 1 n low,
+      le-leb n 999 high,
+      keyed-field "key=" (key-name key) job (printed-key key),
+      key-read key,
+      read,
+    )
+
+pub put-exact : (bs : List ℕ) (e : Entry Kind) → (read-put bs ≡ accepted e) ↔ PutRead bs e
+put-exact bs e = (
+  λ f. put-read f,
+  λ R.
+      ap read-put (R .text)
+      ∙ put-written (e .number) (e .kind .key) (R .job) (subst (λ l. length l ≤ 1024) (R .text) (R .size)) (R .listed .0) (R .listed .1) (R .accepted)
+      ∙ ap (λ lines. accepted (record { number = e .number; kind = record { key = e .kind .key; lines = lines } })) (sym (R .lines)),
+)
 
 -- `number=` alone, with a number from 1 to 999
 abbrev pub Withdrawal : List ℕ → ℕ → Type 0
