@@ -26,12 +26,6 @@ pub data Played : (cat : List ℕ) → List Text → (rs : List ℕ) → (cat′
   call : {cat cat′ cat″ : List ℕ} {t : Text} {ts : List Text} {r : ℕ} {rs : List ℕ} → SentCall t cat r cat′ → Played cat′ ts rs cat″
       → Played cat (t ∷ ts) (r ∷ rs) cat″
 
--- the calls that the texts ask for; a text that is refused asks for none
-unfoldable pub calls-in : List Text → List (Call Kind)
-unfolding read-call
-calls-in [] = []
-calls-in (t ∷ ts) = elim (read-call t) [ refused n ↦ calls-in ts | accepted x ↦ x ∷ calls-in ts ]
-
 -- 100 plus the count of kinds then held, made afresh, or the refusal
 abbrev pub returned-afresh : Answer (Catalogue Kind) → ℕ
 returned-afresh (refused n) = n

@@ -23,7 +23,7 @@ use Rattle.catalogue.specs.Catalogue.{PLACES, Entry, Catalogue, returned
 use Rattle.catalogue.specs.Calls.{Call, Sound}
 use Rattle.catalogue.specs.Texts.{Key, raw, worded, Kind, same-kind, Text, put-text, withdraw-text, read-call, sent}
 
--- the most numbers that the words of a side of 31 nodes take, each letter plus 1, and 0 behind each word
+-- room for a list: the words of a side of 31 nodes, each letter plus 1, and 0 behind each word, take no more
 abbrev pub ROOM : ℕ
 ROOM = 2700
 

@@ -27,9 +27,9 @@ use Rattle.catalogue.specs.Texts.{
   after-texts,
 }
 use Rattle.catalogue.specs.Stored.{At, Holds, SentCall}
-use Rattle.catalogue.specs.Claims.{Zeros, Played, end, call, calls-in, returned-afresh, all-returned, accepted-by, Kept, Serves}
+use Rattle.catalogue.specs.Claims.{Zeros, Played, end, call, returned-afresh, all-returned, accepted-by, Kept, Serves}
 use Rattle.catalogue.specs.Theory.Kept.{empty-sound}
-use Rattle.catalogue.specs.Theory.Texts.{kinds-told, sent-sound, texts-sound, texts-held, texts-kept}
+use Rattle.catalogue.specs.Theory.Texts.{calls-in, kinds-told, sent-sound, texts-sound, texts-held, texts-kept}
 use Rattle.catalogue.specs.Theory.Numbers.{sent-low}
 use Rattle.catalogue.specs.Theory.Stored.{zeros-hold}
 use Rattle.catalogue.specs.Theory.ByPlace.{at, found-at}

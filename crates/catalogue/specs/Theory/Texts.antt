@@ -15,7 +15,6 @@ use Rattle.text.specs.Answer.{Answer, refused, accepted, _>>=_}
 use Rattle.catalogue.specs.Catalogue.{Entry, Catalogue, empty, held, kinds, left-by}
 use Rattle.catalogue.specs.Calls.{Call, Stands, call, after, accepted-calls, Sound}
 use Rattle.catalogue.specs.Texts.{Key, raw, worded, Kind, same-key, same-kind, Text, read-call, sent, after-texts}
-use Rattle.catalogue.specs.Claims.{calls-in}
 use Rattle.catalogue.specs.Theory.Kinds.{Tells}
 use Rattle.catalogue.specs.Theory.Kept.{call-sound}
 use Rattle.catalogue.specs.Theory.Held.{entries-held, count-kept}
@@ -55,6 +54,12 @@ pub texts-sound : (ts : List Text) (c : Catalogue Kind) → Sound same-kind c �
 unfolding after-texts
 texts-sound [] c S = S
 texts-sound (t ∷ ts) c S = texts-sound ts (left-by c (sent t c)) (sent-sound t S)
+
+-- the calls that the texts ask for; a text that is refused asks for none
+unfoldable pub calls-in : List Text → List (Call Kind)
+unfolding read-call
+calls-in [] = []
+calls-in (t ∷ ts) = elim (read-call t) [ refused n ↦ calls-in ts | accepted x ↦ x ∷ calls-in ts ]
 
 pub texts-are-calls : (ts : List Text) (c : Catalogue Kind) → after-texts ts c ≡ after same-kind (calls-in ts) c
 unfolding after-texts calls-in after sent _>>=_
