@@ -2,7 +2,6 @@
 use Prim.Native.Nat.{ℕ, _+_, _-_, _≤_, _<_}
 use native.Mathlib.Omega.{arith}
 use mathlib.Core.Path.{_≡_, refl, sym, ap, subst, _∙_}
-use mathlib.Core.Logic.{_⊎_, ⊎-elim}
 use mathlib.Core.Bool.{Bool, true, false, _&&_}
 use mathlib.Core.Option.{Option, none, some, Option·none-ne-some}
 use mathlib.Core.List.{List, [], _∷_, _++_}
@@ -65,16 +64,16 @@ module _ (s : List ℕ) where
     stated : (m : Stated) → limit-line "number=" s ≡ some m → m .number ≡ L .number
     stated m f = let e = sym f ∙ L .parts "number=" refl in cc
 
-    pub number-out : (n ≡ 0) ⊎ (999 < n) → NumberIn s Wrong
+    pub number-out : (1 ≤ n → n ≤ 999 → ⊥) → NumberIn s Wrong
     number-out h m f t =
         let (low, high) = range-told (m .number) t in
         let e = stated m f in
-        ⊎-elim (λ z. omega (arith, e, L .is)) (λ z. omega (arith, e, L .is)) h
+        h (omega (arith, e, L .is)) (omega (arith, e, L .is))
 
-    pub number-there : (n ≡ 0 → ⊥) → n ≤ 999 → NumberAt s n next
+    pub number-there : 1 ≤ n → n ≤ 999 → NumberAt s n next
     number-there low high =
         let e : L .number ≡ n = omega (arith, L .is) in
-        record { ends = L .ends; low = omega arith; high = high; line = L .parts "number=" refl ∙ ap (λ k. some (record { number = k; rest = drop next s })) e }
+        record { ends = L .ends; low = low; high = high; line = L .parts "number=" refl ∙ ap (λ k. some (record { number = k; rest = drop next s })) e }
 
 -- ---- the key
 

@@ -1,4 +1,5 @@
 -- `put` meets its contract.
+use native.Mathlib.Omega.{arith}
 use mathlib.Core.Path.{subst}
 use Rattle.catalogue.specs.Promises.{TakesPut, ReadsPut}
 use Rattle.catalogue.proofs.Calling.{other-length, text-refused, put-refused, put-sent}
@@ -14,7 +15,7 @@ use Rattle.words.proofs.normal_form.front.Reads as front-reads
 
 -- src/entry.rt:19:9
 returns : tie.Need-returns
-returns c = other-length _ _ (c .if1 .taken)
+returns c = other-length _ _ (λ e. omega (arith, e, c .if1 .taken))
 
 -- src/entry.rt:23:26
 slice-aggregate-read-put : tie.Need-slice-aggregate-read-put

@@ -1,4 +1,5 @@
 -- `withdraw` meets its contract.
+use native.Mathlib.Omega.{arith}
 use mathlib.Core.Path.{subst}
 use Rattle.catalogue.specs.Promises.{ReadsWithdrawal}
 use Rattle.catalogue.proofs.Calling.{other-length, text-refused, withdrawal-refused, withdrawal-sent}
@@ -12,7 +13,7 @@ use Rattle.catalogue.proofs.withdraw.withdraw_entry.Reads as withdraw-e
 
 -- src/entry.rt:43:9
 returns : tie.Need-returns
-returns c = other-length _ _ (c .if1 .taken)
+returns c = other-length _ _ (λ e. omega (arith, e, c .if1 .taken))
 
 -- src/entry.rt:45:29
 read-withdrawal-requires : tie.Need-read-withdrawal-requires
@@ -36,7 +37,7 @@ returns-2 c =
 withdraw-entry-requires : tie.Need-withdraw-entry-requires
 withdraw-entry-requires c κs =
     let w = c .before .before .before .before in
-    (w .before .if1 .left, (subst (ReadsWithdrawal _) (c .before .before .n .given .1) (w .read-withdrawal .ensures)) .0)
+    (w .before .if1 .left, omega (arith, (subst (ReadsWithdrawal _) (c .before .before .n .given .1) (w .read-withdrawal .ensures)) .0))
 
 -- src/entry.rt:39:1
 same-length : tie.Need-same-length
@@ -46,8 +47,10 @@ same-length c = search needs
 returns-3 : tie.Need-returns-3
 returns-3 c =
     let w = c .before .before .before .before .before .before .before in
-    withdrawal-sent _ _ (w .before .if1 .left) ((subst (ReadsWithdrawal _) (c .before .before .before .before .before .n .given .1) (w .read-withdrawal .ensures)) .1)
-    (c .before .before .withdraw-entry .ensures)
+    let a = w .before .before .before .before .args in
+    withdrawal-sent (a .text .now) (a .catalogue .now) (w .before .if1 .left)
+    ((subst (ReadsWithdrawal _) (c .before .before .before .before .before .n .given .1) (w .read-withdrawal .ensures)) .1)
+    {r = c .before .before .withdraw-entry .result} {cat′ = c .before .before .withdraw-entry .last .0} (c .before .before .withdraw-entry .ensures)
 
 pub withdraw-spec : {M : Type 1} → statement M
 withdraw-spec =

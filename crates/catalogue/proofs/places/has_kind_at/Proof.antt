@@ -26,7 +26,7 @@ shared-slice-read-if1 c = search needs
 
 -- src/places.rt:67:9
 returns : tie.Need-returns
-returns c = search needs
+returns c = λ K. c .if1 .taken (K .key)
 
 -- src/places.rt:69:23
 add-has-list : tie.Need-add-has-list

@@ -9,7 +9,7 @@ use Rattle.catalogue.proofs.places.has_kind_at.Reads as has-kind-at-rea
 
 -- src/places.rt:81:9
 returns : tie.Need-returns
-returns c = search needs
+returns c = λ o. o .0 (c .if1 .taken)
 
 -- src/places.rt:83:12
 mul-if2 : tie.Need-mul-if2
@@ -25,7 +25,7 @@ shared-slice-read-if2 c = search needs
 
 -- src/places.rt:84:9
 returns-2 : tie.Need-returns-2
-returns-2 c = search needs
+returns-2 c = λ o. o .1 (c .if2 .taken)
 
 -- src/places.rt:86:5
 has-kind-at-requires : tie.Need-has-kind-at-requires

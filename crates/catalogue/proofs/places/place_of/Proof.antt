@@ -37,7 +37,7 @@ shared-slice-read-if1 c = search needs
 returns : tie.Need-returns Inv-loop μ-loop
 returns c =
     let l = c .before .before .before in
-    (c .before .before .loop-test .taken, c .if1 .taken, l .loop .inv .1)
+    (omega arith, c .if1 .taken, l .loop .inv .1)
 
 -- src/places.rt:42:9
 add-k : tie.Need-add-k Inv-loop μ-loop

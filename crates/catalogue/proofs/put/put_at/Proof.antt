@@ -2,6 +2,8 @@
 use native.Mathlib.Omega.{arith}
 use mathlib.Core.Path.{refl, _∙_}
 use lib.ListN.{length-set}
+use Rattle.catalogue.specs.Catalogue.{PLACES}
+use Rattle.catalogue.specs.Promises.{AnotherOf}
 use Rattle.catalogue.proofs.Comparing.{refuted, confirmed}
 use Rattle.catalogue.proofs.Counting.{one-more, put-counted}
 use borrow.Author.Needs.{needs}
@@ -41,7 +43,8 @@ returns c =
     let h = s .before .before .before in
     let z = h .before .before .before .before .before in
     put-counted (z .pre .0) (z .pre .1) (z .pre .2) (z .pre .3) (s .store .ensures) _ (λ a. refl)
-    (λ new l. absurd (new (confirmed (h .has-another .result) (h .has-another .ensures) (c .before .before .before .before .if1 .taken)))) (c .before .before .keep-count .ensures)
+    (λ new l. absurd (new (confirmed {P = AnotherOf (z .args .cat .now) PLACES (z .args .key) (z .args .left .now) (z .args .right .now)}
+    (h .has-another .result) (h .has-another .ensures) (c .before .before .before .before .if1 .taken)))) (c .before .before .keep-count .ensures)
 
 -- src/put.rt:33:21
 wrapping-add-u32-requires : tie.Need-wrapping-add-u32-requires
@@ -62,7 +65,8 @@ returns-2 c =
     let h = s .before .before .before in
     let z = h .before .before .before .before .before in
     put-counted (z .pre .0) (z .pre .1) (z .pre .2) (z .pre .3) (s .store .ensures) _
-    (λ a. absurd (refuted (h .has-another .result) (h .has-another .ensures) (c .before .before .before .before .before .if1 .left) a))
+    (λ a. absurd (refuted {P = AnotherOf (z .args .cat .now) PLACES (z .args .key) (z .args .left .now) (z .args .right .now)}
+    (h .has-another .result) (h .has-another .ensures) (c .before .before .before .before .before .if1 .left) a))
     (λ new l. one-more _ _ (c .before .before .before .wrapping-add-u32 .ensures) l) (c .before .before .keep-count2 .ensures)
 
 pub put-at-spec : {M : Type 1} → statement M

@@ -30,14 +30,14 @@ returns : tie.Need-returns
 returns c =
     let l = c .before .before .before in
     let z = l .before .before .before .before .before .before in
-    lists-long (z .args .cat .now) (z .args .k) (z .args .n) (z .pre .1) (z .args .key) (l .lists-of .ensures) (omega arith) (omega arith) (l .lists-of .kept .1 .1 .1 .0) (l .lists-of .kept .1 .1 .1 .1 .0) (inl (c .if1 .taken))
+    lists-long (z .args .cat .now) (z .args .k) (z .args .n) (z .pre .1) (z .args .key) (l .lists-of .ensures) (omega arith) (omega arith) (l .lists-of .kept .1 .1 .1 .0) (l .lists-of .kept .1 .1 .1 .1 .0) (inl (omega (arith, c .if1 .taken)))
 
 -- src/put.rt:57:9
 returns-2 : tie.Need-returns-2
 returns-2 c =
     let l = c .before .before .before .before in
     let z = l .before .before .before .before .before .before in
-    lists-long (z .args .cat .now) (z .args .k) (z .args .n) (z .pre .1) (z .args .key) (l .lists-of .ensures) (omega arith) (omega arith) (l .lists-of .kept .1 .1 .1 .0) (l .lists-of .kept .1 .1 .1 .1 .0) (inr (c .if2 .taken))
+    lists-long (z .args .cat .now) (z .args .k) (z .args .n) (z .pre .1) (z .args .key) (l .lists-of .ensures) (omega arith) (omega arith) (l .lists-of .kept .1 .1 .1 .0) (l .lists-of .kept .1 .1 .1 .1 .0) (inr (omega (arith, c .if2 .taken)))
 
 -- src/put.rt:59:23
 key-number-requires : tie.Need-key-number-requires

@@ -1,6 +1,5 @@
 -- `number_line` meets its contract.
 use mathlib.Core.Path.{refl, subst}
-use mathlib.Core.Logic.{inl, inr}
 use native.Mathlib.Omega.{arith}
 use Rattle.text.specs.Bytes.{ascii}
 use Rattle.text.specs.LayoutRead.{LimitAt, LimitIn}
@@ -48,15 +47,15 @@ limit c =
     subst (LimitIn s 0 (ascii "number=")) (c .before .n .given .1) (l .limit-line .ensures)
 
 returns-2 : tie.Need-returns-2
-returns-2 c = number-out _ (limit (c .before)) (inl (c .if1 .taken))
+returns-2 c = number-out _ (limit (c .before)) (λ low high. omega (arith, c .if1 .taken))
 
 -- src/read.rt:56:9
 returns-3 : tie.Need-returns-3
-returns-3 c = number-out _ (limit (c .before .before)) (inr (c .if2 .taken))
+returns-3 c = number-out _ (limit (c .before .before)) (λ low high. omega (arith, c .if2 .taken))
 
 -- src/read.rt:46:1
 returns-4 : tie.Need-returns-4
-returns-4 c = number-there _ (limit (c .before .before)) (c .before .if1 .left) (c .if2 .left)
+returns-4 c = number-there _ (limit (c .before .before)) (omega (arith, c .before .if1 .left)) (omega (arith, c .if2 .left))
 
 pub number-line-spec : {M : Type 1} → statement M
 number-line-spec =

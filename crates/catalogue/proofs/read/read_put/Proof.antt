@@ -14,7 +14,7 @@ use Rattle.text.proofs.job.accept.read_job.Reads as read-job-reads
 
 -- src/read.rt:81:9
 returns : tie.Need-returns
-returns c = long-put _ (c .if1 .taken)
+returns c = long-put _ (omega (arith, c .if1 .taken))
 
 -- src/read.rt:83:42
 number-line-requires : tie.Need-number-line-requires

@@ -1,4 +1,5 @@
 -- `read_withdrawal` meets its contract.
+use native.Mathlib.Omega.{arith}
 use mathlib.Core.Path.{subst}
 use Rattle.catalogue.specs.Promises.{NumberAt, NumberIn}
 use Rattle.catalogue.proofs.Reading.{long-withdrawal, no-withdrawal, more-behind, withdrawal-read}
@@ -43,13 +44,13 @@ number c =
     subst (NumberIn (l .before .before .before .args .s .now)) (c .before .n .given .1) (l .number-line .ensures)
 
 returns-3 : tie.Need-returns-3
-returns-3 c = let k = c .before in more-behind _ (k .before .before .before .before .if1 .left) (number k) (c .if2 .taken)
+returns-3 c = let k = c .before in more-behind _ (k .before .before .before .before .if1 .left) (number k) (omega (arith, number k .ends, c .if2 .taken))
 
 -- src/read.rt:100:1
 returns-4 : tie.Need-returns-4
 returns-4 c =
     let k = c .before in
-    (number k .low, withdrawal-read _ (k .before .before .before .before .if1 .left) (number k) (c .if2 .left))
+    (number k .low, withdrawal-read _ (k .before .before .before .before .if1 .left) (number k) (omega (arith, c .if2 .left)))
 
 pub read-withdrawal-spec : {M : Type 1} → statement M
 read-withdrawal-spec =
