@@ -1,7 +1,7 @@
 -- Whole calls: what is promised whatever the buffer held, and on a catalogue.
 use Prim.Native.Nat.{ℕ, _+_, _*_, _≤_, _<_}
 use native.Mathlib.Omega.{arith}
-use mathlib.Core.Path.{_≡_, refl, sym, ap, subst, _∙_}
+use mathlib.Core.Path.{_≡_, refl, sym, _∙_}
 use mathlib.Core.Logic.{_⊎_, ⊎-elim}
 use mathlib.Core.List.{List}
 use lib.ListN.{length, take, getD, length-take}
@@ -10,14 +10,13 @@ use Rattle.search.specs.Runs.{Shows}
 use Rattle.words.specs.Spelled.{SLOT}
 use Rattle.words.specs.Multiply.{MOST}
 use Rattle.words.specs.declared.candidate.Lengths.{Lengths}
-use Rattle.text.specs.Answer.{Answer, refused, accepted, _>>=_}
+use Rattle.text.specs.Answer.{refused, accepted, _>>=_}
 use Rattle.catalogue.specs.Catalogue.{PLACES, Entry, Catalogue}
 use Rattle.catalogue.specs.Calls.{Call, puts, withdraws, call, Sound}
 use Rattle.catalogue.specs.Texts.{Kind, same-kind, Text, put-text, withdraw-text, read-put, read-withdrawal, read-call, sent}
 use Rattle.catalogue.specs.Stored.{ROOM, COUNT, LENGTH, Holds, Elsewhere, read-numbers, late-numbers, call-numbers, Harmless, Step, SentCall}
 use Rattle.catalogue.specs.Theory.Numbers.{read-call-numbered, numbers-low}
 use Rattle.catalogue.specs.Promises.{number-of, Seeks, TakesPut, PutsAt, MakesLists, PutsLists, PutsEquation, TakesOut, WithdrawsEntry}
-use Rattle.catalogue.specs.declared.places.Place.{Place}
 use Rattle.catalogue.specs.declared.places.Place.the-variants.{At, Nowhere}
 use Rattle.catalogue.specs.declared.kind.Key.{Key}
 use Rattle.catalogue.specs.declared.read.Put.{Put}

@@ -16,7 +16,7 @@ use Rattle.text.specs.Job.{read-job}
 use Rattle.text.specs.Claims.{job-numbers}
 use Rattle.text.specs.Theory.Entry.{among, Numbered, numbered-then, numbered-or, numbered-require, numbered-among, read-numbered}
 use Rattle.catalogue.specs.Catalogue.{PLACES, Entry, Catalogue, held, entry-of, listed, put, withdraw}
-use Rattle.catalogue.specs.Calls.{Call, puts, withdraws, call}
+use Rattle.catalogue.specs.Calls.{puts, withdraws, call}
 use Rattle.catalogue.specs.Texts.{Kind, same-kind, read-key, in-catalogue, read-put, read-withdrawal, Text, put-text, withdraw-text, read-call, sent}
 use Rattle.catalogue.specs.Stored.{read-numbers, late-numbers, call-numbers}
 
