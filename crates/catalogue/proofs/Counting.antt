@@ -1,15 +1,13 @@
 -- The kept count set anew, behind a place that was written to.
 use Prim.Native.Nat.{ℕ, _+_, _*_, _^_, _%_, _≤_, _<_}
 use native.Mathlib.Omega.{arith}
-use mathlib.Core.Path.{_≡_, refl, sym, ap, subst, _∙_}
-use mathlib.Core.Bool.{Bool, true, false}
+use mathlib.Core.Path.{_≡_, sym, ap, subst, _∙_}
 use mathlib.Core.List.{List}
-use lib.ListN.{length, take, drop, getD, set, length-set}
+use lib.ListN.{length, getD, set, length-set}
 use lib.Seq.{getD-set-same, getD-set-other}
-use Rattle.terms.specs.Theory.Reflects.{Reflects}
 use Rattle.catalogue.specs.Catalogue.{PLACES}
 use Rattle.catalogue.specs.Stored.{ROOM, PLACE, COUNT, LENGTH, number-at, KindAt, Elsewhere}
-use Rattle.catalogue.specs.Promises.{AnotherOf, Stores, PutsAt, Shares, TakesOut}
+use Rattle.catalogue.specs.Promises.{AnotherOf, Stores, PutsAt, TakesOut}
 use Rattle.catalogue.specs.Theory.Rewritten.{kind-still}
 
 -- the count m is set where the numbers of place k alone were changed

@@ -15,7 +15,7 @@ use Rattle.words.specs.WordLists.{CanonicalWords}
 use Rattle.words.specs.declared.candidate.Lengths.{Lengths}
 use Rattle.catalogue.specs.Texts.{lines-by}
 use Rattle.catalogue.specs.Promises.{MakesLists, MakesWordLists}
-use Rattle.catalogue.specs.declared.kind.Key.the-variants.{Raw, Words}
+use Rattle.catalogue.specs.declared.kind.Key.the-variants.{Raw}
 use Rattle.catalogue.specs.Theory.Lists.{raw-lists, raw-room, agreed-lists, different-lists, words-room}
 
 -- whether the words of two terms agree

@@ -2,21 +2,20 @@
 use Prim.Native.Nat.{ℕ, _+_, _-_, _≤_, _<_}
 use native.Mathlib.Omega.{arith}
 use mathlib.Core.Path.{_≡_, refl, sym, ap, subst, _∙_}
-use mathlib.Core.Bool.{Bool, true, false, _&&_}
+use mathlib.Core.Bool.{Bool, true, false}
 use mathlib.Core.Option.{Option, none, some, Option·none-ne-some}
 use mathlib.Core.List.{List, [], _∷_, _++_}
-use lib.Dec.{T, leb, leb→le, le→leb}
+use lib.Dec.{T, leb}
 use lib.ListN.{length, take, drop, drop-of-length-le, length-drop}
 use lib.Seq.{drop-cons, take-all}
 use borrow.Author.Tests.{le-leb, lt-leb}
-use Rattle.terms.specs.Theory.Reflects.{Reflects, both-reflect, both}
-use Rattle.search.specs.Runs.{Spells}
+use Rattle.terms.specs.Theory.Reflects.{Reflects, both-reflect}
 use Rattle.text.specs.Bytes.{ascii, after, end, Split}
 use Rattle.text.specs.Layout.{keyed, Stated, limit-line}
 use Rattle.text.specs.LayoutRead.{LimitAt}
 use Rattle.text.specs.Reading as reading
 use Rattle.text.specs.Answer.{Answer, refused, accepted, field, _>>=_, require, or-refuse}
-use Rattle.text.specs.Job.{Job, read-job}
+use Rattle.text.specs.Job.{read-job}
 use Rattle.text.specs.Accepting.{ReadsJob}
 use Rattle.text.specs.declared.job.accept.Reading.{Reading}
 use Rattle.text.specs.declared.job.accept.Reading.the-variants.{Refused, Accepted}
@@ -30,8 +29,6 @@ use Rattle.catalogue.specs.Texts as texts
 use Rattle.catalogue.specs.Theory.Written.{printed-key, key-read}
 use Rattle.catalogue.specs.Promises.{key-of, entry, NumberAt, NumberIn, KeyAt, KeyIn, TakesPut}
 use Rattle.catalogue.specs.declared.kind.Key.{Key}
-use Rattle.catalogue.specs.declared.kind.Key.the-variants.{Raw, Words}
-use Rattle.catalogue.specs.declared.read.Put.{Put}
 use Rattle.catalogue.specs.declared.read.NumberLine.the-variants.{Wrong}
 use Rattle.catalogue.specs.declared.read.KeyLine.the-variants.{Unknown}
 

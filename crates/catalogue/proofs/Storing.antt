@@ -1,16 +1,16 @@
 -- A list, and then an entry, stored in its place.
 use Prim.Native.Nat.{ℕ, _+_, _*_, _≤_, _<_}
 use native.Mathlib.Omega.{arith}
-use mathlib.Core.Path.{_≡_, refl, sym, ap, _∙_}
+use mathlib.Core.Path.{_≡_, sym, ap, _∙_}
 use mathlib.Core.Logic.{_⊎_, inl, inr, ⊎-elim}
-use mathlib.Core.List.{List, _++_}
+use mathlib.Core.List.{List}
 use lib.ListN.{length, take, drop, getD, set, length-set}
 use lib.Seq.{sets, length-sets, getD-set-same, getD-set-other, take-append-seam}
 use Rattle.words.proofs.Stores.{drop-sets}
 use Rattle.search.proofs.Origins.{getD-sets-other}
 use Rattle.catalogue.specs.Catalogue.{PLACES}
-use Rattle.catalogue.specs.Stored.{ROOM, PLACE, COUNT, LENGTH, number-at, KindAt, Elsewhere}
-use Rattle.catalogue.specs.Promises.{ListAt, StoresList, Stores}
+use Rattle.catalogue.specs.Stored.{ROOM, PLACE, COUNT, LENGTH}
+use Rattle.catalogue.specs.Promises.{StoresList, Stores}
 use Rattle.catalogue.specs.Theory.Rewritten.{part-same}
 
 module _ (cat : List ℕ) (size from : ℕ) (xs : List ℕ) (before : size < from) (room : from + ROOM ≤ length cat) (short : length xs ≤ ROOM) where

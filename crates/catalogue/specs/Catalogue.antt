@@ -1,6 +1,6 @@
 -- The catalogue: entries in 64 places, a put and a withdrawal, and the kept count of kinds. It is stated over any kinds that a test tells
 -- apart.
-use Prim.Native.Nat.{ℕ, suc, _+_, _-_}
+use Prim.Native.Nat.{ℕ, _+_, _-_}
 use mathlib.Core.Bool.{Bool, true, false, not}
 use mathlib.Core.Option.{Option, none, some}
 use mathlib.Core.List.{List, [], _∷_}

@@ -1,5 +1,4 @@
 -- `store_list` meets its contract.
-use mathlib.Core.Path.{_∙_}
 use lib.ListN.{length-set}
 use Rattle.catalogue.proofs.Storing.{list-stored}
 use borrow.Author.Needs.{needs}

@@ -1,7 +1,5 @@
 -- `put_at` meets its contract.
-use native.Mathlib.Omega.{arith}
-use mathlib.Core.Path.{refl, _∙_}
-use lib.ListN.{length-set}
+use mathlib.Core.Path.{refl}
 use Rattle.catalogue.specs.Catalogue.{PLACES}
 use Rattle.catalogue.specs.Promises.{AnotherOf}
 use Rattle.catalogue.proofs.Comparing.{refuted, confirmed}

@@ -1,6 +1,5 @@
 -- `put_equation` meets its contract.
 use mathlib.Core.Path.{subst}
-use native.Mathlib.Omega.{arith}
 use Rattle.catalogue.specs.Promises.{Seeks}
 use Rattle.catalogue.proofs.Calling.{put-again, put-nowhere, put-there}
 use borrow.Author.Needs.{needs}

@@ -1,6 +1,5 @@
 -- `take_out` meets its contract.
-use native.Mathlib.Omega.{arith}
-use mathlib.Core.Path.{refl, _∙_}
+use mathlib.Core.Path.{refl}
 use lib.ListN.{length-set}
 use Rattle.catalogue.proofs.Comparing.{refuted, confirmed}
 use Rattle.catalogue.proofs.Counting.{one-less, taken-counted}
