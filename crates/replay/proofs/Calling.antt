@@ -52,11 +52,11 @@ module _ (entry number : ℕ) where
   pub listing-refused : number < 100 → false ≡ is-listing entry number
   listing-refused l = rw (lt-leb 100 number l, is-listing)
 
+  pub listing-other : 100 ≤ number → (entry ≡ 5 → ⊥) → eqb entry 6 ≡ is-listing entry number
+  listing-other l h = rw (le-leb 100 number l, ne-eqb entry 5 h, is-listing)
+
   pub listing-put : 100 ≤ number → entry ≡ 5 → true ≡ is-listing entry number
   listing-put l h = rw (le-leb 100 number l, eq-eqb entry 5 h, is-listing)
-
-  pub listing-withdraw : 100 ≤ number → (entry ≡ 5 → ⊥) → eqb entry 6 ≡ is-listing entry number
-  listing-withdraw l h = rw (le-leb 100 number l, ne-eqb entry 5 h, is-listing)
 
   module _ (cat before : List ℕ) (r : Bool) (is : r ≡ is-listing entry number) where
     pub kept-any : r ≡ true → Kept entry number cat before

@@ -95,10 +95,10 @@ fn is_listing(entry: usize, number: usize) -> bool
     if number < 100 {
         return false;
     }
-    if entry == 5 {
-        return true;
+    if entry != 5 {
+        return entry == 6;
     }
-    entry == 6
+    true
 }
 
 // Whether the catalogue is as it was before a call, or may be another.

@@ -1,6 +1,6 @@
 -- `is_listing` meets its contract.
 use borrow.Author.Needs.{needs}
-use Rattle.replay.proofs.Calling.{listing-refused, listing-put, listing-withdraw}
+use Rattle.replay.proofs.Calling.{listing-refused, listing-other, listing-put}
 use Rattle.replay.proofs.call.is_listing.Statement.{statement}
 use Rattle.replay.proofs.call.is_listing.Tie as tie
 
@@ -8,10 +8,10 @@ returns : tie.Need-returns
 returns c = search (listing-refused, needs)
 
 returns-2 : tie.Need-returns-2
-returns-2 c = search (listing-put, needs)
+returns-2 c = search (listing-other, needs)
 
 returns-3 : tie.Need-returns-3
-returns-3 c = search (listing-withdraw, needs)
+returns-3 c = search (listing-put, needs)
 
 pub is-listing-spec : {M : Type 1} → statement M
 is-listing-spec = tie.close (tie.spec returns returns-2 returns-3)
