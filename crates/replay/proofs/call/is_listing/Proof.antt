@@ -1,11 +1,12 @@
 -- `is_listing` meets its contract.
+use native.Mathlib.Omega.{arith}
 use borrow.Author.Needs.{needs}
 use Rattle.replay.proofs.Calling.{listing-refused, listing-other, listing-put}
 use Rattle.replay.proofs.call.is_listing.Statement.{statement}
 use Rattle.replay.proofs.call.is_listing.Tie as tie
 
 returns : tie.Need-returns
-returns c = search (listing-refused, needs)
+returns c = let a = c .before .args in listing-refused (a .entry) (a .number) (omega arith)
 
 returns-2 : tie.Need-returns-2
 returns-2 c = search (listing-other, needs)
