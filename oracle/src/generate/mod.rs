@@ -179,12 +179,6 @@ impl Plan {
                 0
             }
         };
-        let mut drawn = random.below(KINDS.iter().map(share).sum());
-        let mut kind = 0;
-        while drawn >= share(&KINDS[kind]) {
-            drawn -= share(&KINDS[kind]);
-            kind += 1;
-        }
-        kind
+        random.by_share(&KINDS.each_ref().map(share))
     }
 }

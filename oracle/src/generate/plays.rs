@@ -164,13 +164,7 @@ impl Player {
             true => 0,
             false => kind.shares[phase],
         };
-        let mut drawn = self.random.below(PLAY_KINDS.iter().map(share).sum());
-        let mut kind = 0;
-        while drawn >= share(&PLAY_KINDS[kind]) {
-            drawn -= share(&PLAY_KINDS[kind]);
-            kind += 1;
-        }
-        kind
+        self.random.by_share(&PLAY_KINDS.each_ref().map(share))
     }
 
     /// Withdrawals that read back what is held: of all numbers, or in a short play of those listed and of some

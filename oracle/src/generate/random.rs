@@ -41,6 +41,17 @@ impl Random {
         of[self.below(of.len())].clone()
     }
 
+    /// A place in the list, each as likely as the share there says.
+    pub fn by_share(&mut self, shares: &[usize]) -> usize {
+        let mut drawn = self.below(shares.iter().sum());
+        let mut at = 0;
+        while drawn >= shares[at] {
+            drawn -= shares[at];
+            at += 1;
+        }
+        at
+    }
+
     /// One below, at, or one above the number.
     pub fn around(&mut self, number: usize) -> usize {
         (number + self.below(3)).saturating_sub(1)

@@ -1,16 +1,16 @@
 //! The oracle's command line.
 
+mod plays;
+
 use std::io::{self, BufWriter, Read, Write};
 use std::process::ExitCode;
 use std::time::Instant;
 
 use oracle::cases::catalogue::{self, Play};
 use oracle::cases::{Case, cases};
-use oracle::generate::{KINDS, PLAY_KINDS, Plan, Plays};
+use oracle::generate::{KINDS, PLAY_KINDS, Plan};
 use oracle::options::{self, Failure, about, unknown, value};
-use oracle::plain::catalogue::returned;
-use oracle::play::{Played, play};
-use oracle::tally::{PlayTally, Tally};
+use oracle::tally::Tally;
 use oracle::{About, CATALOGUE, Call, Entry, PROGRAM_ROOM, PROGRAM_SLOTS, checked, list};
 
 const HELP: &str = "\
@@ -64,7 +64,7 @@ fn run(words: &[String]) -> Result<bool, Failure> {
         ["generate", ref options @ ..] => generate(&plan(options)?),
         ["list", ref options @ ..] => write_list(&plan(options)?),
         ["check", ref options @ ..] => check(&plan(options)?),
-        ["catalogue", ref options @ ..] => catalogue_command(options),
+        ["catalogue", ref options @ ..] => plays::command(options),
         ["--help" | "help"] => {
             print!("{}", help());
             Ok(true)
@@ -183,65 +183,6 @@ fn list_cases(all: &[Case], plays: &[Play]) -> Result<bool, Failure> {
         if sent.numbers == CATALOGUE {
             list::write_returned(&mut out, sent, *number)?;
         }
-    }
-    out.flush()?;
-    Ok(true)
-}
-
-/// What is printed of plays: counts, the calls, or the calls with what they return.
-#[derive(Clone, Copy, PartialEq)]
-enum Printed {
-    Counts,
-    Calls,
-    Returned,
-}
-
-impl Printed {
-    /// Writes a call as this asks for; those on a buffer of another length are in no list.
-    fn write(self, out: &mut impl Write, played: &Played) -> io::Result<()> {
-        let sent = played.sent;
-        match self {
-            _ if sent.numbers != CATALOGUE => Ok(()),
-            Printed::Counts => Ok(()),
-            Printed::Calls => list::write_sent(out, sent),
-            Printed::Returned => list::write_returned(out, sent, returned(played.kept)),
-        }
-    }
-}
-
-fn catalogue_command(words: &[&str]) -> Result<bool, Failure> {
-    let mut plays = Plays::default();
-    let (mut is_plain, mut printed) = (false, Printed::Counts);
-    let mut rest = words.iter();
-    while let Some(&option) = rest.next() {
-        if options::take_plays(&mut plays, option, &mut rest)? {
-            continue;
-        }
-        match option {
-            "--plain" => is_plain = true,
-            "--generate" => printed = Printed::Calls,
-            "--list" => printed = Printed::Returned,
-            _ => return Err(unknown(option)),
-        }
-    }
-    let start = Instant::now();
-    let mut tally = PlayTally::default();
-    let mut out = BufWriter::new(io::stdout().lock());
-    for index in plays.first..plays.first + plays.count {
-        tally.begin();
-        let made = play(&plays, index, is_plain, |played| {
-            tally.count(&played);
-            let written = printed.write(&mut out, &played);
-            written.map_err(|error| error.to_string())
-        });
-        if let Err(difference) = made {
-            eprint!("seed={} first={index}\n{difference}", plays.seed);
-            return Ok(false);
-        }
-    }
-    if printed == Printed::Counts {
-        let seconds = start.elapsed().as_secs();
-        writeln!(out, "{tally}, no difference, {seconds} s")?;
     }
     out.flush()?;
     Ok(true)
