@@ -4,19 +4,18 @@ mod held;
 mod kept;
 mod lent;
 mod plays;
+mod strides;
 
 use std::process::ExitCode;
-use std::sync::atomic::{AtomicBool, Ordering};
-use std::thread;
-use std::time::Instant;
 
 use oracle::cases::cases;
 use oracle::generate::{KINDS, Plan, Random};
-use oracle::options::{self, Failure, unknown, value};
+use oracle::options::{self, Failure, value};
 use oracle::tally::Tally;
 use oracle::{About, Call, Given, checked, plain};
 
 use held::Buffers;
+use strides::Way;
 
 const HELP: &str = "\
 compare OPTIONS
@@ -31,16 +30,6 @@ OPTIONS: --seed S (default 1), --count N (default 1000), --first N (default 0, t
     alone, without the Rust).
 ";
 
-/// A thread's stack: the Rust and plain call themselves, and the library has arrays on it.
-const STACK: usize = 64 << 20;
-
-struct Run {
-    plan: Plan,
-    first: u64,
-    threads: u64,
-    is_plain: bool,
-}
-
 fn main() -> ExitCode {
     let words: Vec<String> = std::env::args().skip(1).collect();
     let words: Vec<&str> = words.iter().map(String::as_str).collect();
@@ -49,8 +38,8 @@ fn main() -> ExitCode {
         return ExitCode::SUCCESS;
     }
     let run = match &words[..] {
-        ["catalogue", rest @ ..] => plays::read(rest).map(|run| plays::compare(&run)),
-        _ => read(&words).map(|run| compare(&run)),
+        ["catalogue", rest @ ..] => plays::compare(rest),
+        _ => compare(&words),
     };
     match run {
         Ok(status) => status,
@@ -61,43 +50,20 @@ fn main() -> ExitCode {
     }
 }
 
-fn read(words: &[&str]) -> Result<Run, Failure> {
-    let mut run = Run {
-        plan: Plan::default(),
-        first: 0,
-        threads: 1,
-        is_plain: false,
-    };
-    let mut rest = words.iter();
-    while let Some(&option) = rest.next() {
-        if options::take(&mut run.plan, option, &mut rest)? {
-            continue;
+fn compare(words: &[&str]) -> Result<ExitCode, Failure> {
+    let (mut plan, mut first) = (Plan::default(), 0);
+    let way = strides::read(words, |option, rest| match option {
+        "--first" => {
+            first = value(option, rest)?;
+            Ok(true)
         }
-        match option {
-            "--first" => run.first = value(option, &mut rest)?,
-            "--threads" => run.threads = value::<u64>(option, &mut rest)?.max(1),
-            "--plain" => run.is_plain = true,
-            _ => return Err(unknown(option)),
-        }
-    }
-    Ok(run)
-}
-
-fn compare(run: &Run) -> ExitCode {
-    let start = Instant::now();
-    let outcome =
-        run_cases(&run.plan.about).and_then(|cases| run_generated(run).map(|tally| (cases, tally)));
-    match outcome {
-        Ok((cases, tally)) => {
-            println!("{cases} cases");
-            println!("{tally}, no difference, {} s", start.elapsed().as_secs());
-            ExitCode::SUCCESS
-        }
-        Err(difference) => {
-            println!("{difference}");
-            ExitCode::FAILURE
-        }
-    }
+        _ => options::take(&mut plan, option, rest),
+    })?;
+    Ok(strides::tell(|| {
+        let cases = run_cases(&plan.about)?;
+        let tally = run_generated(&plan, first, &way)?;
+        Ok(format!("{cases} cases\n{tally}"))
+    }))
 }
 
 /// The documents' cases; says how many there are.
@@ -113,51 +79,38 @@ fn run_cases(about: &[About]) -> Result<usize, String> {
     Ok(all.len())
 }
 
-/// The generated calls, each thread at its own stride, up to the first difference.
-fn run_generated(run: &Run) -> Result<Tally, String> {
-    let stopped = &AtomicBool::new(false);
-    thread::scope(|scope| {
-        let start = |thread| {
-            let builder = thread::Builder::new().stack_size(STACK);
-            let started = builder.spawn_scoped(scope, move || run_stride(run, thread, stopped));
-            started.expect("a thread")
-        };
-        let started: Vec<_> = (0..run.threads).map(start).collect();
-        let mut total = Tally::default();
-        for thread in started {
-            total.add(thread.join().expect("no thread panics")?);
-        }
-        Ok(total)
-    })
-}
-
-fn run_stride(run: &Run, thread: u64, stopped: &AtomicBool) -> Result<Tally, String> {
-    let mut buffers = Buffers::new(&mut Random::new(run.plan.seed, thread));
-    let mut tally = Tally::default();
-    let mut index = run.first + thread;
-    while index < run.first + run.plan.count && !stopped.load(Ordering::Relaxed) {
-        let (kind, call) = run.plan.call(index);
-        let mut random = Random::new(!run.plan.seed, index);
-        let outcome = one(run, &call, &mut buffers, &mut random);
-        let given = outcome.map_err(|fault| {
-            stopped.store(true, Ordering::Relaxed);
-            let (name, seed) = (KINDS[kind].name, run.plan.seed);
+/// The generated calls, from the first index on.
+fn run_generated(plan: &Plan, first: u64, way: &Way) -> Result<Tally, String> {
+    let begin = |thread| {
+        let buffers = Buffers::new(&mut Random::new(plan.seed, thread));
+        (buffers, Tally::default())
+    };
+    let make = |(buffers, tally): &mut (Buffers, Tally), index| {
+        let (kind, call) = plan.call(index);
+        let mut random = Random::new(!plan.seed, index);
+        let given = one(way.is_plain, &call, buffers, &mut random).map_err(|fault| {
+            let (name, seed) = (KINDS[kind].name, plan.seed);
             format!("seed={seed} first={index} kind={name}\n{fault}")
         })?;
         tally.count(kind, &call, &given);
-        index += run.threads;
+        Ok(())
+    };
+    let ended = strides::run(way.threads, first..first + plan.count, begin, make)?;
+    let mut total = Tally::default();
+    for (_, tally) in ended {
+        total.add(tally);
     }
-    Ok(tally)
+    Ok(total)
 }
 
 /// What the call gives, by the oracle and the library alike.
 fn one(
-    run: &Run,
+    is_plain: bool,
     call: &Call,
     buffers: &mut Buffers,
     random: &mut Random,
 ) -> Result<Given, String> {
-    let due = if run.is_plain {
+    let due = if is_plain {
         plain::answer(call.entry, &call.job, call.slots, call.room)
     } else {
         checked::answer(call).map_err(|difference| difference.to_string())?

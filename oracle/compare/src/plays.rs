@@ -1,65 +1,34 @@
 //! Plays on catalogues of the library's, each call held to the oracle's.
 
 use std::process::ExitCode;
-use std::sync::atomic::{AtomicBool, Ordering};
-use std::thread;
-use std::time::Instant;
 
 use oracle::Sent;
 use oracle::cases::catalogue;
 use oracle::checked::Judged;
 use oracle::generate::{PLAY_KINDS, Plays, Random};
-use oracle::options::{self, Failure, unknown, value};
+use oracle::options::{self, Failure};
 use oracle::plain::catalogue::returned;
 use oracle::play::{Played, play};
 use oracle::tally::PlayTally;
 
-use crate::STACK;
 use crate::kept::{Catalogues, number_fault};
+use crate::strides::{self, Way};
 
 /// Calls out of a hundred that are made on numbers which no calls have left, too.
 const STRAY: usize = 2;
 
-pub struct Run {
-    plays: Plays,
-    threads: u64,
-    is_plain: bool,
-}
-
-pub fn read(words: &[&str]) -> Result<Run, Failure> {
-    let mut run = Run {
-        plays: Plays::default(),
-        threads: 1,
-        is_plain: false,
-    };
-    let mut rest = words.iter();
-    while let Some(&option) = rest.next() {
-        if options::take_plays(&mut run.plays, option, &mut rest)? {
-            continue;
-        }
-        match option {
-            "--threads" => run.threads = value::<u64>(option, &mut rest)?.max(1),
-            "--plain" => run.is_plain = true,
-            _ => return Err(unknown(option)),
-        }
-    }
-    Ok(run)
-}
-
-pub fn compare(run: &Run) -> ExitCode {
-    let start = Instant::now();
-    let outcome = run_cases().and_then(|cases| run_plays(run).map(|told| (cases, told)));
-    match outcome {
-        Ok((cases, (tally, stray))) => {
-            println!("{cases} cases, {stray} calls on numbers that no calls have left");
-            println!("{tally}, no difference, {} s", start.elapsed().as_secs());
-            ExitCode::SUCCESS
-        }
-        Err(difference) => {
-            println!("{difference}");
-            ExitCode::FAILURE
-        }
-    }
+pub fn compare(words: &[&str]) -> Result<ExitCode, Failure> {
+    let mut plays = Plays::default();
+    let way = strides::read(words, |option, rest| {
+        options::take_plays(&mut plays, option, rest)
+    })?;
+    Ok(strides::tell(|| {
+        let cases = run_cases()?;
+        let (tally, strays) = run_plays(&plays, &way)?;
+        Ok(format!(
+            "{cases} cases, {strays} calls on numbers that no calls have left\n{tally}"
+        ))
+    }))
 }
 
 /// The documents' cases, each list on an empty catalogue; says how many calls there are.
@@ -82,49 +51,39 @@ fn run_cases() -> Result<usize, String> {
     Ok(calls)
 }
 
-/// The plays, each thread at its own stride, up to the first difference; and how many stray calls were made.
-fn run_plays(run: &Run) -> Result<(PlayTally, usize), String> {
-    let stopped = &AtomicBool::new(false);
-    thread::scope(|scope| {
-        let start = |thread| {
-            let builder = thread::Builder::new().stack_size(STACK);
-            let started = builder.spawn_scoped(scope, move || run_stride(run, thread, stopped));
-            started.expect("a thread")
-        };
-        let started: Vec<_> = (0..run.threads).map(start).collect();
-        let (mut total, mut strays) = (PlayTally::default(), 0);
-        for thread in started {
-            let (tally, stray) = thread.join().expect("no thread panics")?;
-            total.add(tally);
-            strays += stray;
-        }
-        Ok((total, strays))
-    })
+/// What a thread has: its catalogues, its counts, and how many stray calls it made.
+#[derive(Default)]
+struct Own {
+    catalogues: Catalogues,
+    tally: PlayTally,
+    strays: usize,
 }
 
-fn run_stride(run: &Run, thread: u64, stopped: &AtomicBool) -> Result<(PlayTally, usize), String> {
-    let plays = &run.plays;
-    let mut catalogues = Catalogues::default();
-    let (mut tally, mut strays) = (PlayTally::default(), 0);
-    let mut index = plays.first + thread;
-    while index < plays.first + plays.count && !stopped.load(Ordering::Relaxed) {
-        let mut random = Random::new(!plays.seed, index);
-        catalogues.begin(&mut random);
-        tally.begin();
-        let mut calls = 0;
-        let made = play(plays, index, run.is_plain, |played| {
-            calls += 1;
-            strays += one(&played, &mut catalogues, &mut random)?;
-            tally.count(&played);
-            Ok(())
-        });
-        made.map_err(|fault| {
-            stopped.store(true, Ordering::Relaxed);
-            format!("seed={} first={index} call={calls}\n{fault}", plays.seed)
-        })?;
-        index += run.threads;
+/// The plays; and how many stray calls were made.
+fn run_plays(plays: &Plays, way: &Way) -> Result<(PlayTally, usize), String> {
+    let indices = plays.first..plays.first + plays.count;
+    let begin = |_| Own::default();
+    let make = |own: &mut Own, index| run_play(plays, index, way.is_plain, own);
+    let (mut total, mut strays) = (PlayTally::default(), 0);
+    for own in strides::run(way.threads, indices, begin, make)? {
+        total.add(own.tally);
+        strays += own.strays;
     }
-    Ok((tally, strays))
+    Ok((total, strays))
+}
+
+fn run_play(plays: &Plays, index: u64, is_plain: bool, own: &mut Own) -> Result<(), String> {
+    let mut random = Random::new(!plays.seed, index);
+    own.catalogues.begin(&mut random);
+    own.tally.begin();
+    let mut calls = 0;
+    let made = play(plays, index, is_plain, |played| {
+        calls += 1;
+        own.strays += one(&played, &mut own.catalogues, &mut random)?;
+        own.tally.count(&played);
+        Ok(())
+    });
+    made.map_err(|fault| format!("seed={} first={index} call={calls}\n{fault}", plays.seed))
 }
 
 /// Makes the call, perhaps after the same one on other numbers; says how many of those were made.
