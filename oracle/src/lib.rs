@@ -4,6 +4,7 @@ pub mod cases;
 pub mod checked;
 pub mod generate;
 pub mod list;
+pub mod names;
 pub mod options;
 pub mod plain;
 pub mod play;

@@ -4,7 +4,7 @@ use std::slice::Iter;
 use std::str::FromStr;
 
 use crate::About;
-use crate::generate::{KINDS, Plan, Plays};
+use crate::generate::{KINDS, Names, Plan, Plays};
 
 pub type Failure = Box<dyn std::error::Error>;
 
@@ -36,6 +36,17 @@ pub fn take_plays(plays: &mut Plays, option: &str, rest: &mut Iter<&str>) -> Res
         "--plays" => plays.count = value(option, rest)?,
         "--calls" => plays.calls = value(option, rest)?,
         "--short" => plays.is_short = true,
+        _ => return Ok(false),
+    }
+    Ok(true)
+}
+
+/// Takes an option of names likewise.
+pub fn take_names(names: &mut Names, option: &str, rest: &mut Iter<&str>) -> Result<bool, Failure> {
+    match option {
+        "--seed" => names.seed = value(option, rest)?,
+        "--first" => names.first = value(option, rest)?,
+        "--count" => names.count = value(option, rest)?,
         _ => return Ok(false),
     }
     Ok(true)

@@ -1,5 +1,6 @@
 //! Counts of what calls gave, by kind, entry and answer.
 
+mod names;
 mod plays;
 
 use std::collections::BTreeMap;
@@ -9,6 +10,7 @@ use crate::generate::KINDS;
 use crate::plain::nones::nones;
 use crate::{Call, Entry, Given};
 
+pub use names::NameTally;
 pub use plays::PlayTally;
 
 /// How often each key was counted.
@@ -155,14 +157,10 @@ impl fmt::Display for Tally {
             writeln!(out, "{entry:11} {}", show(counts))?;
         }
         writeln!(out, "blocks      {}", show(&self.blocks))?;
-        let paths = self.paths.iter();
-        let paths: Vec<String> = paths
-            .map(|(steps, count)| format!("{steps}: {count}"))
-            .collect();
         writeln!(
             out,
             "lines in the path of a proved answer or block: {}",
-            paths.join(", ")
+            show_each(&self.paths)
         )?;
         writeln!(out, "{}", self.cuts)?;
         let lines: usize = self.chains.iter().map(|(lines, count)| lines * count).sum();
@@ -177,9 +175,13 @@ impl fmt::Display for Tally {
 
 fn show(counts: &Counts) -> String {
     let all: usize = counts.values().sum();
+    format!("{all:6} ({})", show_each(counts))
+}
+
+fn show_each<K: fmt::Display>(counts: &BTreeMap<K, usize>) -> String {
     let each: Vec<String> = counts
         .iter()
         .map(|(what, count)| format!("{what}: {count}"))
         .collect();
-    format!("{all:6} ({})", each.join(", "))
+    each.join(", ")
 }

@@ -3,6 +3,7 @@
 mod held;
 mod kept;
 mod lent;
+mod names;
 mod plays;
 mod strides;
 
@@ -24,6 +25,9 @@ compare OPTIONS
 compare catalogue [--seed S] [--first N] [--plays N] [--calls N] [--short] [--threads N] [--plain]
     Makes the cases of the catalogue and then plays, as `oracle catalogue` takes them.
 
+compare names [--seed S] [--first N] [--count N] [--threads N] [--plain]
+    Makes pairs of equations as `oracle names` does, three calls of RENAME each.
+
 OPTIONS: --seed S (default 1), --count N (default 1000), --first N (default 0, the first call's
     index), --kind K, --one, --many, --check, --light, --max-job N, --max-slots N, --max-room N as
     `oracle check` takes them, --threads N (default 1), --plain (what is due comes from plain
@@ -39,6 +43,7 @@ fn main() -> ExitCode {
     }
     let run = match &words[..] {
         ["catalogue", rest @ ..] => plays::compare(rest),
+        ["names", rest @ ..] => names::compare(rest),
         _ => compare(&words),
     };
     match run {

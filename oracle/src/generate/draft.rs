@@ -62,6 +62,17 @@ impl Draft {
     }
 }
 
+/// Limits within their bounds.
+pub fn any_limits(random: &mut Random) -> [usize; 4] {
+    let bounds = BOUNDS.map(|most| most as usize);
+    match random.below(5) {
+        0 => [0; 4],
+        1 => bounds,
+        2 => bounds.map(|most| random.between(0, most)),
+        _ => [3, 7, 3, 1_000],
+    }
+}
+
 fn digits(value: usize) -> Vec<u8> {
     value.to_string().into_bytes()
 }

@@ -65,7 +65,8 @@ pub fn renames(random: &mut Random) -> Call {
     call(random, Entry::Rename, job)
 }
 
-fn many_letters(random: &mut Random, pool: &[u16]) -> Term {
+/// A term of few items, mostly one that holds all these letters.
+pub fn many_letters(random: &mut Random, pool: &[u16]) -> Term {
     let size = 2 * random.below(8) + 1;
     let extra = term(random, size, pool).run().to_vec();
     let parts = match random.below(4) {

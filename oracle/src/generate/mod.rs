@@ -3,11 +3,14 @@
 mod bent;
 mod broken;
 mod chains;
+mod changes;
 mod cuts;
 mod derived;
 mod draft;
+mod equations;
 mod listed;
 mod measured;
+mod names;
 mod plans;
 mod plays;
 mod puts;
@@ -21,6 +24,7 @@ mod unread;
 mod withdrawals;
 
 use crate::{About, Call};
+pub use names::{Names, PAIR_KINDS, Pair};
 pub use plays::{PLAY_KINDS, Player, Plays};
 pub use random::Random;
 

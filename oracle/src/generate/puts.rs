@@ -1,23 +1,24 @@
 //! Puts that pass refusals 1 to 6: new equations, and those that were put before in all their forms.
 
 use super::bent::item_changed;
-use super::draft::Draft;
+use super::changes::{Sides, led_on, with_other_letters};
+use super::draft::{Draft, any_limits};
 use super::listed::product_of_sums;
 use super::plays::Player;
 use super::random::Random;
 use super::searched::{LARGEST, rewritten};
-use super::terms::{letters, term_up_to};
+use super::terms::{letters, some_letters, term_up_to};
 use crate::plain::{
     catalogue::{Catalogue, Key, MOST_NUMBER},
-    job::{BOUNDS, MOST_LETTERS},
-    term::{Term, letters_of},
+    job::MOST_LETTERS,
+    term::Term,
 };
 use crate::{Ask, Sent};
 
 /// An equation that was put, and the key under which it was.
 #[derive(Clone)]
 pub struct Known {
-    pub sides: [Term; 2],
+    pub sides: Sides,
     pub key: Key,
 }
 
@@ -82,11 +83,10 @@ pub fn other_key(player: &mut Player, catalogue: &Catalogue) -> Sent {
 
 /// Ends of a chain of 1 to 4 lines, mostly under `key=words`, where all such entries are one kind.
 pub fn agreed(player: &mut Player, catalogue: &Catalogue) -> Sent {
-    let pool = new_letters(player);
+    let pool = some_letters(&mut player.random);
     let left = new_side(player, &pool);
     let random = &mut player.random;
-    let lines = random.between(1, 4);
-    let right = (0..lines).fold(left.clone(), |side, _| rewritten(random, &side, LARGEST));
+    let right = led_on(random, &left);
     if left == right {
         return agreed(player, catalogue);
     }
@@ -151,32 +151,19 @@ fn put(player: &mut Player, catalogue: &Catalogue, known: &Known) -> Sent {
 }
 
 /// A job with these sides. Its limits are within their bounds; no put depends on them.
-pub fn job(random: &mut Random, [left, right]: &[Term; 2]) -> Vec<u8> {
-    let bounds = BOUNDS.map(|most| most as usize);
-    let limits = match random.below(5) {
-        0 => [0; 4],
-        1 => bounds,
-        2 => bounds.map(|most| random.between(0, most)),
-        _ => [3, 7, 3, 1_000],
-    };
+pub fn job(random: &mut Random, [left, right]: &Sides) -> Vec<u8> {
+    let limits = any_limits(random);
     Draft::new(left, [right], limits).bytes()
 }
 
 pub fn new_equation(player: &mut Player) -> Known {
-    let pool = new_letters(player);
+    let pool = some_letters(&mut player.random);
     let sides = [(); 2].map(|()| new_side(player, &pool));
     if sides[0] == sides[1] {
         return new_equation(player);
     }
     let key = player.random.pick(&Key::ALL);
     Known { sides, key }
-}
-
-/// Up to six letters, mostly few.
-fn new_letters(player: &mut Player) -> Vec<u16> {
-    let random = &mut player.random;
-    let count = random.pick(&[0, 1, 1, 2, 2, 2, 3, 3, 4, 5, MOST_LETTERS]);
-    letters(random, count)
 }
 
 /// A term over these letters, mostly small.
@@ -207,19 +194,6 @@ fn remember(player: &mut Player, known: &Known) {
         let at = player.random.below(MOST_KNOWN);
         player.known[at] = known.clone();
     }
-}
-
-/// The sides with each letter exchanged for another one, no two for the same.
-fn with_other_letters(random: &mut Random, sides: &[Term; 2]) -> [Term; 2] {
-    let old = letters_of(&sides[0], &sides[1]);
-    let new = letters(random, old.len());
-    let other = |code: &u16| match old.iter().position(|letter| letter == code) {
-        Some(at) => new[at],
-        None => *code,
-    };
-    sides
-        .each_ref()
-        .map(|side| Term::of(side.run().iter().map(other).collect()))
 }
 
 pub fn unlisted_number(random: &mut Random, catalogue: &Catalogue) -> u32 {

@@ -1,6 +1,7 @@
 //! Random letters and terms.
 
 use super::random::Random;
+use crate::plain::job::MOST_LETTERS;
 use crate::plain::term::{ONE, PRODUCT, SUM, Term, ZERO};
 
 /// The term's text.
@@ -19,6 +20,12 @@ pub fn letters(random: &mut Random, count: usize) -> Vec<u16> {
         }
     }
     found
+}
+
+/// Up to six letters, mostly few.
+pub fn some_letters(random: &mut Random) -> Vec<u16> {
+    let count = random.pick(&[0, 1, 1, 2, 2, 2, 3, 3, 4, 5, MOST_LETTERS]);
+    letters(random, count)
 }
 
 /// A term of this size, which is odd, over these letters, 0 and 1.

@@ -1,6 +1,7 @@
 //! A plain implementation of documents 01 and 02: jobs and derivations, refusals, search and answers, and the
 //! catalogue.
 
+pub mod alike;
 pub mod catalogue;
 pub mod check;
 pub mod job;

@@ -1,5 +1,6 @@
 //! The oracle's command line.
 
+mod names;
 mod plays;
 
 use std::io::{self, BufWriter, Read, Write};
@@ -8,7 +9,7 @@ use std::time::Instant;
 
 use oracle::cases::catalogue::{self, Play};
 use oracle::cases::{Case, cases};
-use oracle::generate::{KINDS, PLAY_KINDS, Plan};
+use oracle::generate::{KINDS, PAIR_KINDS, PLAY_KINDS, Plan};
 use oracle::options::{self, Failure, about, unknown, value};
 use oracle::tally::Tally;
 use oracle::{About, CATALOGUE, Call, Entry, PROGRAM_ROOM, PROGRAM_SLOTS, checked, list};
@@ -32,6 +33,9 @@ oracle catalogue [--seed S] [--first N] [--plays N] [--calls N] [--short] [--pla
     implementations and prints counts. --short makes short texts and no other buffers, --plain leaves the Rust out,
     --first is the first play's index (0). --list and --generate write the calls on a whole buffer as `oracle list`
     and `oracle generate` do.
+oracle names [--seed S] [--first N] [--count N] [--plain]
+    Makes pairs of equations (1000), puts each to RENAME and then the lines printed for the first, compares both
+    implementations, holds the lines to what a shared name means and prints counts.
 
 OPTIONS: --seed S (default 1), --count N (default 1000), --kind K (default all, mixed),
     --one, --many, --check (only kinds for one right side, for several, for CHECK; or for two of them),
@@ -40,7 +44,7 @@ Entries in records: 1 find, 2 words, 3 rename, 4 check, 5 put, 6 withdraw. Numbe
     and withdraw what is returned.
 
 Kinds, with their share in 2,000; of plays with their shares in 1,000 while the catalogue fills, in the mixed phase
-and while it is drained:
+and while it is drained; of pairs for names with their share in 1,000:
 ";
 
 fn main() -> ExitCode {
@@ -65,6 +69,7 @@ fn run(words: &[String]) -> Result<bool, Failure> {
         ["list", ref options @ ..] => write_list(&plan(options)?),
         ["check", ref options @ ..] => check(&plan(options)?),
         ["catalogue", ref options @ ..] => plays::command(options),
+        ["names", ref options @ ..] => names::command(options),
         ["--help" | "help"] => {
             print!("{}", help());
             Ok(true)
@@ -92,7 +97,13 @@ fn help() -> String {
             kind.name, kind.what
         )
     });
-    HELP.to_owned() + &kinds.chain(of_plays).collect::<String>()
+    let of_pairs = PAIR_KINDS.iter().map(|kind| {
+        format!(
+            "    pair  {:11} {:3}  {}\n",
+            kind.name, kind.share, kind.what
+        )
+    });
+    HELP.to_owned() + &kinds.chain(of_plays).chain(of_pairs).collect::<String>()
 }
 
 fn answer(entry: &str, words: &[&str]) -> Result<bool, Failure> {

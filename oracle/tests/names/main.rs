@@ -1,0 +1,5 @@
+//! The sixth wish of document 02, what a shared name means: the judge, and RENAME held to it.
+
+mod judge;
+mod pairs;
+mod told;
