@@ -47,14 +47,15 @@ pub fn merged(random: &mut Random, sides: &Sides) -> Sides {
 pub fn one_place(random: &mut Random, sides: &Sides) -> Sides {
     let mut met = all_letters(sides);
     if met.len() < MOST_LETTERS {
-        met.extend(letters(random, 1));
+        met.extend(letters(random, 2));
     }
-    let letter = random.pick(&met);
     let sides = on_one_side(random, sides, |random, side| {
         let mut run = side.run().to_vec();
         let places: Vec<usize> = (0..run.len()).filter(|&at| is_letter(run[at])).collect();
         if !places.is_empty() {
-            run[random.pick(&places)] = letter;
+            let at = random.pick(&places);
+            let others = met.iter().copied().filter(|&letter| letter != run[at]);
+            run[at] = random.pick(&Vec::from_iter(others));
         }
         Term::of(run)
     });

@@ -57,7 +57,10 @@ pub fn symmetric(random: &mut Random) -> Sides {
     let pool = letters(random, count);
     match random.below(3) {
         0 => mirrored(random, &pool),
-        _ => [(); 2].map(|()| turned_about(random, &pool)),
+        _ => [(); 2].map(|()| match random.below(3) {
+            0 => power(random, &pool),
+            _ => turned_about(random, &pool),
+        }),
     }
 }
 
@@ -73,8 +76,8 @@ fn mirrored(random: &mut Random, pool: &[u16]) -> Sides {
     [left, right]
 }
 
-/// A small term with its letters moved on by one place, by two and so on, all summed or multiplied: the words of a
-/// sum are the same in every turn.
+/// The sum of a small term with its letters moved on by no place, by one, by two and so on: its words are the same in
+/// every turn of the letters.
 fn turned_about(random: &mut Random, pool: &[u16]) -> Term {
     let most = (MOST_NODES + 1) / pool.len() - 1;
     let small = term_up_to(random, most.min(5), pool);
@@ -84,8 +87,20 @@ fn turned_about(random: &mut Random, pool: &[u16]) -> Term {
         with_letters(&small, pool, &images).run().to_vec()
     });
     let turns = turns.collect();
-    let operators = random.pick(&[[SUM], [SUM], [PRODUCT]]);
-    Term::of(joined(random, turns, &operators))
+    Term::of(joined(random, turns, &[SUM]))
+}
+
+/// The sum of all letters, up to three times multiplied: its words are the same under every renaming of them.
+fn power(random: &mut Random, pool: &[u16]) -> Term {
+    let most = (MOST_NODES + 1) / (2 * pool.len());
+    let count = random.between(1, most.min(3));
+    let sums = (0..count).map(|_| {
+        let mut atoms: Vec<Vec<u16>> = pool.iter().map(|&letter| vec![letter]).collect();
+        random.shuffle(&mut atoms);
+        joined(random, atoms, &[SUM])
+    });
+    let sums = sums.collect();
+    Term::of(joined(random, sums, &[PRODUCT]))
 }
 
 /// 31 nodes a side over six letters.
