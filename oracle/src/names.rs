@@ -27,13 +27,13 @@ pub fn hold(
     let [one, other] = pair.jobs();
     let one = Named::new(one, &mut make)?;
     let other = Named::new(other, &mut make)?;
-    let related = related(&one, &other)?;
+    let related = relate(&one, &other)?;
     let [left, right, ..] = &one.values;
     let third = Named::new(pair.third_job([left, right]), &mut make)?;
     let is_kept = one.values == third.values;
     let sentence = "the job made of `left` and `right` gives the same four lines";
     first_broken(&one, &third, &[(is_kept, sentence)])?;
-    self::related(&one, &third)?;
+    relate(&one, &third)?;
     Ok(related)
 }
 
@@ -109,7 +109,7 @@ fn values(answer: &[u8]) -> Option<[String; 4]> {
 }
 
 /// How two equations are related; or what does not hold of the lines printed.
-fn related(one: &Named, other: &Named) -> Result<Related, String> {
+fn relate(one: &Named, other: &Named) -> Result<Related, String> {
     let sides = alike::terms(&one.sides, &other.sides);
     let lists = alike::lists(&one.lists, &other.lists);
     let agree = [one.agrees(), other.agrees()];

@@ -2,4 +2,5 @@
 
 mod judge;
 mod pairs;
+mod small;
 mod told;
