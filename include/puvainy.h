@@ -198,7 +198,11 @@ size_t puvainy_find(const uint8_t *job, size_t job_len,
 size_t puvainy_words(const uint8_t *job, size_t job_len,
                      uint8_t *output, size_t output_len);
 
-/* The equation and its words under their least renamings. */
+/* The equation and its words under their least renamings. Jobs that are answered get the same first two
+ * lines exactly when a one-to-one renaming of letters, with or without exchanging sides, turns one equation
+ * into the other; these lines with limits are a job again, with the same answer. The last two are both `-`
+ * exactly where a job's sides have the same words; where they have not, jobs get the same last two exactly
+ * when such a renaming turns the word lists of the one into those of the other. */
 size_t puvainy_rename(const uint8_t *job, size_t job_len,
                       uint8_t *output, size_t output_len);
 
