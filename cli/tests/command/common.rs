@@ -17,6 +17,22 @@ pub fn stored(name: &str) -> String {
     std::fs::read_to_string(guide().join(name)).expect("a file of the guide")
 }
 
+/// What a line of the text holds behind its key.
+pub fn value<'a>(text: &'a str, key: &str) -> Option<&'a str> {
+    let mut lines = text.lines().filter_map(|line| line.split_once('='));
+    lines.find_map(|(name, value)| (name == key).then_some(value))
+}
+
+/// The two sides that a text has in the lines of these keys.
+pub fn sides<'a>(text: &'a str, keys: [&str; 2]) -> [&'a str; 2] {
+    keys.map(|key| value(text, key).unwrap())
+}
+
+/// Both ways to set the sides of an equation beside another's.
+pub fn both_ways([left, right]: [&str; 2]) -> [[&str; 2]; 2] {
+    [[left, right], [right, left]]
+}
+
 /// What a call gave: its status, and the texts on both streams.
 #[derive(Debug)]
 pub struct Gave {

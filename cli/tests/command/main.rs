@@ -7,5 +7,7 @@ mod drawn;
 mod jobs;
 mod kept;
 mod nones;
+mod renamed;
 mod several;
+mod shared;
 mod status;

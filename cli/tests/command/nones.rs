@@ -2,7 +2,7 @@
 
 use puvainy::{Buffers, Entry, MOST_SLOTS, Room};
 
-use crate::common::{puvainy, puvainy_on, stored};
+use crate::common::{puvainy, puvainy_on, stored, value};
 
 /// The job with another limit.
 fn with(job: &str, key: &str, limit: usize) -> String {
@@ -11,12 +11,6 @@ fn with(job: &str, key: &str, limit: usize) -> String {
         _ => format!("{line}\n"),
     };
     job.lines().map(line).collect()
-}
-
-/// What a line of the text holds behind its key.
-fn value<'a>(text: &'a str, key: &str) -> Option<&'a str> {
-    let mut lines = text.lines().filter_map(|line| line.split_once('='));
-    lines.find_map(|(name, value)| (name == key).then_some(value))
 }
 
 /// How many terms the answer says were opened.
