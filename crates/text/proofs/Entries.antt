@@ -21,7 +21,7 @@ use Rattle.text.specs.Find.{together, find}
 use Rattle.text.specs.Words.{words-text, words-entry}
 use Rattle.text.specs.Rename.{term-lines, renamed-words, rename-entry}
 use Rattle.text.specs.Entry.{returned, Call, before-search, FindCall}
-use Rattle.text.specs.Theory.Jobs.{job-accepted}
+use Rattle.text.specs.Theory.JobText.{job-accepted}
 use Rattle.text.specs.Theory.Entry.{among, Numbered, searched-numbered, each-in}
 use Rattle.text.specs.declared.job.accept.Read.{Read}
 use Rattle.text.proofs.Measured.{refuses}

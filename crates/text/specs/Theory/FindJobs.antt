@@ -14,14 +14,14 @@ use Rattle.terms.specs.Term.{Term, size, order, same}
 use Rattle.terms.specs.Letters.{letters}
 use Rattle.terms.specs.Theory.Reflects.{both}
 use Rattle.terms.specs.Theory.Order.{flip-gt}
-use Rattle.terms.specs.Theory.TermOrder.{term-order}
+use Rattle.terms.specs.Theory.TermOrder.{term-order, apart}
 use Rattle.search.specs.Line.{Limits}
 use Rattle.text.specs.TermText.{Readable, read-term}
 use Rattle.text.specs.Answer.{Answer, _>>=_, or-refuse}
 use Rattle.text.specs.Job.{Job, in-range, few, oriented, Accepted}
 use Rattle.text.specs.Theory.Readable.{If-some, Writes, read-writes}
 use Rattle.text.specs.Theory.Accepted.{If-accepted, accepted-then, required-then}
-use Rattle.text.specs.Theory.Jobs.{oriented-accepted, read-then}
+use Rattle.text.specs.Theory.Jobs.{in-range-true, oriented-accepted, read-then}
 use Rattle.text.specs.FindJob.{layouts, read-terms, every, comes-before, several, in-place, all-small, accept-each, read-find, job-of, jobs-of}
 
 every-true : (p : Term → Bool) (ts : List Term) → T (every p ts) → (t : Term) → t ∈ ts → T (p t)
@@ -105,7 +105,7 @@ jobs-accepted bs =
       readable-left = read-s;
       readable-right = read-ts t i;
     })
-    (p .limits) (p .differ))
+    (in-range-true (l .limits) (p .limits)) (apart (p .differ)))
 
 -- left stays left where right does not come before it
 kept-left : (s t : Term) (m : Limits) → T (not (comes-before t s)) → oriented s t m ≡ job-of s m t

@@ -30,9 +30,12 @@ decimal-length (suc j) (suc k) n h = go (ltb n 10) (decimal-length j k (n / 10) 
     go true p = omega arith
     go false p = omega (arith, length-append (decimal k (n / 10)) ((48 + n % 10) ∷ []))
 
-pub number-length : (n : ℕ) → n ≤ 999 → length (number n) ≤ 3
+pub number-digits : (j n : ℕ) → n < 10 ^ suc j → length (number n) ≤ suc j
 unfolding number
-number-length n h = decimal-length 2 n n (omega arith)
+number-digits j n = decimal-length j n n
+
+pub number-length : (n : ℕ) → n ≤ 999 → length (number n) ≤ 3
+number-length n h = number-digits 2 n (omega arith)
 
 letter-length : (n : ℕ) → n ≤ 999 → length (write-letter n) ≤ 4
 unfolding write-letter ascii
