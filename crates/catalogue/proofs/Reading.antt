@@ -22,7 +22,7 @@ use Rattle.text.specs.declared.job.accept.Reading.the-variants.{Refused, Accept
 use Rattle.text.specs.declared.job.accept.Read.{Read}
 use Rattle.text.specs.Theory.Keyed.{keyed-field, after-key, after-only, end-only, keyed-parts}
 use Rattle.text.specs.Theory.StepRead.{which-only}
-use Rattle.text.specs.Theory.Jobs.{job-accepted}
+use Rattle.text.specs.Theory.JobText.{job-accepted}
 use Rattle.catalogue.specs.Catalogue.{Entry}
 use Rattle.catalogue.specs.Texts.{Kind, key-name, read-key, in-catalogue, read-put, read-withdrawal, lines-by}
 use Rattle.catalogue.specs.Texts as texts

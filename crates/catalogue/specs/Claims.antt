@@ -1,14 +1,19 @@
 -- What is claimed of every list of calls of PUT and WITHDRAW on one buffer, and of kinds and RENAME's lines.
 use Prim.Native.Nat.{ℕ, _+_, _≤_, _<_}
 use mathlib.Core.Path.{_≡_}
-use mathlib.Core.Logic.{_↔_}
+use mathlib.Core.Logic.{_↔_, _⊎_}
 use mathlib.Core.Bool.{true, false}
 use mathlib.Core.List.{List, [], _∷_, _++_}
 use lib.Dec.{leb}
 use lib.ListN.{length, getD}
 use Rattle.terms.specs.Lists.{_∈_}
+use Rattle.terms.specs.Term.{Term}
+use Rattle.words.specs.Words.{words}
+use Rattle.words.specs.Shared.{Alike, AlikeWords}
+use Rattle.search.specs.Line.{Limits}
 use Rattle.text.specs.Bytes.{number}
 use Rattle.text.specs.Answer.{Answer, refused, accepted, field, values}
+use Rattle.text.specs.JobText.{Passes}
 use Rattle.text.specs.Rename.{rename-entry}
 use Rattle.catalogue.specs.Catalogue.{PLACES, Entry, Catalogue, empty, held, kinds, left-by}
 use Rattle.catalogue.specs.Calls.{Call, Stands, Sound}
@@ -85,3 +90,23 @@ pub record PutOf (bs : List ℕ) (e : Entry Kind) (t : List ℕ) : Type 0 where
 abbrev pub OneKind : Type 0
 OneKind = (bs cs : List ℕ) (e f : Entry Kind) (t u : List ℕ) → PutOf bs e t → PutOf cs f u
     → (e .kind ≡ f .kind) ↔ ((e .kind .key ≡ f .kind .key) × (lines-under (e .kind .key) t ≡ lines-under (f .kind .key) u))
+
+-- a put of the equation of s and t, which passes 1 to 6
+pub record PutFor (bs : List ℕ) (e : Entry Kind) (s t : Term) : Type 0 where
+  pub job : List ℕ
+  pub limits : Limits
+  pub passes : Passes job s t limits
+  pub text : bs ≡ field "number=" (number (e .number)) ++ (field "key=" (key-name (e .kind .key)) ++ job)
+  pub read : read-put bs ≡ accepted e
+
+-- by `key=raw`, a one-to-one renaming of letters, with or without exchanging sides, turns one equation into the other; by `key=words`, the
+-- words of the sides agree in each, or such a renaming turns the lists of words of the one into those of the other
+abbrev pub AlikeBy : Key → (s t u v : Term) → Type 0
+AlikeBy raw s t u v = Alike s t u v
+AlikeBy worded s t u v =
+    ((words s ≡ words t) × (words u ≡ words v)) ⊎ AlikeWords (words s) (words t) (words u) (words v)
+
+-- what a shared kind means
+abbrev pub SharedKind : Type 0
+SharedKind = (bs cs : List ℕ) (e f : Entry Kind) (s t u v : Term) → PutFor bs e s t → PutFor cs f u v
+    → (e .kind ≡ f .kind) ↔ ((e .kind .key ≡ f .kind .key) × AlikeBy (e .kind .key) s t u v)

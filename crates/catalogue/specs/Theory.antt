@@ -14,3 +14,4 @@ pub mod Served
 pub mod Steps
 pub mod Written
 pub mod Renamed
+pub mod Shared

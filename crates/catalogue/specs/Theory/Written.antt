@@ -1,6 +1,5 @@
 -- What a put's text and a withdrawal's say: each line was written as it is read.
 use Prim.Native.Nat.{ℕ, _≤_}
-use Prim.Native.String.{String}
 use native.Mathlib.Omega.{arith}
 use mathlib.Core.Path.{_≡_, refl, sym, ap, subst, _∙_}
 use mathlib.Core.Logic.{_↔_}
@@ -10,33 +9,19 @@ use lib.Dec.{T, leb, leb→le}
 use lib.ListN.{length, length-append}
 use borrow.Author.Tests.{le-leb}
 use Rattle.terms.specs.Theory.Reflects.{both}
-use Rattle.text.specs.Bytes.{ascii, number, read-number, after, end}
+use Rattle.text.specs.Bytes.{ascii, number, after, end}
 use Rattle.text.specs.StepText.{which}
-use Rattle.text.specs.Layout.{keyed, Stated, limit-line}
+use Rattle.text.specs.Layout.{keyed, limit-line}
 use Rattle.text.specs.Answer.{accepted, _>>=_, require, or-refuse, field}
 use Rattle.text.specs.Job.{Job, read-job}
-use Rattle.text.specs.Theory.AtLeast.{Printable, higher, tested}
-use Rattle.text.specs.Theory.Numbers.{number-least, read-number-number, read-number-only}
+use Rattle.text.specs.Theory.AtLeast.{Printable, tested}
 use Rattle.text.specs.Theory.Lengths.{number-length}
-use Rattle.text.specs.Theory.Keyed.{some-then, end-only, keyed-parts, keyed-field}
+use Rattle.text.specs.Theory.Keyed.{end-only, keyed-parts, keyed-field}
 use Rattle.text.specs.Theory.Accepted.{If-accepted, accepted-then, required-then, found-then}
+use Rattle.text.specs.Theory.JobText.{limit-parts, limit-field, limit-last}
 use Rattle.text.specs.Theory.StepRead.{which-only}
 use Rattle.catalogue.specs.Catalogue.{Entry}
 use Rattle.catalogue.specs.Texts.{Key, raw, worded, key-name, read-key, Kind, lines-by, in-catalogue, read-put, read-withdrawal}
-
--- a line with a number was so written
-number-parts : (key : String) (bs : List ℕ) {n : Stated} → limit-line key bs ≡ some n → bs ≡ field key (number (n .number)) ++ n .rest
-unfolding limit-line bind
-number-parts key bs {n} e =
-    some-then (keyed key bs) _ e λ c read e.
-    some-then (read-number (c .front)) _ e λ m digits e.
-    let whole : _≡_ {A = Stated} (record { number = m; rest = c .rest }) n = cc in
-    rw (← whole) (keyed-parts key bs read .parts ∙ ap (λ v. field key v ++ c .rest) (read-number-only (c .front) digits))
-
--- and is read so
-number-line : (key : String) (n : ℕ) (bs : List ℕ) → limit-line key (field key (number n) ++ bs) ≡ some (record { number = n; rest = bs })
-unfolding limit-line bind
-number-line key n bs = rw (keyed-field key (number n) bs (higher (omega arith) (number-least n)), read-number-number n)
 
 key-only : (bs : List ℕ) {k : Key} → read-key bs ≡ some k → bs ≡ key-name k
 unfolding read-key
@@ -69,7 +54,7 @@ puts-read bs =
       size = leb→le (length bs) 1024 short;
       job = k .rest;
       text =
-          number-parts "number=" bs stated
+          limit-parts "number=" bs stated
           ∙ ap (λ l. field "number=" (number (n .number)) ++ l)
           (keyed-parts "key=" (n .rest) keyed .parts ∙ ap (λ v. field "key=" v ++ k .rest) (key-only (k .front) named));
       listed = numbers-in-range (n .number) within;
@@ -103,7 +88,7 @@ unfolding read-put _>>=_ require or-refuse in-catalogue
 put-written n key job short low high read =
     rw (
       le-leb (length (field "number=" (number n) ++ (field "key=" (key-name key) ++ job))) 1024 short,
-      number-line "number=" n (field "key=" (key-name key) ++ job),
+      limit-field "number=" n (field "key=" (key-name key) ++ job),
       le-leb 1 n low,
       le-leb n 999 high,
       keyed-field "key=" (key-name key) job (printed-key key),
@@ -133,7 +118,7 @@ withdrawals-read bs =
     required-then (Withdrawal bs) 1 (in-catalogue m) _ λ within.
     let (nil, same) = end-only (s .number) (s .rest) ended in
     let (low, high) = numbers-in-range m within in
-    (number-parts "number=" bs stated ∙ rw (nil, same) (append-nil (field "number=" (number m))), low, high)
+    (limit-parts "number=" bs stated ∙ rw (nil, same) (append-nil (field "number=" (number m))), low, high)
 
 number-short : (n : ℕ) → n ≤ 999 → length (field "number=" (number n)) ≤ 1024
 unfolding field ascii
@@ -142,9 +127,7 @@ number-short n high = omega (arith, length-append (number n) (10 ∷ []), number
 withdrawal-written : (n : ℕ) → 1 ≤ n → n ≤ 999 → read-withdrawal (field "number=" (number n)) ≡ accepted n
 unfolding read-withdrawal _>>=_ require or-refuse end in-catalogue
 withdrawal-written n low high =
-    let read : limit-line "number=" (field "number=" (number n)) ≡ some (record { number = n; rest = [] }) =
-    ap (limit-line "number=") (sym (append-nil (field "number=" (number n)))) ∙ number-line "number=" n [] in
-    rw (le-leb (length (field "number=" (number n))) 1024 (number-short n high), read, le-leb 1 n low, le-leb n 999 high)
+    rw (le-leb (length (field "number=" (number n))) 1024 (number-short n high), limit-last "number=" n, le-leb 1 n low, le-leb n 999 high)
 
 pub withdrawal-exact : (bs : List ℕ) (n : ℕ) → (read-withdrawal bs ≡ accepted n) ↔ Withdrawal bs n
 withdrawal-exact bs n = (λ e. rw e at (withdrawals-read bs), λ (e, low, high). ap read-withdrawal e ∙ withdrawal-written n low high)
