@@ -61,7 +61,7 @@ shown worded j =
       under = ap₂ _++_ (L .wleft) (L .wright);
     }
 
--- two jobs have the same lines in their kinds and in RENAME's answers
+-- the kinds of two jobs have the same lines exactly where RENAME's answers do
 abbrev Agree : (j i : Job) (k l : Key) → Type 0
 Agree j i k l = (lines-by k j ≡ lines-by l i) ↔ (lines-under k (rename-text (j .left) (j .right)) ≡ lines-under l (rename-text (i .left) (i .right)))
 
