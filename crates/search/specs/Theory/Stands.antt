@@ -37,11 +37,14 @@ stands_still {n} b s =
 pub stands_in : {ns : List Noted} {j : ℕ} {n : Noted} → Stands ns j n → n ∈ ns
 stands_in s = rw s.parts (in_right s.before (here refl))
 
-pub in_stands : {ns : List Noted} {n : Noted} → n ∈ ns → (j : ℕ) × Stands ns j n
-in_stands {n} (here {x = x} {xs = xs} e) = (0, record { before = []; after = xs; parts = ap (λ y. y ∷ xs) (sym e); count = refl })
-in_stands (there {x = x} m) =
-    let (j, s) = in_stands m in
+stands_there : {n : Noted} {ns : List Noted} → n ∈ ns → (j : ℕ) × Stands ns j n
+stands_there (here {x = x} {xs = xs} e) = (0, record { before = []; after = xs; parts = ap (λ y. y ∷ xs) (sym e); count = refl })
+stands_there (there {x = x} m) =
+    let (j, s) = stands_there m in
     (suc j, record { before = x ∷ s.before; after = s.after; parts = ap (λ l. x ∷ l) s.parts; count = ap suc s.count })
+
+pub in_stands : {ns : List Noted} {n : Noted} → n ∈ ns → (j : ℕ) × Stands ns j n
+in_stands = stands_there
 
 pub stands_within : {ns : List Noted} {j : ℕ} {n : Noted} → Stands ns j n → j < length ns
 stands_within {n} s = rw (s.parts, length-append s.before (n ∷ s.after)) (omega (arith, s.count))
