@@ -9,7 +9,7 @@ use crate::slots::{Origin, SLOT};
 use crate::{index, replies, results, slots};
 
 // How far a search goes: lines in a path, size and depth of a result, terms that are opened.
-#[derive(Drop)]
+#[derive(Clone, Copy)]
 pub struct Limits {
     pub steps: u32,
     pub size: u32,
@@ -74,7 +74,7 @@ fn take_result(
 }
 
 // Why a search stopped: every right side that it waited for is noted; nothing is left to open; a term has no slot left.
-#[derive(Drop)]
+#[derive(Clone, Copy)]
 pub enum Stop {
     All,
     Over,
@@ -82,7 +82,7 @@ pub enum Stop {
 }
 
 // How a search ended, with how many terms opened and how many noted.
-#[derive(Drop)]
+#[derive(Clone, Copy)]
 pub struct Ended {
     pub stop: Stop,
     pub opened: usize,

@@ -8,7 +8,7 @@ use terms::term;
 use terms::term::{ADD, MUL, ONE, ZERO};
 use words::normal_form::copy;
 
-#[derive(Drop)]
+#[derive(Clone, Copy)]
 pub enum Law {
     AddAssoc,
     AddComm,
@@ -22,7 +22,7 @@ pub enum Law {
     MulZero,
 }
 
-#[derive(Drop)]
+#[derive(Clone, Copy)]
 pub enum Direction {
     Forward,
     Back,
@@ -115,14 +115,14 @@ pub fn row_of(law: Law) -> [u32; 16]
 }
 
 // A part of a run: where it starts and how many numbers it has. A part of no numbers stands for none.
-#[derive(Drop)]
+#[derive(Clone, Copy)]
 pub struct Span {
     pub at: usize,
     pub len: usize,
 }
 
 // The parts of a run that a law's letters stand for.
-#[derive(Drop)]
+#[derive(Clone, Copy)]
 pub struct Spans {
     pub a: Span,
     pub b: Span,

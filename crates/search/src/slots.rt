@@ -19,7 +19,7 @@ use words::normal_form;
 pub const SLOT: usize = 40;
 
 // A line: the place is the position in the run where the replaced subterm starts, the parent the slot of the term that is opened.
-#[derive(Drop)]
+#[derive(Clone, Copy)]
 pub struct Step {
     pub law: Law,
     pub direction: Direction,

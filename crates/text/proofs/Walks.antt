@@ -82,7 +82,7 @@ one_step {ws} {k} s O e Y Z p P q ns j x S L =
 
 -- ---- paths
 
-pub traced_length : {ws ks : List ℕ} {ns : List Noted} {j : ℕ} {xs : List Line} → Traced ws ns j ks xs → length xs ≡ length ks
+pub traced_length : {ws : List ℕ} {ns : List Noted} {ks : List ℕ} {j : ℕ} {xs : List Line} → Traced ws ns j ks xs → length xs ≡ length ks
 traced_length none = refl
 traced_length (more h T) = ap suc (traced_length T)
 

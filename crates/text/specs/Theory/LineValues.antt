@@ -4,7 +4,7 @@ use Prim.Native.Char.{code}
 use Prim.Native.String.{String}
 use Rattle.std.proofs.Common.{arith, ◌∙◌, ⊎_elim}
 use Rattle.std.proofs.Math.Path.{refl, sym, ap}
-use Rattle.std.proofs.Math.Option.{Option, none, some, Option·elim}
+use Rattle.std.proofs.Math.Option.{Option, none, some, Option-elim}
 use mathlib.Core.List.{List, [], ◌∷◌, ◌++◌, map, flat_map, filter_map, filter_map-cons-none, filter_map-cons-some, append_assoc}
 use Rattle.terms.specs.Lists.{◌∈◌, here, there, not-in-nil, cons-cases}
 use Rattle.search.specs.Law.{Law, Name}
@@ -57,7 +57,7 @@ module _ (key : String) where
   unfolding values filter_map pieces
   no_lines = go (after (ascii key) [])
     where
-      go : (o : Option (List ℕ)) → Option·elim o [] (λ b. b ∷ []) ≡ given o
+      go : (o : Option (List ℕ)) → Option-elim o [] (λ b. b ∷ []) ≡ given o
       go none = refl
       go (some v) = refl
 

@@ -21,7 +21,7 @@ fn few_letters(a: &[u32], b: &[u32]) -> bool
 }
 
 // What is asked of left and each right side: at most six different letters; that they differ; that right does not come before left.
-#[derive(Drop)]
+#[derive(Clone, Copy)]
 pub enum Test {
     Few,
     Differs,
