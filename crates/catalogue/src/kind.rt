@@ -6,7 +6,7 @@ use text::answer::rename::same_words;
 use words::candidate::words::canonical_words;
 use words::candidate::{Lengths, canonical_terms};
 
-#[derive(Drop)]
+#[derive(Clone, Copy)]
 pub enum Key {
     Raw,
     Words,

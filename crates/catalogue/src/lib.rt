@@ -1,4 +1,6 @@
 // The catalogue: equations under numbers, and the kept count of their kinds.
+#![tactic(auto)]
+
 pub mod entry;
 pub mod kind;
 pub mod places;

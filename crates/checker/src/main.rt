@@ -1,4 +1,6 @@
 // CHECK on standard input, with 64 output bytes.
+#![tactic(auto)]
+
 ghost use Rattle.std.specs.Prelude.{◌≡◌, length};
 ghost use Rattle.text.specs.Prints.{Prints};
 ghost use Rattle.checking.specs.Check.{program};

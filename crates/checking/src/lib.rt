@@ -1,4 +1,6 @@
 // CHECK: derivations from elsewhere, read and judged.
+#![tactic(auto)]
+
 pub mod chain;
 pub mod entry;
 pub mod judge;

@@ -30,7 +30,7 @@ pub enum Laid {
 }
 
 // What is asked of a result: that it is a term; that it has at most 31 nodes, too.
-#[derive(Drop)]
+#[derive(Clone, Copy)]
 pub enum Question {
     Term,
     Small,

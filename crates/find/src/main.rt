@@ -1,4 +1,6 @@
 // FIND on standard input, with 400 slots and 32,768 output bytes.
+#![tactic(auto)]
+
 ghost use Rattle.std.specs.Prelude.{◌≡◌, length};
 ghost use Rattle.text.specs.Entry.{program};
 ghost use Rattle.text.specs.Prints.{Prints};

@@ -1,5 +1,7 @@
 // What hosts call as C functions, each over the function below with the same contract. The archive for hosts has the entries of one
 // crate alone, so that all stand here.
+#![tactic(auto)]
+
 ghost use Rattle.std.specs.Prelude.{length};
 ghost use Rattle.text.specs.Words.{words_entry};
 ghost use Rattle.text.specs.Rename.{rename_entry};

@@ -1,4 +1,6 @@
 // Makes the stored calls of standard input and compares what each gives with its stored answer.
+#![tactic(auto)]
+
 mod call;
 mod dirt;
 mod record;

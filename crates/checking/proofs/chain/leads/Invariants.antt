@@ -1,0 +1,19 @@
+-- `leads` meets its contract: what the lines left lead to, all lead to.
+use Prim.Native.Nat.{◌-◌, ◌≤◌}
+use native.Mathlib.Omega.{arith}
+use mathlib.Core.Path.{◌≡◌, refl, ap, subst, ◌∙◌}
+use mathlib.Core.Bool.{Bool, false}
+use lib.ListN.{length, take, replicate}
+use lib.Seq.{length-sets}
+use Rattle.checking.specs.declared.chain.Followed.{Followed}
+use Rattle.checking.specs.declared.chain.Followed.TheVariants.{To}
+use Rattle.checking.specs.Judged.{Follows, Leads}
+use Rattle.checking.proofs.Leading.{leads_starts, leads_wrong, leads_on, leads_ends}
+use borrow.Author.Rules.{rules}
+use Rattle.checking.proofs.chain.leads.Given as goal
+
+abbrev pub invariant-loop-at : goal.invariant-loop-at
+invariant-loop-at l = (l.at ≤ length l.s) × (l.n ≤ 31) × (length l.both ≡ 62) × (length l.run ≡ length l.initial.run) × ((r : Bool) → Leads l.s l.at (take l.n l.both) l.right r → Leads l.s l.from l.left l.right r)
+
+abbrev pub decreases-loop-at : goal.decreases-loop-at
+decreases-loop-at l = length l.s - l.at

@@ -1,0 +1,51 @@
+-- `first_back` meets its contract: each number is the one that the law list makes.
+use Rattle.terms.specs.Run.{run}
+use Rattle.search.specs.Law.{semiring}
+use Rattle.search.specs.Match.{unbound, bind, meet, match, join, put}
+use Rattle.search.specs.Line.{from, to, rewrite}
+use Rattle.search.specs.Coded.{law_at}
+use Rattle.search.specs.Bound.{first_number}
+use Rattle.search.proofs.Firsts.{law_told}
+use Rattle.search.specs.declared.search.Direction.TheVariants.{Back}
+use borrow.Author.Rules.{rules}
+use Rattle.search.proofs.line.first_back.Goals as goal
+
+pub returns-in-AddAssoc : goal.returns-in-AddAssoc
+unfolding first_number rewrite match meet bind put join unbound from to law_at semiring run
+returns-in-AddAssoc c = law_told _ _ Back c.in-AddAssoc.is
+
+pub returns-in-AddComm : goal.returns-in-AddComm
+unfolding first_number rewrite match meet bind put join unbound from to law_at semiring run
+returns-in-AddComm c = law_told _ _ Back c.in-AddComm.is
+
+pub returns-in-AddZeroRight : goal.returns-in-AddZeroRight
+unfolding first_number rewrite match meet bind put join unbound from to law_at semiring run
+returns-in-AddZeroRight c = law_told _ _ Back c.in-AddZeroRight.is
+
+pub returns-in-MulAssoc : goal.returns-in-MulAssoc
+unfolding first_number rewrite match meet bind put join unbound from to law_at semiring run
+returns-in-MulAssoc c = law_told _ _ Back c.in-MulAssoc.is
+
+pub returns-in-MulOneLeft : goal.returns-in-MulOneLeft
+unfolding first_number rewrite match meet bind put join unbound from to law_at semiring run
+returns-in-MulOneLeft c = law_told _ _ Back c.in-MulOneLeft.is
+
+pub returns-in-MulOneRight : goal.returns-in-MulOneRight
+unfolding first_number rewrite match meet bind put join unbound from to law_at semiring run
+returns-in-MulOneRight c = law_told _ _ Back c.in-MulOneRight.is
+
+pub returns-in-LeftDistrib : goal.returns-in-LeftDistrib
+unfolding first_number rewrite match meet bind put join unbound from to law_at semiring run
+returns-in-LeftDistrib c = law_told _ _ Back c.in-LeftDistrib.is
+
+pub returns-in-RightDistrib : goal.returns-in-RightDistrib
+unfolding first_number rewrite match meet bind put join unbound from to law_at semiring run
+returns-in-RightDistrib c = law_told _ _ Back c.in-RightDistrib.is
+
+pub returns-in-ZeroMul : goal.returns-in-ZeroMul
+unfolding first_number rewrite match meet bind put join unbound from to law_at semiring run
+returns-in-ZeroMul c = law_told _ _ Back c.in-ZeroMul.is
+
+pub returns-in-MulZero : goal.returns-in-MulZero
+unfolding first_number rewrite match meet bind put join unbound from to law_at semiring run
+returns-in-MulZero c = law_told _ _ Back c.in-MulZero.is

@@ -1,0 +1,30 @@
+use Prim.Native.Nat.{◌+◌, ◌≤◌, ◌-◌}
+use native.Mathlib.Omega.{arith}
+use mathlib.Core.Path.{◌≡◌, refl, ◌∙◌}
+use mathlib.Core.Logic.{⊎_elim}
+use lib.ListN.{length, length-set}
+use Rattle.search.proofs.Replying.{StruckUpTo, struck_starts, struck_more, struck_past, struck_other, struck_all}
+use borrow.Author.Rules.{rules}
+use Rattle.search.proofs.replies.strike.Goals as goal
+
+pub loop-r-init : goal.loop-r-init
+loop-r-init c =
+    let a = c.args in
+    (omega arith, omega arith, refl, struck_starts a.rights.now a.s.now a.h a.k a.replies.now)
+
+pub loop-r-preserved : goal.loop-r-preserved
+loop-r-preserved c =
+    let l = c.loop-r in
+    let v = l.invariant in
+    let p = c.loop-r-test.true in
+    let d = c.has_run.ensures in
+    let e = length-set l.replies l.r (c.args.k + 11) in
+    ⊎_elim
+    (λ w. rw (w.3, w.4) (omega (arith, e), omega arith, e ∙ v.2, struck_more v.3 v.2 p d w.0.taken w.2.taken))
+    (⊎_elim
+    (λ w. rw (w.3, w.4) (omega arith, omega arith, v.2, struck_past v.3 v.2 p w.2.left))
+    (λ w. rw (w.1, w.2) (omega arith, omega arith, v.2, struck_other v.3 v.2 p d w.0.left)))
+    c.if-has_run.branch
+
+pub returns : goal.returns
+returns c = let v = c.loop-r.invariant in struck_all v.3 v.2 (omega arith)

@@ -1,0 +1,15 @@
+-- `spot_of` meets its contract. The loop's invariant: the result goes in behind the first `low`, and before the one at `high` if there is
+-- one.
+use Prim.Native.Nat.{ℕ, ◌+◌, ◌-◌, ◌/◌, ◌≤◌, ◌<◌}
+use native.Mathlib.Omega.{arith}
+use mathlib.Core.Path.{◌≡◌}
+use lib.ListN.{length}
+use Rattle.search.proofs.Sorting.{Seeking, Leaving, Tells, seeking_starts, tells, spot_there}
+use borrow.Author.Rules.{rules}
+use Rattle.search.proofs.results.spot_of.Given as goal
+
+abbrev pub invariant-loop-low : goal.invariant-loop-low
+invariant-loop-low l = (l.low ≤ l.high) × (l.high ≤ length l.order) × Seeking l.res l.order l.s l.low × (l.high < length l.order → Leaving l.res l.order l.s l.high)
+
+abbrev pub decreases-loop-low : goal.decreases-loop-low
+decreases-loop-low l = l.high - l.low

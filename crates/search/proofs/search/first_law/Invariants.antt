@@ -1,0 +1,11 @@
+-- `first_law` meets its contract. The loop's invariant: none of the first `n` laws matches.
+use Prim.Native.Nat.{◌≤◌, ◌-◌}
+use Rattle.search.proofs.Directing.{Passing, passing_starts, passed_over, law_taken, no_law}
+use borrow.Author.Rules.{rules}
+use Rattle.search.proofs.search.first_law.Given as goal
+
+abbrev pub invariant-loop-n : goal.invariant-loop-n
+invariant-loop-n l = (l.n ≤ 10) × Passing l.both l.middle l.n
+
+abbrev pub decreases-loop-n : goal.decreases-loop-n
+decreases-loop-n l = 10 - l.n

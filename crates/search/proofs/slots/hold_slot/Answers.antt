@@ -1,0 +1,7 @@
+-- `hold_slot` meets its contract.
+use Rattle.search.proofs.Holding.{holds_run}
+use borrow.Author.Rules.{rules}
+use Rattle.search.proofs.slots.hold_slot.Goals as goal
+
+pub returns : goal.returns
+returns c = rw c.hash.ensures (holds_run c.requires.0 c.write_slot.ensures)

@@ -1,0 +1,13 @@
+-- `difference_from` meets its contract. The loop's invariant: the first `i` numbers agree.
+use Prim.Native.Nat.{◌-◌}
+use lib.ListN.{length}
+use Rattle.terms.specs.Differ.{Agree}
+use Rattle.terms.proofs.Compared.{second_shorter, differ_here, one_further, first_shorter, both_ended}
+use borrow.Author.Rules.{rules}
+use Rattle.terms.proofs.difference.difference_from.Given as goal
+
+abbrev pub invariant-loop-i : goal.invariant-loop-i
+invariant-loop-i l = Agree l.a l.b l.i
+
+abbrev pub decreases-loop-i : goal.decreases-loop-i
+decreases-loop-i l = length l.a - l.i

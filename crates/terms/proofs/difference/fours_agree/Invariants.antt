@@ -1,0 +1,13 @@
+-- `fours_agree` meets its contract. The loop's invariant: the first `i` numbers agree.
+use Prim.Native.Nat.{◌-◌}
+use Rattle.terms.specs.Differ.{Agree}
+use Rattle.terms.specs.Theory.Differ.{agree_none}
+use Rattle.terms.proofs.Compared.{four_more}
+use borrow.Author.Rules.{rules}
+use Rattle.terms.proofs.difference.fours_agree.Given as goal
+
+abbrev pub invariant-loop-i : goal.invariant-loop-i
+invariant-loop-i l = Agree l.a l.b l.i
+
+abbrev pub decreases-loop-i : goal.decreases-loop-i
+decreases-loop-i l = l.n - l.i

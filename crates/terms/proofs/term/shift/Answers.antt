@@ -1,0 +1,13 @@
+use Prim.Native.Nat.{◌-◌}
+use mathlib.Core.Path.{◌≡◌}
+use lib.ListN.{length}
+use borrow.Author.Rules.{rules}
+use Rattle.terms.specs.Numbers.{put_in}
+use Rattle.terms.proofs.Inserted.{put_next, put_end}
+use Rattle.terms.proofs.term.shift.Goals as goal
+
+pub loop-i-preserved : goal.loop-i-preserved
+loop-i-preserved c = search (put_next, rules)
+
+pub returns : goal.returns
+returns c = search (put_end, rules)

@@ -1,0 +1,15 @@
+-- `words` meets its contract: the job is refused, or answered.
+use Rattle.text.proofs.Entries.{words_refused, words_answered}
+use borrow.Author.Rules.{rules}
+use Rattle.text.proofs.entry.words.Goals as goal
+
+pub returns-in-Refused : goal.returns-in-Refused
+returns-in-Refused c =
+    let a = c.args in
+    words_refused a.job.now a.output.now (rw c.in-Refused.is at c.read_job.ensures)
+
+pub returns-in-Accepted : goal.returns-in-Accepted
+returns-in-Accepted c =
+    let a = c.args in
+    words_answered a.job.now (rw c.in-Accepted.is at c.read_job.ensures) c.front.ensures c.run_of.ensures a.output.now
+    c.answer_words.ensures

@@ -1,0 +1,16 @@
+-- `has_key` meets its contract: the bytes passed are those of the key.
+use Prim.Native.Nat.{◌+◌, ◌≤◌, ◌-◌}
+use native.Mathlib.Omega.{arith}
+use mathlib.Core.Path.{◌≡◌, refl, ap, ◌∙◌}
+use mathlib.Core.Option.{some}
+use lib.ListN.{length, drop}
+use Rattle.text.specs.Bytes.{after}
+use Rattle.text.proofs.Lines.{key_ends, text_ends, bytes_differ, bytes_agree}
+use borrow.Author.Rules.{rules}
+use Rattle.text.proofs.job.has_key.Given as goal
+
+abbrev pub invariant-loop-j : goal.invariant-loop-j
+invariant-loop-j l = (l.i ≤ length l.s) × (l.j ≤ length l.key) × (l.i ≡ l.from + l.j) × (after l.key (drop l.from l.s) ≡ after (drop l.j l.key) (drop l.i l.s))
+
+abbrev pub decreases-loop-j : goal.decreases-loop-j
+decreases-loop-j l = length l.key - l.j

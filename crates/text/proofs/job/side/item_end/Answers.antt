@@ -1,0 +1,30 @@
+use Prim.Native.Nat.{ℕ, ◌≤◌, ◌-◌}
+use native.Mathlib.Omega.{arith}
+use mathlib.Core.Path.{sym, ◌∙◌}
+use lib.ListN.{get_or}
+use Rattle.text.specs.declared.job.Mark.TheVariants as is
+use Rattle.text.specs.SideRead.{ItemEnds}
+use Rattle.text.proofs.Marking.{tells, no_space}
+use Rattle.text.proofs.Sides.{side_ends, space_ends, item_goes_on}
+use borrow.Author.Rules.{rules}
+use Rattle.text.proofs.job.side.item_end.Goals as goal
+
+pub loop-i-init : goal.loop-i-init
+loop-i-init c = (c.requires.0, λ e h. h)
+
+pub returns-in-Space : goal.returns-in-Space
+returns-in-Space c =
+    let a = c.args in
+    let b = get_or a.s.now c.loop-i.i 0 in
+    c.loop-i.invariant.1 c.loop-i.i (space_ends a.s.now c.loop-i.i a.to (omega arith) (omega arith) (tells b is.Space (sym c.mark_of.ensures ∙ c.in-Space.is)))
+
+pub loop-i-preserved : goal.loop-i-preserved
+loop-i-preserved c =
+    let a = c.args in
+    let b = get_or a.s.now c.loop-i.i 0 in
+    (omega arith, λ e h. c.loop-i.invariant.1 e (item_goes_on a.s.now c.loop-i.i a.to (omega arith) (omega arith) (no_space b c.mark_of.result c.mark_of.ensures c.in_default.in_default-own.keys2) e h))
+
+pub returns : goal.returns
+returns c =
+    let a = c.args in
+    c.loop-i.invariant.1 c.loop-i.i (side_ends a.s.now c.loop-i.i a.to (omega arith))

@@ -1,0 +1,17 @@
+-- `item_end` meets its contract: where the item ends from the byte reached on, it ends from the start on.
+use Prim.Native.Nat.{ℕ, ◌≤◌, ◌-◌}
+use native.Mathlib.Omega.{arith}
+use mathlib.Core.Path.{sym, ◌∙◌}
+use lib.ListN.{get_or}
+use Rattle.text.specs.declared.job.Mark.TheVariants as is
+use Rattle.text.specs.SideRead.{ItemEnds}
+use Rattle.text.proofs.Marking.{tells, no_space}
+use Rattle.text.proofs.Sides.{side_ends, space_ends, item_goes_on}
+use borrow.Author.Rules.{rules}
+use Rattle.text.proofs.job.side.item_end.Given as goal
+
+abbrev pub invariant-loop-i : goal.invariant-loop-i
+invariant-loop-i l = (l.i ≤ l.to) × ((e : ℕ) → ItemEnds l.s l.i l.to e → ItemEnds l.s l.from l.to e)
+
+abbrev pub decreases-loop-i : goal.decreases-loop-i
+decreases-loop-i l = l.to - l.i

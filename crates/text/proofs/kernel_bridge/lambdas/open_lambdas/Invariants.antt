@@ -1,0 +1,18 @@
+-- `open_lambdas` meets its contract. The invariant: the binders before i are put.
+use Prim.Native.Nat.{◌≤◌, ◌-◌}
+use mathlib.Core.Path.{◌≡◌, refl, ap, ◌∙◌}
+use native.Mathlib.Omega.{arith}
+use native.Mathlib.Numerals.{add-one}
+use lib.ListN.{length}
+use Rattle.text.specs.Bytes.{ascii}
+use Rattle.text.specs.Put.{Put}
+use Rattle.text.specs.Framed.{opens}
+use Rattle.text.proofs.Overlay.{then, put_as, put_none}
+use borrow.Author.Rules.{rules}
+use Rattle.text.proofs.kernel_bridge.lambdas.open_lambdas.Given as goal
+
+abbrev pub invariant-loop-i : goal.invariant-loop-i
+invariant-loop-i l = (i ≤ l.n) × (length l.p ≡ length l.initial.out) × Put (opens i) l.initial.out l.at l.i l.p
+
+abbrev pub decreases-loop-i : goal.decreases-loop-i
+decreases-loop-i l = l.n - i

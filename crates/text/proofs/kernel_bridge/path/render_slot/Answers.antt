@@ -1,0 +1,14 @@
+-- `render_slot` meets its contract: the line by the step in slot k, from the term in the slot that it names.
+use Rattle.text.proofs.Walks.{no_start}
+use Rattle.text.proofs.Joining.{step_put}
+use borrow.Author.Rules.{rules}
+use Rattle.text.proofs.kernel_bridge.path.render_slot.Goals as goal
+
+pub returns-in_default : goal.returns-in_default
+returns-in_default c = λ ns j x S L. absurd (no_start c.origin_of.ensures L c.in_default.is)
+
+pub returns : goal.returns
+returns c =
+    λ ns j x S L.
+    step_put S L c.args.names.now c.in-From.step c.origin_of.ensures c.in-From.is c.run_of-s.ensures
+    c.run_of-t.ensures c.render_step.ensures

@@ -1,0 +1,20 @@
+-- `render_axiom_application` meets its contract: the buffer holds both terms, one behind the other.
+use native.Mathlib.Omega.{arith}
+use mathlib.Core.Path.{refl}
+use Rattle.text.proofs.Applied.{both_held, put_unmatched, put_matched}
+use borrow.Author.Rules.{rules}
+use Rattle.text.proofs.kernel_bridge.render_axiom_application.Goals as goal
+
+pub returns-in_default : goal.returns-in_default
+returns-in_default c =
+    let a = c.args in
+    λ u v hu hv x y.
+    let h = both_held refl c.copy_term-middle.auto.out c.copy_term-middle.ensures c.copy_term.ensures hu hv x y in
+    put_unmatched a.names.now c.bind_sides.ensures u v h.0 h.1 a.out.now a.at c.in_default.is (omega (arith, c)) (omega (arith, c))
+
+pub returns : goal.returns
+returns c =
+    let a = c.args in
+    λ u v hu hv x y.
+    let h = both_held refl c.copy_term-middle.auto.out c.copy_term-middle.ensures c.copy_term.ensures hu hv x y in
+    put_matched a.names.now c.bind_sides.ensures u v h.0 h.1 _ c.in-Bound.is c.put_call.ensures
