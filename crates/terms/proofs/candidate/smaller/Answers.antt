@@ -1,5 +1,4 @@
 -- `smaller` meets its contract: the run handed back is the one that `compare` tells.
-use borrow.Author.Rules.{rules}
 use Rattle.terms.proofs.Compared.{smaller}
 use Rattle.terms.proofs.candidate.smaller.Goals as goal
 

@@ -1,6 +1,3 @@
-use Prim.Native.Nat.{◌-◌}
-use lib.ListN.{length}
-use Rattle.terms.specs.Differ.{Agree}
 use Rattle.terms.proofs.Compared.{second_shorter, differ_here, one_further, first_shorter, both_ended}
 use borrow.Author.Rules.{rules}
 use Rattle.terms.proofs.difference.difference_from.Goals as goal

@@ -1,5 +1,3 @@
-use Prim.Native.Nat.{◌-◌}
-use Rattle.terms.specs.Differ.{Agree}
 use Rattle.terms.specs.Theory.Differ.{agree_none}
 use Rattle.terms.proofs.Compared.{four_more}
 use borrow.Author.Rules.{rules}

@@ -1,9 +1,6 @@
 -- `fours_agree` meets its contract. The loop's invariant: the first `i` numbers agree.
 use Prim.Native.Nat.{◌-◌}
 use Rattle.terms.specs.Differ.{Agree}
-use Rattle.terms.specs.Theory.Differ.{agree_none}
-use Rattle.terms.proofs.Compared.{four_more}
-use borrow.Author.Rules.{rules}
 use Rattle.terms.proofs.difference.fours_agree.Given as goal
 
 abbrev pub invariant-loop-i : goal.invariant-loop-i

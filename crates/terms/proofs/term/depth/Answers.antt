@@ -1,5 +1,4 @@
 -- `depth` meets its contract: it is the depth of the term at the front.
-use borrow.Author.Rules.{rules}
 use Rattle.terms.proofs.Depths.{deep}
 use Rattle.terms.proofs.term.depth.Goals as goal
 

@@ -3,8 +3,6 @@ use Prim.Native.Nat.{◌≤◌, ◌+◌, ◌-◌}
 use mathlib.Core.Path.{◌≡◌}
 use lib.ListN.{length, drop}
 use Rattle.terms.specs.Numbers.{skip, end_at}
-use borrow.Author.Rules.{rules}
-use Rattle.terms.proofs.Skipped.{skip_leaf, skip_node, skip_past, skip_all, ends}
 use Rattle.terms.proofs.term.end_of.Given as goal
 
 abbrev pub invariant-loop-need : goal.invariant-loop-need

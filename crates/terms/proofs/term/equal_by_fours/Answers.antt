@@ -1,6 +1,5 @@
 -- `equal_by_fours` meets its contract.
 use Rattle.terms.proofs.Compared.{equals}
-use borrow.Author.Rules.{rules}
 use Rattle.terms.proofs.term.equal_by_fours.Goals as goal
 
 pub returns : goal.returns

@@ -1,7 +1,5 @@
-use Prim.Native.Nat.{◌-◌}
-use lib.ListN.{length}
 use borrow.Author.Rules.{rules}
-use Rattle.terms.proofs.Gathered.{Gathering, gathering_starts, gathering_passes, gathering_takes, gathering_overflows, gathering_ends, gathering_length}
+use Rattle.terms.proofs.Gathered.{gathering_starts, gathering_passes, gathering_takes, gathering_overflows, gathering_ends, gathering_length}
 use Rattle.terms.proofs.term.gather.Goals as goal
 
 pub loop-i-init : goal.loop-i-init

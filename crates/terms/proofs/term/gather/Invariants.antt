@@ -1,8 +1,7 @@
 -- `gather` meets its contract. The loop's invariant: what was gathered fills the front, and the letters from `i` on make it the whole.
 use Prim.Native.Nat.{◌-◌}
 use lib.ListN.{length}
-use borrow.Author.Rules.{rules}
-use Rattle.terms.proofs.Gathered.{Gathering, gathering_starts, gathering_passes, gathering_takes, gathering_overflows, gathering_ends, gathering_length}
+use Rattle.terms.proofs.Gathered.{Gathering}
 use Rattle.terms.proofs.term.gather.Given as goal
 
 abbrev pub invariant-loop-i : goal.invariant-loop-i

@@ -1,8 +1,5 @@
-use Prim.Native.Nat.{◌≤◌, ◌+◌, ◌-◌}
-use mathlib.Core.Path.{◌≡◌}
-use lib.ListN.{length, drop}
 use borrow.Author.Rules.{rules}
-use Rattle.terms.proofs.Spelled.{spells, spells_atom, spells_two, spells_over, spells_foul, spells_end, reads}
+use Rattle.terms.proofs.Spelled.{spells_atom, spells_two, spells_over, spells_foul, spells_end, reads}
 use Rattle.terms.proofs.term.is_run.Goals as goal
 
 pub returns-then-need-eq0 : goal.returns-then-need-eq0

@@ -2,8 +2,7 @@
 use Prim.Native.Nat.{◌≤◌, ◌+◌, ◌-◌}
 use mathlib.Core.Path.{◌≡◌}
 use lib.ListN.{length, drop}
-use borrow.Author.Rules.{rules}
-use Rattle.terms.proofs.Spelled.{spells, spells_atom, spells_two, spells_over, spells_foul, spells_end, reads}
+use Rattle.terms.proofs.Spelled.{spells}
 use Rattle.terms.proofs.term.is_run.Given as goal
 
 abbrev pub invariant-loop-i : goal.invariant-loop-i

@@ -1,8 +1,4 @@
-use Prim.Native.Nat.{◌-◌}
-use mathlib.Core.Path.{◌≡◌}
-use lib.ListN.{length}
 use borrow.Author.Rules.{rules}
-use Rattle.terms.specs.Numbers.{put_in}
 use Rattle.terms.proofs.Inserted.{put_next, put_end}
 use Rattle.terms.proofs.term.shift.Goals as goal
 

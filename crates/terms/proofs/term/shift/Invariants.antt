@@ -2,9 +2,7 @@
 use Prim.Native.Nat.{◌-◌}
 use mathlib.Core.Path.{◌≡◌}
 use lib.ListN.{length}
-use borrow.Author.Rules.{rules}
 use Rattle.terms.specs.Numbers.{put_in}
-use Rattle.terms.proofs.Inserted.{put_next, put_end}
 use Rattle.terms.proofs.term.shift.Given as goal
 
 abbrev pub invariant-loop-i : goal.invariant-loop-i
