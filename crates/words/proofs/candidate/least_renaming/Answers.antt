@@ -13,7 +13,7 @@ loop-c-preserved c =
     let l = c.loop-c in
     let k = c.visit-best.auto in (
       omega arith,
-      one_more_visited l.invariant.1 (room_as_long l.invariant.1.same_left l.invariant.1.same_right) c.visit-best.ensures k.1.1.1.1.0 k.1.1.1.1.1.0,
+      one_more_visited l.invariant.1 (room_as_long l.invariant.1.same_left l.invariant.1.same_right) c.visit-best.ensures k.left k.right,
     )
 
 pub returns : goal.returns

@@ -9,9 +9,6 @@ returns-then-words-k c = no_slot _ _ (omega (arith, c.if-words-k.true))
 pub returns-then-words-at : goal.returns-then-words-at
 returns-then-words-at c = no_slot _ _ (omega (arith, c.if-words-at.true))
 
-pub overflow_cast-len : goal.overflow_cast-len
-overflow_cast-len c = omega (arith, c.shared_slice_known-1.given (17 * c.args.k))
-
 pub returns-then-words-start : goal.returns-then-words-start
 returns-then-words-start c = to_end _ _ (omega (arith, c.if-words-start.true))
 

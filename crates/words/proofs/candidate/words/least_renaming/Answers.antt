@@ -16,10 +16,10 @@ loop-c-preserved c =
     let i = c.loop-c.invariant in
     let k = c.visit-best.auto in (
       omega (arith, c.loop-c-test.true),
-      one_more_visited i.1 (room_as_long i.2 i.3 i.4 i.1.same_left i.1.same_right) c.visit-best.ensures k.1.1.1.1.1.1.1.0 k.1.1.1.1.1.1.1.1.0,
-      k.1.1.1.1.0 ∙ i.2,
-      k.1.1.1.1.1.0 ∙ i.3,
-      k.1.1.1.1.1.1.0 ∙ i.4,
+      one_more_visited i.1 (room_as_long i.2 i.3 i.4 i.1.same_left i.1.same_right) c.visit-best.ensures k.left k.right,
+      k.slots ∙ i.2,
+      k.x ∙ i.3,
+      k.y ∙ i.4,
     )
 
 pub returns : goal.returns
