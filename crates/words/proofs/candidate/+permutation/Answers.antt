@@ -1,5 +1,5 @@
 -- `permutation` puts the first number into a permutation of the others.
-use Rattle.std.proofs.Common.{arith, length-take}
+use Rattle.std.proofs.Common.{arith}
 use Rattle.words.proofs.Permuted.{none_permuted, one_more_permuted}
 use Rattle.words.proofs.candidate.+permutation.Goals as goal
 

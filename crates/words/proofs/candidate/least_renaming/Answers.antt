@@ -1,8 +1,7 @@
-use Rattle.std.proofs.Common.{◌≡◌, ◌-◌, ◌≤◌, length, arith, rules}
+use Rattle.std.proofs.Common.{◌≡◌, length, arith, rules}
 use Rattle.words.specs.Decoded.{factorial}
-use Rattle.words.specs.Candidate.{Room, candidate}
 use Rattle.words.proofs.Candidates.{room_as_long, least_candidate}
-use Rattle.words.proofs.Visited.{Visited, none_visited, one_more_visited, all_visited}
+use Rattle.words.proofs.Visited.{none_visited, one_more_visited, all_visited}
 use Rattle.words.proofs.candidate.least_renaming.Goals as goal
 
 pub loop-c-init : goal.loop-c-init

@@ -1,5 +1,5 @@
 -- `word_of` hands back the part of the slots that is the word.
-use Rattle.std.proofs.Common.{◌+◌, ◌-◌, ◌*◌, get_or, arith, rules}
+use Rattle.std.proofs.Common.{◌+◌, ◌-◌, ◌*◌, get_or, arith}
 use Rattle.words.proofs.Slots.{no_slot, to_end, letters_there}
 use Rattle.words.proofs.normal_form.word_of.Goals as goal
 

@@ -1,6 +1,6 @@
 -- `sort` meets its contract: both halves are sorted by it, then merged.
-use Rattle.std.proofs.Common.{◌/◌, length, sym, ap, arith, length-drop, length-take-le, rules}
-use Rattle.words.proofs.Sorting.{short_sorted, second_half, halves_sorted}
+use Rattle.std.proofs.Common.{◌/◌, length, arith, rules}
+use Rattle.words.proofs.Sorting.{short_sorted, halves_sorted}
 use Rattle.words.proofs.sort.+sort.Goals as goal
 
 pub returns-then-n-lt2 : goal.returns-then-n-lt2

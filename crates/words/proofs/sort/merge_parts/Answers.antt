@@ -1,5 +1,5 @@
 -- `merge_parts` meets its contract: the parts are in order already or the other way round, or what is merged are the parts of a copy of the order.
-use Rattle.std.proofs.Common.{◌≡◌, ℕ, ◌≤◌, List, length, take, sym, refl, ap, ◌∙◌, length-take-le}
+use Rattle.std.proofs.Common.{◌≡◌, ℕ, ◌≤◌, List, length, take, sym, refl, ◌∙◌, length-take-le}
 use Rattle.std.proofs.lemmas.List.Edits.{sets}
 use Rattle.words.proofs.Parts.{two_parts, front_stored}
 use Rattle.words.proofs.Sorting.{parts_merged, parts_in_order, parts_reversed}

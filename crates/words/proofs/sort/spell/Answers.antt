@@ -1,5 +1,5 @@
-use Rattle.std.proofs.Common.{◌-◌, ◌≤◌, length, arith, rules}
-use Rattle.words.proofs.Spelling.{SpelledTo, spell_start, spell_next, spell_end}
+use Rattle.std.proofs.Common.{arith, rules}
+use Rattle.words.proofs.Spelling.{spell_start, spell_next, spell_end}
 use Rattle.words.proofs.sort.spell.Goals as goal
 
 pub loop-i-init : goal.loop-i-init

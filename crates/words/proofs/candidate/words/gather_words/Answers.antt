@@ -24,8 +24,8 @@ loop-i-preserved c =
     let l = c.loop-i in (
       omega arith,
       rw c.in-All.is at
-      (word_gathered a.words.now a.out.now a.n l.i l.count l.out c.gather-listed.new.out c.gather-listed.result l.invariant.1
-      c.word_of.ensures c.gather-listed.ensures),
+          (word_gathered a.words.now a.out.now a.n l.i l.count l.out c.gather-listed.new.out c.gather-listed.result l.invariant.1
+          c.word_of.ensures c.gather-listed.ensures),
     )
 
 pub shape_of-out : goal.shape_of-out

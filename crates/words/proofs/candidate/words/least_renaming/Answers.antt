@@ -1,11 +1,9 @@
-use Rattle.std.proofs.Common.{◌≡◌, ◌-◌, ◌*◌, ◌≤◌, length, sym, refl, ◌∙◌, arith, rules}
-use Rattle.words.specs.WordLists.{slot_words, word_candidate, WordRoom}
-use Rattle.words.specs.Multiply.{MOST}
-use Rattle.words.specs.Spelled.{SLOT}
+use Rattle.std.proofs.Common.{◌≡◌, length, sym, refl, ◌∙◌, arith}
+use Rattle.words.specs.WordLists.{slot_words}
 use Rattle.words.specs.Decoded.{factorial}
 use Rattle.words.proofs.RenamedWords.{room_as_long}
 use Rattle.words.proofs.Canonical.{spelled_least}
-use Rattle.words.proofs.Visited.{Visited, none_visited, one_more_visited, all_visited}
+use Rattle.words.proofs.Visited.{none_visited, one_more_visited, all_visited}
 use Rattle.words.proofs.candidate.words.least_renaming.Goals as goal
 
 pub loop-c-init : goal.loop-c-init
