@@ -8,7 +8,7 @@ use Rattle.terms.specs.Run.{ZERO}
 use Rattle.terms.specs.Held.{Fine, IsRun}
 use Rattle.terms.specs.Theory.Held.{fine_letters}
 use Rattle.terms.specs.Theory.SortMembers.{sort_member, sort_length}
-use Rattle.words.specs.Words.{Word, order_words, normal, words, expand}
+use Rattle.words.specs.Words.{Word, order_words, normal, expand}
 use Rattle.words.specs.Spelled.{SLOT, spelled}
 use Rattle.words.specs.Multiply.{MOST, MultipliesOut}
 use Rattle.words.specs.Sort.{Spells}

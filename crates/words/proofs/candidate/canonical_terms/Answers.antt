@@ -1,5 +1,5 @@
 -- `canonical_terms` renames the letters that both sides have.
-use Rattle.std.proofs.Common.{refl, arith, length-take, rules}
+use Rattle.std.proofs.Common.{refl, arith, length-take}
 use Rattle.words.proofs.Canonical.{too_many, all_listed}
 use Rattle.words.proofs.candidate.canonical_terms.Goals as goal
 

@@ -1,6 +1,5 @@
 -- `compare_equations` compares the left sides, and the right ones if those are equal.
 use Rattle.words.proofs.Kept.{left_less, left_equal, left_greater}
-use Rattle.std.proofs.Common.{rules}
 use Rattle.words.proofs.candidate.compare_equations.Goals as goal
 
 pub returns-in-Less : goal.returns-in-Less

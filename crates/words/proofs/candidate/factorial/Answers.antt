@@ -1,6 +1,5 @@
 -- `factorial` reads its table.
 use Rattle.words.proofs.Decoded.{factorial_listed}
-use Rattle.std.proofs.Common.{rules}
 use Rattle.words.proofs.candidate.factorial.Goals as goal
 
 pub returns : goal.returns

@@ -1,6 +1,5 @@
 -- `larger` hands back the run that `compare` tells.
 use Rattle.words.proofs.Kept.{right_side}
-use Rattle.std.proofs.Common.{rules}
 use Rattle.words.proofs.candidate.larger.Goals as goal
 
 pub returns-in-Less : goal.returns-in-Less

@@ -1,8 +1,7 @@
-use Rattle.std.proofs.Common.{◌≡◌, ◌-◌, ◌≤◌, length, arith, rules}
+use Rattle.std.proofs.Common.{◌≡◌, length, arith, rules}
 use Rattle.words.specs.Decoded.{factorial}
-use Rattle.words.specs.Candidate.{Room, candidate}
 use Rattle.words.proofs.Candidates.{room_as_long, least_candidate}
-use Rattle.words.proofs.Visited.{Visited, none_visited, one_more_visited, all_visited}
+use Rattle.words.proofs.Visited.{none_visited, one_more_visited, all_visited}
 use Rattle.words.proofs.candidate.least_renaming.Goals as goal
 
 pub loop-c-init : goal.loop-c-init
@@ -13,7 +12,7 @@ loop-c-preserved c =
     let l = c.loop-c in
     let k = c.visit-best.auto in (
       omega arith,
-      one_more_visited l.invariant.1 (room_as_long l.invariant.1.same_left l.invariant.1.same_right) c.visit-best.ensures k.1.1.1.1.0 k.1.1.1.1.1.0,
+      one_more_visited l.invariant.1 (room_as_long l.invariant.1.same_left l.invariant.1.same_right) c.visit-best.ensures k.left k.right,
     )
 
 pub returns : goal.returns

@@ -1,9 +1,7 @@
 -- `least_renaming` tries every renaming. The loop's invariant: those with numbers below `c` are tried.
-use Rattle.std.proofs.Common.{◌≡◌, ◌-◌, ◌≤◌, length, arith, rules}
-use Rattle.words.specs.Decoded.{factorial}
+use Rattle.std.proofs.Common.{◌-◌, ◌≤◌}
 use Rattle.words.specs.Candidate.{Room, candidate}
-use Rattle.words.proofs.Candidates.{room_as_long, least_candidate}
-use Rattle.words.proofs.Visited.{Visited, none_visited, one_more_visited, all_visited}
+use Rattle.words.proofs.Visited.{Visited}
 use Rattle.words.proofs.candidate.least_renaming.Given as goal
 
 abbrev pub invariant-loop-c : goal.invariant-loop-c

@@ -1,5 +1,4 @@
-use Rattle.std.proofs.Common.{◌≡◌, ◌-◌, length, drop, rules}
-use Rattle.words.specs.Rename.{renamed}
+use Rattle.std.proofs.Common.{rules}
 use Rattle.words.proofs.Renamed.{names_ended, numbers_ended, name_here, name_later}
 use Rattle.words.proofs.candidate.new_name.Goals as goal
 

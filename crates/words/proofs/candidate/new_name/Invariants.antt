@@ -1,7 +1,6 @@
 -- `new_name` looks the name up. The loop's invariant: the answer is that of looking from `i` on.
-use Rattle.std.proofs.Common.{◌≡◌, ◌-◌, length, drop, rules}
+use Rattle.std.proofs.Common.{◌≡◌, ◌-◌, length, drop}
 use Rattle.words.specs.Rename.{renamed}
-use Rattle.words.proofs.Renamed.{names_ended, numbers_ended, name_here, name_later}
 use Rattle.words.proofs.candidate.new_name.Given as goal
 
 abbrev pub invariant-loop-i : goal.invariant-loop-i

@@ -1,5 +1,5 @@
 -- `new_number` tells letters from the other numbers.
-use Rattle.std.proofs.Common.{◌∙◌, rules}
+use Rattle.std.proofs.Common.{◌∙◌}
 use Rattle.words.proofs.Renamed.{letter_renamed, other_stays}
 use Rattle.words.proofs.candidate.new_number.Goals as goal
 

@@ -1,5 +1,5 @@
 -- `rename_both` renames each side by the permutation with the number.
-use Rattle.std.proofs.Common.{ap, ◌∙◌, rules}
+use Rattle.std.proofs.Common.{ap, ◌∙◌}
 use lib.Seq.{sets}
 use Rattle.words.specs.Rename.{renamed}
 use Rattle.words.specs.RenameRun.{rename_run}

@@ -1,7 +1,4 @@
-use Rattle.std.proofs.Common.{◌≡◌, ◌-◌, length, drop, rules}
-use lib.Seq.{sets}
-use Rattle.words.specs.Rename.{renamed}
-use Rattle.words.specs.RenameRun.{rename_run}
+use Rattle.std.proofs.Common.{rules}
 use Rattle.words.proofs.Stores.{store_full}
 use Rattle.words.proofs.Renamed.{renaming_next, renaming_ends}
 use Rattle.words.proofs.candidate.rename_run.Goals as goal

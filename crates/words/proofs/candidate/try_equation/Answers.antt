@@ -1,5 +1,4 @@
 -- `try_equation` keeps the first candidate, and of a later one and the best so far the lesser.
-use Rattle.std.proofs.Common.{rules}
 use Rattle.words.proofs.candidate.try_equation.Goals as goal
 
 pub returns-then-c-eq0 : goal.returns-then-c-eq0

@@ -1,5 +1,5 @@
 -- `visit` makes the candidate and tries it.
-use Rattle.std.proofs.Common.{refl, rules}
+use Rattle.std.proofs.Common.{refl}
 use Rattle.words.proofs.Visited.{visited}
 use Rattle.words.proofs.Candidates.{candidate_made}
 use Rattle.words.proofs.candidate.visit.Goals as goal

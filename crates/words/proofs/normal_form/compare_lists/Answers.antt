@@ -1,5 +1,5 @@
 -- The order of the runs is that of the lists (`spelled_order`).
-use Rattle.std.proofs.Common.{◌∙◌, rules}
+use Rattle.std.proofs.Common.{◌∙◌}
 use Rattle.words.specs.Theory.Spelled.{spelled_order}
 use Rattle.words.proofs.normal_form.compare_lists.Goals as goal
 

@@ -1,5 +1,4 @@
-use Rattle.std.proofs.Common.{◌≡◌, ◌-◌, length, drop, rules}
-use lib.Seq.{sets}
+use Rattle.std.proofs.Common.{rules}
 use Rattle.words.proofs.Stores.{store_next, store_full, store_done}
 use Rattle.words.proofs.normal_form.copy.Goals as goal
 

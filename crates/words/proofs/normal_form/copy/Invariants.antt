@@ -1,8 +1,7 @@
 -- `copy` meets its contract. The loop's invariant: what is left to store makes of the list what all numbers make of it.
 -- The measure is what is left of the numbers.
-use Rattle.std.proofs.Common.{◌≡◌, ◌-◌, length, drop, rules}
+use Rattle.std.proofs.Common.{◌≡◌, ◌-◌, length, drop}
 use lib.Seq.{sets}
-use Rattle.words.proofs.Stores.{store_next, store_full, store_done}
 use Rattle.words.proofs.normal_form.copy.Given as goal
 
 abbrev pub invariant-loop-i : goal.invariant-loop-i

@@ -1,5 +1,5 @@
 -- `front` hands back the first numbers, or the whole list where there are fewer.
-use Rattle.std.proofs.Common.{sym, arith, length-take, take_all, rules}
+use Rattle.std.proofs.Common.{sym, arith, length-take, take_all}
 use Rattle.words.proofs.normal_form.front.Goals as goal
 
 pub returns-then-xs-n : goal.returns-then-xs-n

@@ -1,5 +1,4 @@
-use Rattle.std.proofs.Common.{◌≡◌, ◌-◌, ◌≤◌, max, length, ◌∙◌, arith, rules}
-use Rattle.words.specs.Multiply.{Joins}
+use Rattle.std.proofs.Common.{◌∙◌, arith, rules}
 use Rattle.words.proofs.Joined.{join_none, join_next, join_done}
 use Rattle.words.proofs.normal_form.join.Goals as goal
 

@@ -1,8 +1,7 @@
 -- `join` meets its contract. The loop's invariant: it is met for the left slots passed.
 -- The measure is how many of them are left.
-use Rattle.std.proofs.Common.{◌≡◌, ◌-◌, ◌≤◌, max, length, ◌∙◌, arith, rules}
+use Rattle.std.proofs.Common.{◌≡◌, ◌-◌, ◌≤◌, max, length}
 use Rattle.words.specs.Multiply.{Joins}
-use Rattle.words.proofs.Joined.{join_none, join_next, join_done}
 use Rattle.words.proofs.normal_form.join.Given as goal
 
 abbrev pub invariant-loop-i : goal.invariant-loop-i

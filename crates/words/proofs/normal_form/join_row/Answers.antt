@@ -1,5 +1,4 @@
-use Rattle.std.proofs.Common.{◌≡◌, ◌-◌, ◌≤◌, max, length, ◌∙◌, arith, rules}
-use Rattle.words.specs.Multiply.{JoinsRow}
+use Rattle.std.proofs.Common.{◌∙◌, arith, rules}
 use Rattle.words.proofs.Joined.{row_none, row_next, row_done}
 use Rattle.words.proofs.normal_form.join_row.Goals as goal
 

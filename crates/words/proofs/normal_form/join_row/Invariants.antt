@@ -1,8 +1,7 @@
 -- `join_row` meets its contract. The loop's invariant: it is met for the slots passed.
 -- The measure is how many slots are left.
-use Rattle.std.proofs.Common.{◌≡◌, ◌-◌, ◌≤◌, max, length, ◌∙◌, arith, rules}
+use Rattle.std.proofs.Common.{◌≡◌, ◌-◌, ◌≤◌, max, length}
 use Rattle.words.specs.Multiply.{JoinsRow}
-use Rattle.words.proofs.Joined.{row_none, row_next, row_done}
 use Rattle.words.proofs.normal_form.join_row.Given as goal
 
 abbrev pub invariant-loop-i : goal.invariant-loop-i

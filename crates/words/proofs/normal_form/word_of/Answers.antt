@@ -1,5 +1,5 @@
 -- `word_of` hands back the part of the slots that is the word.
-use Rattle.std.proofs.Common.{◌+◌, ◌-◌, ◌*◌, get_or, arith, rules}
+use Rattle.std.proofs.Common.{◌+◌, ◌-◌, ◌*◌, get_or, arith}
 use Rattle.words.proofs.Slots.{no_slot, to_end, letters_there}
 use Rattle.words.proofs.normal_form.word_of.Goals as goal
 
@@ -8,9 +8,6 @@ returns-then-words-k c = no_slot _ _ (omega (arith, c.if-words-k.true))
 
 pub returns-then-words-at : goal.returns-then-words-at
 returns-then-words-at c = no_slot _ _ (omega (arith, c.if-words-at.true))
-
-pub overflow_cast-len : goal.overflow_cast-len
-overflow_cast-len c = omega (arith, c.shared_slice_known-1.given (17 * c.args.k))
 
 pub returns-then-words-start : goal.returns-then-words-start
 returns-then-words-start c = to_end _ _ (omega (arith, c.if-words-start.true))

@@ -1,5 +1,5 @@
 -- `words_of` writes the words of the slots that were filled.
-use Rattle.std.proofs.Common.{arith, length-take, rules}
+use Rattle.std.proofs.Common.{arith, length-take}
 use Rattle.words.proofs.BoundedWords.{multiplied, words_written}
 use Rattle.words.proofs.normal_form.words_of.Goals as goal
 

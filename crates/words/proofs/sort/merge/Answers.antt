@@ -1,5 +1,5 @@
-use Rattle.std.proofs.Common.{◌+◌, ◌-◌, length, sym, ◌∙◌, arith, rules}
-use Rattle.words.proofs.Merging.{MergedTo, merge_start, merge_first, merge_second, merge_end, first_there, second_there}
+use Rattle.std.proofs.Common.{sym, ◌∙◌, arith, rules}
+use Rattle.words.proofs.Merging.{merge_start, merge_first, merge_second, merge_end, first_there, second_there}
 use Rattle.words.proofs.sort.merge.Goals as goal
 
 pub loop-i-init : goal.loop-i-init

@@ -1,5 +1,4 @@
-use Rattle.std.proofs.Common.{◌≡◌, ◌-◌, ◌≤◌, length, take, arith, rules}
-use Rattle.words.specs.Rename.{count_from}
+use Rattle.std.proofs.Common.{arith, rules}
 use Rattle.words.proofs.Numbered.{number_start, number_next, number_end}
 use Rattle.words.proofs.sort.number_slots.Goals as goal
 

@@ -1,7 +1,6 @@
 -- `number_slots` meets its contract. The loop's invariant: what stands before `i` counts up to `i`.
-use Rattle.std.proofs.Common.{◌≡◌, ◌-◌, ◌≤◌, length, take, arith, rules}
+use Rattle.std.proofs.Common.{◌≡◌, ◌-◌, ◌≤◌, length, take}
 use Rattle.words.specs.Rename.{count_from}
-use Rattle.words.proofs.Numbered.{number_start, number_next, number_end}
 use Rattle.words.proofs.sort.number_slots.Given as goal
 
 abbrev pub invariant-loop-i : goal.invariant-loop-i

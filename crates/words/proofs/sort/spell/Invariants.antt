@@ -1,6 +1,6 @@
 -- `spell` meets its contract. The loop's invariant: what stands before `n` spells the words of the first `i` slots, if all find room.
-use Rattle.std.proofs.Common.{◌-◌, ◌≤◌, length, arith, rules}
-use Rattle.words.proofs.Spelling.{SpelledTo, spell_start, spell_next, spell_end}
+use Rattle.std.proofs.Common.{◌-◌, ◌≤◌, length}
+use Rattle.words.proofs.Spelling.{SpelledTo}
 use Rattle.words.proofs.sort.spell.Given as goal
 
 abbrev pub invariant-loop-i : goal.invariant-loop-i

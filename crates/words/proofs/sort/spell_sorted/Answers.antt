@@ -1,5 +1,5 @@
 -- `spell_sorted` numbers as many slots as the list has.
-use Rattle.std.proofs.Common.{ℕ, ◌/◌, length, replicate, arith, length-take, length-take-le, rules}
+use Rattle.std.proofs.Common.{ℕ, ◌/◌, length, replicate, arith, length-take, length-take-le}
 use Rattle.words.specs.Multiply.{MOST}
 use Rattle.words.proofs.sort.spell_sorted.Goals as goal
 

@@ -1,5 +1,5 @@
-use Rattle.std.proofs.Common.{◌≡◌, ◌-◌, ◌≤◌, length, arith, rules}
-use Rattle.words.proofs.Spelling.{LettersTo, no_room, letters_start, letter_next, word_end}
+use Rattle.std.proofs.Common.{arith, rules}
+use Rattle.words.proofs.Spelling.{no_room, letters_start, letter_next, word_end}
 use Rattle.words.proofs.sort.spell_word.Goals as goal
 
 pub returns-then-out-n : goal.returns-then-out-n

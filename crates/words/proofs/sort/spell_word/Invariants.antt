@@ -1,6 +1,6 @@
 -- `spell_word` meets its contract. The loop's invariant: what stands before `i` are the first `i` letters, each plus 1, and what follows the word is kept.
-use Rattle.std.proofs.Common.{◌≡◌, ◌-◌, ◌≤◌, length, arith, rules}
-use Rattle.words.proofs.Spelling.{LettersTo, no_room, letters_start, letter_next, word_end}
+use Rattle.std.proofs.Common.{◌≡◌, ◌-◌, ◌≤◌, length}
+use Rattle.words.proofs.Spelling.{LettersTo}
 use Rattle.words.proofs.sort.spell_word.Given as goal
 
 abbrev pub invariant-loop-i : goal.invariant-loop-i

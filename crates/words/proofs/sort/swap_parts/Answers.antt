@@ -1,5 +1,5 @@
 -- `swap_parts` meets its contract.
-use Rattle.std.proofs.Common.{◌-◌, length, take, sym, ap, ◌∙◌, length-take-le, rules}
+use Rattle.std.proofs.Common.{◌-◌, length, take, sym, ap, ◌∙◌, length-take-le}
 use lib.Seq.{sets}
 use Rattle.words.proofs.Parts.{swapped}
 use Rattle.words.proofs.sort.swap_parts.Goals as goal

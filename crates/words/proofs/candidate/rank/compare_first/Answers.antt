@@ -1,8 +1,6 @@
-use Rattle.std.proofs.Common.{◌≡◌, ◌-◌, ◌≤◌, length, drop, arith, rules}
-use Rattle.words.specs.Words.{order_words}
+use Rattle.std.proofs.Common.{arith, rules}
 use Rattle.words.specs.Rename.{renamed}
-use Rattle.words.specs.RenameRun.{rename_number, rename_run}
-use Rattle.words.specs.Rank.{first_word}
+use Rattle.words.specs.RenameRun.{rename_number}
 use Rattle.words.proofs.FirstWord.{run_ended, end_here, both_ended, end_after, longer_after, less_here, greater_here, equal_here}
 use Rattle.words.proofs.candidate.rank.compare_first.Goals as goal
 

@@ -1,10 +1,9 @@
 -- `compare_first` meets its contract. The loop's invariant: word and run from `i` on compare as the whole ones do.
-use Rattle.std.proofs.Common.{◌≡◌, ◌-◌, ◌≤◌, length, drop, arith, rules}
+use Rattle.std.proofs.Common.{◌≡◌, ◌-◌, ◌≤◌, length, drop}
 use Rattle.words.specs.Words.{order_words}
 use Rattle.words.specs.Rename.{renamed}
-use Rattle.words.specs.RenameRun.{rename_number, rename_run}
+use Rattle.words.specs.RenameRun.{rename_run}
 use Rattle.words.specs.Rank.{first_word}
-use Rattle.words.proofs.FirstWord.{run_ended, end_here, both_ended, end_after, longer_after, less_here, greater_here, equal_here}
 use Rattle.words.proofs.candidate.rank.compare_first.Given as goal
 
 abbrev pub invariant-loop-i : goal.invariant-loop-i

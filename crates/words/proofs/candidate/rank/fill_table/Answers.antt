@@ -1,5 +1,5 @@
 -- `fill_table` meets its contract: the small numbers one after another, renamed.
-use Rattle.std.proofs.Common.{sym, ap, ◌∙◌, rules}
+use Rattle.std.proofs.Common.{sym, ap, ◌∙◌}
 use Rattle.words.specs.Rename.{count_from}
 use Rattle.words.proofs.FirstWord.{table_made}
 use Rattle.words.proofs.candidate.rank.fill_table.Goals as goal

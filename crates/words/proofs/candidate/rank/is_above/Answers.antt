@@ -1,8 +1,5 @@
-use Rattle.std.proofs.Common.{◌≡◌, ◌-◌, ◌≤◌, length, drop, sym, refl, true≢false, arith, length-drop, rules}
-use Rattle.terms.specs.Compare.{order_numbers}
-use Rattle.words.specs.Spelled.{spelled}
+use Rattle.std.proofs.Common.{sym, refl, true≢false, arith, length-drop}
 use Rattle.words.specs.Rename.{renamed}
-use Rattle.words.specs.Rank.{sorted_renamed}
 use Rattle.words.proofs.Parts.{end_lent}
 use Rattle.words.proofs.Ranked.{found_greater, found_equal}
 use Rattle.words.proofs.candidate.rank.is_above.Goals as goal

@@ -1,11 +1,9 @@
 -- `is_above` looks at one word of the run after another. The loop's invariant: the run from `at` on compares with the sorted words from `i` on as the whole ones do.
-use Rattle.std.proofs.Common.{◌≡◌, ◌-◌, ◌≤◌, length, drop, sym, refl, true≢false, arith, length-drop, rules}
+use Rattle.std.proofs.Common.{◌≡◌, ◌-◌, ◌≤◌, length, drop}
 use Rattle.terms.specs.Compare.{order_numbers}
 use Rattle.words.specs.Spelled.{spelled}
 use Rattle.words.specs.Rename.{renamed}
 use Rattle.words.specs.Rank.{sorted_renamed}
-use Rattle.words.proofs.Parts.{end_lent}
-use Rattle.words.proofs.Ranked.{found_greater, found_equal}
 use Rattle.words.proofs.candidate.rank.is_above.Given as goal
 
 abbrev pub invariant-loop-i : goal.invariant-loop-i

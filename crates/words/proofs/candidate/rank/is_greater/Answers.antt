@@ -1,5 +1,5 @@
 -- `is_greater` makes the table and asks of each list whether it comes after the run.
-use Rattle.std.proofs.Common.{sym, true≢false, arith, rules}
+use Rattle.std.proofs.Common.{sym, true≢false, arith}
 use Rattle.words.proofs.candidate.rank.is_greater.Goals as goal
 
 pub returns-then-c-eq0 : goal.returns-then-c-eq0

@@ -1,5 +1,5 @@
 -- `note` counts by what it is told.
-use Rattle.std.proofs.Common.{refl, arith, rules}
+use Rattle.std.proofs.Common.{refl, arith}
 use Rattle.words.proofs.candidate.rank.note.Goals as goal
 
 pub returns-in-Less : goal.returns-in-Less

@@ -1,7 +1,6 @@
 -- `number_by` looks a small number up.
 use Rattle.words.specs.Rename.{renamed}
 use Rattle.words.proofs.FirstWord.{tabled_at}
-use Rattle.std.proofs.Common.{rules}
 use Rattle.words.proofs.candidate.rank.number_by.Goals as goal
 
 pub returns-then-i-table : goal.returns-then-i-table

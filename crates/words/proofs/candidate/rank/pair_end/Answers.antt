@@ -1,5 +1,4 @@
-use Rattle.std.proofs.Common.{◌-◌, ◌/◌, length, rules}
-use Rattle.words.specs.Rank.{Paired}
+use Rattle.std.proofs.Common.{rules}
 use Rattle.words.proofs.Passed.{pair_none, pair_next}
 use Rattle.words.proofs.candidate.rank.pair_end.Goals as goal
 

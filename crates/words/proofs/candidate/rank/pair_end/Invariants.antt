@@ -1,7 +1,6 @@
 -- `pair_end` meets its contract, which is the loop's invariant too.
-use Rattle.std.proofs.Common.{◌-◌, ◌/◌, length, rules}
+use Rattle.std.proofs.Common.{◌-◌, ◌/◌, length}
 use Rattle.words.specs.Rank.{Paired}
-use Rattle.words.proofs.Passed.{pair_none, pair_next}
 use Rattle.words.proofs.candidate.rank.pair_end.Given as goal
 
 abbrev pub invariant-loop-k : goal.invariant-loop-k

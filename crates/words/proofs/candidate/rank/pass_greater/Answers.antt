@@ -1,5 +1,5 @@
 -- `pass_greater` meets its contract.
-use Rattle.std.proofs.Common.{sym, ap, ◌∙◌, rules}
+use Rattle.std.proofs.Common.{sym, ap, ◌∙◌}
 use Rattle.terms.specs.Promises.{ordering_of}
 use Rattle.words.specs.Rename.{renamed}
 use Rattle.words.specs.Rank.{first_word}

@@ -1,9 +1,9 @@
-use Rattle.std.proofs.Common.{◌≡◌, ◌-◌, ◌/◌, ◌≤◌, length, arith, rules}
+use Rattle.std.proofs.Common.{◌≡◌, ◌/◌, length, arith}
 use Rattle.terms.specs.Promises.{ordering_of}
 use Rattle.words.specs.Rename.{renamed}
 use Rattle.words.specs.RenameRun.{rename_run}
 use Rattle.words.specs.Rank.{first_word}
-use Rattle.words.proofs.Ranked.{Counted, none_counted, one_more_counted}
+use Rattle.words.proofs.Ranked.{none_counted, one_more_counted}
 use Rattle.words.proofs.Passed.{all_passed}
 use Rattle.words.proofs.candidate.rank.rank_of.Goals as goal
 

@@ -1,11 +1,9 @@
 -- `rank_of` counts one word after another, or passes some over. The loop's invariant: the words in the first `i` slots are counted.
-use Rattle.std.proofs.Common.{◌≡◌, ◌-◌, ◌/◌, ◌≤◌, length, arith, rules}
-use Rattle.terms.specs.Promises.{ordering_of}
+use Rattle.std.proofs.Common.{◌-◌, ◌/◌, ◌≤◌, length}
 use Rattle.words.specs.Rename.{renamed}
 use Rattle.words.specs.RenameRun.{rename_run}
 use Rattle.words.specs.Rank.{first_word}
-use Rattle.words.proofs.Ranked.{Counted, none_counted, one_more_counted}
-use Rattle.words.proofs.Passed.{all_passed}
+use Rattle.words.proofs.Ranked.{Counted}
 use Rattle.words.proofs.candidate.rank.rank_of.Given as goal
 
 abbrev pub invariant-loop-i : goal.invariant-loop-i

@@ -1,10 +1,8 @@
 -- `rename_by` stores one new number after another. The loop's invariant: what is left to store makes of the buffer what all make of it.
-use Rattle.std.proofs.Common.{◌≡◌, ◌-◌, length, drop, rules}
+use Rattle.std.proofs.Common.{◌≡◌, ◌-◌, length, drop}
 use lib.Seq.{sets}
 use Rattle.words.specs.Rename.{renamed}
 use Rattle.words.specs.RenameRun.{rename_run}
-use Rattle.words.proofs.Stores.{store_full}
-use Rattle.words.proofs.Renamed.{renaming_next, renaming_ends}
 use Rattle.words.proofs.candidate.rank.rename_by.Given as goal
 
 abbrev pub invariant-loop-i : goal.invariant-loop-i

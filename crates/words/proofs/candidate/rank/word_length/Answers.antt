@@ -1,5 +1,4 @@
-use Rattle.std.proofs.Common.{◌≡◌, ◌+◌, ◌-◌, length, drop, rules}
-use Rattle.words.specs.Rank.{first_word}
+use Rattle.std.proofs.Common.{rules}
 use Rattle.words.proofs.FirstWord.{length_ended, length_here, length_later}
 use Rattle.words.proofs.candidate.rank.word_length.Goals as goal
 

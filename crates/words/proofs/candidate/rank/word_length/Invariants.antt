@@ -1,7 +1,6 @@
 -- `word_length` meets its contract. The loop's invariant: the word has `i` letters more than what is left of it.
-use Rattle.std.proofs.Common.{◌≡◌, ◌+◌, ◌-◌, length, drop, rules}
+use Rattle.std.proofs.Common.{◌≡◌, ◌+◌, ◌-◌, length, drop}
 use Rattle.words.specs.Rank.{first_word}
-use Rattle.words.proofs.FirstWord.{length_ended, length_here, length_later}
 use Rattle.words.proofs.candidate.rank.word_length.Given as goal
 
 abbrev pub invariant-loop-i : goal.invariant-loop-i

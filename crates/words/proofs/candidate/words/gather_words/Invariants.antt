@@ -1,9 +1,8 @@
 -- `gather_words` gathers word by word. The loop's invariant: what the words in the first `i` slots give fills the front.
-use Rattle.std.proofs.Common.{◌≡◌, ◌+◌, ◌-◌, ◌/◌, ◌≤◌, length, take, arith, rules}
+use Rattle.std.proofs.Common.{◌-◌, ◌/◌, ◌≤◌, length, take}
 use Rattle.terms.specs.declared.term.Listed.TheVariants.{All}
 use Rattle.terms.specs.Promises.{Fills}
-use Rattle.terms.proofs.Gathered.{fills_length}
-use Rattle.words.proofs.WordNames.{gathered_to, no_words_gathered, word_gathered, words_overflow}
+use Rattle.words.proofs.WordNames.{gathered_to}
 use Rattle.words.proofs.candidate.words.gather_words.Given as goal
 
 abbrev pub invariant-loop-i : goal.invariant-loop-i

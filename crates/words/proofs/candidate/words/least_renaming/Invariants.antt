@@ -1,12 +1,9 @@
 -- `least_renaming` tries every renaming. The loop's invariant: those with numbers below `c` are tried, and the three buffers keep their room.
-use Rattle.std.proofs.Common.{◌≡◌, ◌-◌, ◌*◌, ◌≤◌, length, sym, refl, ◌∙◌, arith, rules}
-use Rattle.words.specs.WordLists.{slot_words, word_candidate, WordRoom}
+use Rattle.std.proofs.Common.{◌≡◌, ◌-◌, ◌*◌, ◌≤◌, length}
+use Rattle.words.specs.WordLists.{word_candidate, WordRoom}
 use Rattle.words.specs.Multiply.{MOST}
 use Rattle.words.specs.Spelled.{SLOT}
-use Rattle.words.specs.Decoded.{factorial}
-use Rattle.words.proofs.RenamedWords.{room_as_long}
-use Rattle.words.proofs.Canonical.{spelled_least}
-use Rattle.words.proofs.Visited.{Visited, none_visited, one_more_visited, all_visited}
+use Rattle.words.proofs.Visited.{Visited}
 use Rattle.words.proofs.candidate.words.least_renaming.Given as goal
 
 abbrev pub invariant-loop-c : goal.invariant-loop-c

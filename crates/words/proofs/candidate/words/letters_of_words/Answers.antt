@@ -1,5 +1,5 @@
 -- `letters_of_words` puts the letters of the second list among those of the first.
-use Rattle.std.proofs.Common.{arith, rules}
+use Rattle.std.proofs.Common.{arith}
 use mathlib.Core.List.{flatten}
 use Rattle.terms.proofs.Gathered.{lists_none, lists_all}
 use Rattle.words.specs.WordLists.{slot_words}

@@ -1,5 +1,5 @@
 -- `put_renamed` puts what the buffer holds: the word renamed, if it has at most 16 letters.
-use Rattle.std.proofs.Common.{refl, rules}
+use Rattle.std.proofs.Common.{refl}
 use Rattle.words.specs.Rename.{renamed}
 use Rattle.words.proofs.RenamedWords.{word_renamed}
 use Rattle.words.proofs.candidate.words.put_renamed.Goals as goal

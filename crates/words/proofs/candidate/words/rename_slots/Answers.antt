@@ -1,6 +1,4 @@
-use Rattle.std.proofs.Common.{◌≡◌, ◌-◌, ◌/◌, ◌≤◌, map, length, refl, ◌∙◌, arith, rules}
-use Rattle.words.specs.Multiply.{PutsWords}
-use Rattle.words.specs.Spelled.{words_in}
+use Rattle.std.proofs.Common.{◌≡◌, ◌/◌, length, refl, ◌∙◌, arith}
 use Rattle.words.specs.RenameRun.{rename_run}
 use Rattle.words.specs.Rename.{renamed}
 use Rattle.words.proofs.RenamedWords.{none_renamed, one_more_renamed}

@@ -1,10 +1,9 @@
 -- `rename_slots` puts one word after another. The loop's invariant: the words in the first `i` slots are put, renamed, if there is room.
-use Rattle.std.proofs.Common.{◌≡◌, ◌-◌, ◌/◌, ◌≤◌, map, length, refl, ◌∙◌, arith, rules}
+use Rattle.std.proofs.Common.{◌≡◌, ◌-◌, ◌/◌, ◌≤◌, map, length}
 use Rattle.words.specs.Multiply.{PutsWords}
 use Rattle.words.specs.Spelled.{words_in}
 use Rattle.words.specs.RenameRun.{rename_run}
 use Rattle.words.specs.Rename.{renamed}
-use Rattle.words.proofs.RenamedWords.{none_renamed, one_more_renamed}
 use Rattle.words.proofs.candidate.words.rename_slots.Given as goal
 
 abbrev pub invariant-loop-i : goal.invariant-loop-i
