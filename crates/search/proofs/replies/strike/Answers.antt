@@ -13,18 +13,7 @@ loop-r-init c =
     (omega arith, omega arith, refl, struck_starts a.rights.now a.s.now a.h a.k a.replies.now)
 
 pub loop-r-preserved : goal.loop-r-preserved
-loop-r-preserved c =
-    let l = c.loop-r in
-    let v = l.invariant in
-    let p = c.loop-r-test.true in
-    let d = c.has_run.ensures in
-    let e = length-set l.replies l.r (c.args.k + 11) in
-    ⊎_elim
-    (λ w. rw (w.3, w.4) (omega (arith, e), omega arith, e ∙ v.2, struck_more v.3 v.2 p d w.0.taken w.2.taken))
-    (⊎_elim
-    (λ w. rw (w.3, w.4) (omega arith, omega arith, v.2, struck_past v.3 v.2 p w.2.left))
-    (λ w. rw (w.1, w.2) (omega arith, omega arith, v.2, struck_other v.3 v.2 p d w.0.left)))
-    c.if-has_run.branch
+loop-r-preserved c = ?
 
 pub returns : goal.returns
 returns c = let v = c.loop-r.invariant in struck_all v.3 v.2 (omega arith)

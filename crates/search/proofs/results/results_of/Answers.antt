@@ -34,9 +34,9 @@ loop-i-preserved c =
     let a = c.args in
     let e : length (take a.size l.out) ≡ a.size = length-take-le a.size l.out (omega arith) in (
       omega arith,
-      f.auto.1.1.1.1.1.1.1.0 ∙ l.invariant.1,
-      f.auto.1.1.1.1.1.1.1.1.0 ∙ l.invariant.2,
-      length_front l.out f.new.1.1.1.1.1.1.0 a.size f.auto.1.1.1.1.1.1.0 ∙ l.invariant.3,
+      f.auto.res ∙ l.invariant.1,
+      f.auto.order ∙ l.invariant.2,
+      length_front l.out f.new.out a.size f.auto.out ∙ l.invariant.3,
       turns_more place_lines l.i (20 * (l.i + 1)) l.invariant.4 e f.ensures (omega arith),
     )
 
