@@ -1,9 +1,7 @@
-use Prim.Native.Nat.{◌≤◌, ◌+◌, ◌-◌}
 use native.Mathlib.Omega.{arith}
-use mathlib.Core.Path.{◌≡◌}
-use lib.ListN.{length, length-set}
+use lib.ListN.{length-set}
 use Rattle.search.proofs.Spans.{old_within}
-use Rattle.search.proofs.Filling.{Filling, filling_starts, letter_long, letter_put, number_long, number_put, fill_ends}
+use Rattle.search.proofs.Filling.{filling_starts, letter_long, letter_put, number_long, number_put, fill_ends}
 use borrow.Author.Rules.{rules}
 use Rattle.search.proofs.line.fill.Goals as goal
 

@@ -1,8 +1,4 @@
-use Prim.Native.Nat.{◌≤◌, ◌-◌}
-use lib.ListN.{length}
-use borrow.Author.Tests.{not-true, not-false}
-use Rattle.search.specs.Span.{Within, Matching}
-use Rattle.search.proofs.Matching.{Pending, matching_starts, letter_bound, end_within, bound_within, letter_unbound, node_matched, node_unmatched, node_absent, matching_ends}
+use Rattle.search.proofs.Matching.{matching_starts, letter_bound, end_within, bound_within, letter_unbound, node_matched, node_unmatched, node_absent, matching_ends}
 use borrow.Author.Rules.{rules}
 use Rattle.search.proofs.search.bind.Goals as goal
 
