@@ -41,7 +41,7 @@ outer-preserved c =
       v.invariant.4 ∙ o.invariant.5,
       refl,
       all_taken v.invariant.5 (opened o.invariant.7 c.outer-test.true c.value_of-distance.ensures (omega (arith, c.if-limits-i.false)) (omega (arith, c.if-limits-distance.false)) (omega (arith, c.requires.4))
-    (ap (λ n. n / 20) (sym (c.open_slot-count.auto.order ∙ o.invariant.4))) c.open_slot-count.ensures) (omega (arith, c.loop-j-test.false)) c.open_slot-count.ensures.few,
+          (ap (λ n. n / 20) (sym (c.open_slot-count.auto.order ∙ o.invariant.4))) c.open_slot-count.ensures) (omega (arith, c.loop-j-test.false)) c.open_slot-count.ensures.few,
       v.invariant.6 ∙ o.invariant.8,
     )
 

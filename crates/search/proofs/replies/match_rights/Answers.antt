@@ -17,20 +17,20 @@ loop-r-preserved c =
     let p = c.loop-r-test.true in
     elim c.match-direct.branch [
       | in-By w ↦
-        let n = w.law_number.result + 1 in
-        rw (w.replies-is, w.waiting-is) (
-          omega (arith, length-set l.replies l.r n),
-          omega arith,
-          length-set l.replies l.r n ∙ v.2,
-          matched_by v.3 p c.run_of.ensures c.search_direct_axiom-direct.ensures w.in-By.is w.law_number.ensures.0,
-        )
+          let n = w.law_number.result + 1 in
+          rw (w.replies-is, w.waiting-is) (
+            omega (arith, length-set l.replies l.r n),
+            omega arith,
+            length-set l.replies l.r n ∙ v.2,
+            matched_by v.3 p c.run_of.ensures c.search_direct_axiom-direct.ensures w.in-By.is w.law_number.ensures.0,
+          )
       | in-Nothing w ↦
-        rw (w.replies-is, w.waiting-is) (
-          omega (arith, length-set l.replies l.r 0),
-          omega arith,
-          length-set l.replies l.r 0 ∙ v.2,
-          matched_none v.3 p c.run_of.ensures c.search_direct_axiom-direct.ensures w.in-Nothing.is,
-        )
+          rw (w.replies-is, w.waiting-is) (
+            omega (arith, length-set l.replies l.r 0),
+            omega arith,
+            length-set l.replies l.r 0 ∙ v.2,
+            matched_none v.3 p c.run_of.ensures c.search_direct_axiom-direct.ensures w.in-Nothing.is,
+          )
     ]
 
 pub returns : goal.returns
