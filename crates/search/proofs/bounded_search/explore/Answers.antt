@@ -1,11 +1,7 @@
-use Prim.Native.Nat.{◌≤◌, ◌<◌, ◌-◌, ◌/◌}
+use Prim.Native.Nat.{◌/◌}
 use native.Mathlib.Omega.{arith}
-use mathlib.Core.Path.{◌≡◌, refl, sym, ap, ◌∙◌}
-use lib.ListN.{length}
-use Rattle.search.specs.Law.{semiring}
-use Rattle.search.specs.Resulted.{most_nodes}
-use Rattle.search.specs.declared.bounded_search.Stop.TheVariants.{Over}
-use Rattle.search.proofs.Standing.{Standing, Opened, Progress, starts}
+use mathlib.Core.Path.{refl, sym, ap, ◌∙◌}
+use Rattle.search.proofs.Standing.{starts}
 use Rattle.search.proofs.Searching.{ends, ends_limit, ends_far, opened, progress_noted, ends_all, ends_full, all_taken}
 use borrow.Author.Rules.{rules}
 use Rattle.search.proofs.bounded_search.explore.Goals as goal

@@ -1,10 +1,7 @@
-use Prim.Native.Nat.{◌≤◌, ◌<◌, ◌-◌}
 use native.Mathlib.Omega.{arith}
-use mathlib.Core.Path.{◌≡◌, sym, ◌∙◌}
-use lib.ListN.{length, drop, get_or}
-use Rattle.search.specs.Index.{hash}
+use mathlib.Core.Path.{sym, ◌∙◌}
+use lib.ListN.{get_or}
 use Rattle.search.proofs.Hashing.{hash_next, hash_ends, mix_small}
-use borrow.Author.Rules.{rules}
 use Rattle.search.proofs.index.hash.Goals as goal
 
 pub overflow_cast-x : goal.overflow_cast-x

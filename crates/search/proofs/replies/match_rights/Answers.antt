@@ -1,9 +1,8 @@
-use Prim.Native.Nat.{◌+◌, ◌≤◌, ◌-◌}
+use Prim.Native.Nat.{◌+◌}
 use native.Mathlib.Omega.{arith}
-use mathlib.Core.Path.{◌≡◌, refl, ◌∙◌}
-use lib.ListN.{length, length-set}
-use Rattle.search.proofs.Replying.{MatchedUpTo, matched_starts, matched_by, matched_none, matched_all}
-use borrow.Author.Rules.{rules}
+use mathlib.Core.Path.{refl, ◌∙◌}
+use lib.ListN.{length-set}
+use Rattle.search.proofs.Replying.{matched_starts, matched_by, matched_none, matched_all}
 use Rattle.search.proofs.replies.match_rights.Goals as goal
 use Rattle.search.proofs.replies.match_rights.Goals.{in-By, in-Nothing}
 

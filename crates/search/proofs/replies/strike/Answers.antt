@@ -1,9 +1,8 @@
-use Prim.Native.Nat.{◌+◌, ◌≤◌, ◌-◌}
+use Prim.Native.Nat.{◌+◌}
 use native.Mathlib.Omega.{arith}
-use mathlib.Core.Path.{◌≡◌, refl, ◌∙◌}
-use lib.ListN.{length, length-set}
-use Rattle.search.proofs.Replying.{StruckUpTo, struck_starts, struck_more, struck_past, struck_other, struck_all}
-use borrow.Author.Rules.{rules}
+use mathlib.Core.Path.{refl, ◌∙◌}
+use lib.ListN.{length-set}
+use Rattle.search.proofs.Replying.{struck_starts, struck_more, struck_past, struck_other, struck_all}
 use Rattle.search.proofs.replies.strike.Goals as goal
 use Rattle.search.proofs.replies.strike.Goals.{then-has_run+then-replies-r-eq0, then-has_run+else-replies-r-eq0, else-has_run}
 

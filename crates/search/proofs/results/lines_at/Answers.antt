@@ -1,9 +1,6 @@
-use Prim.Native.Nat.{◌≤◌, ◌-◌}
 use native.Mathlib.Omega.{arith}
-use mathlib.Core.Path.{◌≡◌, refl, ◌∙◌}
-use lib.ListN.{length}
-use Rattle.search.specs.Resulted.{Adds}
-use Rattle.search.proofs.InTurn.{in_turn, turns_none, step_lines, step_kept, step_passed, step_outgrown, step_repeated, steps_all}
+use mathlib.Core.Path.{refl, ◌∙◌}
+use Rattle.search.proofs.InTurn.{turns_none, step_lines, step_kept, step_passed, step_outgrown, step_repeated, steps_all}
 use Rattle.search.proofs.Trying.{law_bound}
 use borrow.Author.Rules.{rules}
 use Rattle.search.proofs.results.lines_at.Goals as goal

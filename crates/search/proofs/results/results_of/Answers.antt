@@ -1,12 +1,10 @@
-use Prim.Native.Nat.{◌+◌, ◌≤◌, ◌-◌, ◌*◌}
+use Prim.Native.Nat.{◌+◌, ◌*◌}
 use native.Mathlib.Omega.{arith}
 use mathlib.Core.Path.{◌≡◌, refl, ◌∙◌}
 use lib.ListN.{length, take, length-take}
 use lib.Seq.{length-take-le, length_front}
 use Rattle.terms.specs.Theory.Held.{size_of}
-use Rattle.search.specs.Resulted.{Adds}
-use Rattle.search.proofs.InTurn.{in_turn, turns_none, turns_more, place_lines, places_all, resulted_never}
-use borrow.Author.Rules.{rules}
+use Rattle.search.proofs.InTurn.{turns_none, turns_more, place_lines, places_all, resulted_never}
 use Rattle.search.proofs.results.results_of.Goals as goal
 
 pub returns-then-most-s : goal.returns-then-most-s

@@ -1,9 +1,7 @@
-use Prim.Native.Nat.{ℕ, ◌+◌, ◌-◌, ◌/◌, ◌≤◌, ◌<◌}
+use Prim.Native.Nat.{◌+◌, ◌-◌, ◌/◌}
 use native.Mathlib.Omega.{arith}
 use mathlib.Core.Path.{◌≡◌}
-use lib.ListN.{length}
-use Rattle.search.proofs.Sorting.{Seeking, Leaving, Tells, seeking_starts, tells, spot_there}
-use borrow.Author.Rules.{rules}
+use Rattle.search.proofs.Sorting.{seeking_starts, tells, spot_there}
 use Rattle.search.proofs.results.spot_of.Goals as goal
 
 pub loop-low-init : goal.loop-low-init

@@ -6,7 +6,6 @@ use mathlib.Core.Path.{◌≡◌, sym, ◌∙◌}
 use lib.ListN.{length}
 use Rattle.search.specs.Index.{slots_of, bucket_at, head_of, hash_of}
 use Rattle.search.proofs.Hashing.{heads_past, heads_foreign, heads_here}
-use borrow.Author.Rules.{rules}
 use Rattle.search.proofs.slots.newest.Goals as goal
 
 pub returns-then-count-k : goal.returns-then-count-k

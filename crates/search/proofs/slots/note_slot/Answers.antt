@@ -1,7 +1,6 @@
 -- `note_slot` meets its contract.
 use native.Mathlib.Omega.{arith}
 use lib.ListN.{length-set}
-use borrow.Author.Rules.{rules}
 use Rattle.search.proofs.slots.note_slot.Goals as goal
 
 pub bounds-ws-k-2 : goal.bounds-ws-k-2

@@ -1,7 +1,5 @@
-use Prim.Native.Nat.{◌≤◌}
 use native.Mathlib.Omega.{arith}
-use Rattle.search.proofs.Looking.{Passed, Leading, Tells, passed_starts, leading_starts, leading_next, none_noted, tells, found_nowhere}
-use borrow.Author.Rules.{rules}
+use Rattle.search.proofs.Looking.{Tells, passed_starts, leading_starts, leading_next, none_noted, tells, found_nowhere}
 use Rattle.search.proofs.slots.slot_of.Goals as goal
 
 pub returns-then-buckets-eq0 : goal.returns-then-buckets-eq0
