@@ -7,7 +7,6 @@ use mathlib.Core.Bool.{Bool, false}
 use mathlib.Core.List.{List, [], ◌∷◌}
 use lib.ListN.{length, drop, get_or, drop_of_length-le}
 use Rattle.terms.specs.Term.{Term}
-use Rattle.terms.specs.Run.{run}
 use Rattle.terms.specs.Promises.{Equals}
 use Rattle.terms.proofs.Positions.{drop_one}
 use Rattle.terms.specs.Theory.TermOrder.{told_apart}

@@ -9,7 +9,7 @@ use mathlib.Core.List.{List, [], ◌∷◌, ◌++◌, map-append}
 use lib.ListN.{length, take, drop, get_or, length-append, drop_of_length-le}
 use lib.Seq.{drop-cons, get_or-take, length-take-le}
 use Rattle.terms.specs.Lists.{append_cases, only_one}
-use Rattle.terms.specs.Term.{Term, size}
+use Rattle.terms.specs.Term.{Term}
 use Rattle.terms.specs.Theory.Members.{getD_in}
 use Rattle.search.specs.Law.{Law}
 use Rattle.search.specs.Line.{Line}

@@ -1,15 +1,12 @@
 -- `explore` meets its contract. The outer loop's invariant: the search goes on from the `i`-th of `noted` terms. The inner loop's: of the
 -- term that is open, the first `j` results are taken.
-use Prim.Native.Nat.{◌≤◌, ◌<◌, ◌-◌, ◌/◌}
-use native.Mathlib.Omega.{arith}
-use mathlib.Core.Path.{◌≡◌, refl, sym, ap, ◌∙◌}
+use Prim.Native.Nat.{◌≤◌, ◌<◌, ◌-◌}
+use mathlib.Core.Path.{◌≡◌}
 use lib.ListN.{length}
 use Rattle.search.specs.Law.{semiring}
 use Rattle.search.specs.Resulted.{most_nodes}
 use Rattle.search.specs.declared.bounded_search.Stop.TheVariants.{Over}
-use Rattle.search.proofs.Standing.{Standing, Opened, Progress, starts}
-use Rattle.search.proofs.Searching.{ends, ends_limit, ends_far, opened, progress_noted, ends_all, ends_full, all_taken}
-use borrow.Author.Rules.{rules}
+use Rattle.search.proofs.Standing.{Standing, Progress}
 use Rattle.search.proofs.bounded_search.explore.Given as goal
 
 abbrev pub invariant-loop-j : goal.invariant-loop-j

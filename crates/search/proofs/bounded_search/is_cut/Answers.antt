@@ -4,7 +4,6 @@ use mathlib.Core.Path.{sym, subst}
 use lib.Dec.{ltb}
 use Rattle.search.specs.Searched.{Cuts}
 use Rattle.search.proofs.Cutting.{cuts_end, cuts_past, cuts_next}
-use borrow.Author.Rules.{rules}
 use Rattle.search.proofs.bounded_search.is_cut.Goals as goal
 
 pub returns-then-ended : goal.returns-then-ended

@@ -1,20 +1,17 @@
-use Prim.Native.Nat.{◌≤◌, ◌<◌, ◌-◌}
 use native.Mathlib.Omega.{arith}
-use mathlib.Core.Path.{◌≡◌, sym, ◌∙◌}
-use lib.ListN.{length, drop, get_or}
-use Rattle.search.specs.Index.{hash}
+use mathlib.Core.Path.{sym, ◌∙◌}
+use lib.ListN.{get_or}
 use Rattle.search.proofs.Hashing.{hash_next, hash_ends, mix_small}
-use borrow.Author.Rules.{rules}
 use Rattle.search.proofs.index.hash.Goals as goal
 
 pub overflow_cast-x : goal.overflow_cast-x
-overflow_cast-x c = omega (arith, c.shared_slice_known-1.given c.loop-i.i)
+overflow_cast-x c = omega (arith, c.type_inv.s c.loop-i.i)
 
 pub overflow_mul-h-in-loop-i : goal.overflow_mul-h-in-loop-i
-overflow_mul-h-in-loop-i c = omega (arith, c.shared_slice_known-1.given c.loop-i.i)
+overflow_mul-h-in-loop-i c = omega (arith, c.type_inv.s c.loop-i.i)
 
 pub overflow_add-h : goal.overflow_add-h
-overflow_add-h c = omega (arith, c.shared_slice_known-1.given c.loop-i.i)
+overflow_add-h c = omega (arith, c.type_inv.s c.loop-i.i)
 
 pub loop-i-preserved : goal.loop-i-preserved
 loop-i-preserved c =

@@ -1,11 +1,8 @@
 -- `hash` meets its contract. The loop's invariant: the numbers before the `i`-th are taken into `h`.
 use Prim.Native.Nat.{◌≤◌, ◌<◌, ◌-◌}
-use native.Mathlib.Omega.{arith}
-use mathlib.Core.Path.{◌≡◌, sym, ◌∙◌}
-use lib.ListN.{length, drop, get_or}
+use mathlib.Core.Path.{◌≡◌}
+use lib.ListN.{length, drop}
 use Rattle.search.specs.Index.{hash}
-use Rattle.search.proofs.Hashing.{hash_next, hash_ends, mix_small}
-use borrow.Author.Rules.{rules}
 use Rattle.search.proofs.index.hash.Given as goal
 
 abbrev pub invariant-loop-i : goal.invariant-loop-i

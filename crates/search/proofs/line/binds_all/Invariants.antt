@@ -2,8 +2,7 @@
 use Prim.Native.Nat.{◌≤◌, ◌-◌}
 use mathlib.Core.Path.{◌≡◌}
 use lib.ListN.{length, drop}
-use Rattle.search.proofs.Knowing.{all_known, number_passed, letter_passed, letter_missing, known_ends}
-use borrow.Author.Rules.{rules}
+use Rattle.search.proofs.Knowing.{all_known}
 use Rattle.search.proofs.line.binds_all.Given as goal
 
 abbrev pub invariant-loop-k : goal.invariant-loop-k

@@ -1,9 +1,7 @@
-use Prim.Native.Nat.{◌≤◌, ◌+◌, ◌-◌}
 use native.Mathlib.Omega.{arith}
-use mathlib.Core.Path.{◌≡◌}
-use lib.ListN.{length, length-set}
+use lib.ListN.{length-set}
 use Rattle.search.proofs.Spans.{old_within}
-use Rattle.search.proofs.Filling.{Filling, filling_starts, letter_long, letter_put, number_long, number_put, fill_ends}
+use Rattle.search.proofs.Filling.{filling_starts, letter_long, letter_put, number_long, number_put, fill_ends}
 use borrow.Author.Rules.{rules}
 use Rattle.search.proofs.line.fill.Goals as goal
 
@@ -13,16 +11,14 @@ loop-k-init c = search (filling_starts, rules)
 pub returns-then-out-m : goal.returns-then-out-m
 returns-then-out-m c = search (letter_long, old_within, rules)
 
--- BY HAND
--- the part that a letter stands for lies in s
-part-within : (c : tie.After-append-arg invariant-loop decreases-loop) → c.before.before.span_of.result.at + c.before.before.span_of.result.len ≤ length c.before.before.before.before.before.before.before.before.before.before.args.s.now
-part-within c = old_within _ c.before.before.span_of.ensures c.before.before.before.before.before.before.before.before.before.before.requires.1
-
 pub overflow_add-from : goal.overflow_add-from
-overflow_add-from c = omega (arith, part-within c)
+overflow_add-from c = omega (arith, old_within _ c.span_of-v.ensures c.requires.1)
 
 pub offset_bounds-s-from : goal.offset_bounds-s-from
-offset_bounds-s-from c = omega (arith, part-within c)
+offset_bounds-s-from c = omega (arith, old_within _ c.span_of-v.ensures c.requires.1)
+
+pub slice_bounds-append-end : goal.slice_bounds-append-end
+slice_bounds-append-end c = omega (arith, old_within _ c.span_of-v.ensures c.requires.1)
 
 pub loop-k-preserved-then-x-lt3 : goal.loop-k-preserved-then-x-lt3
 loop-k-preserved-then-x-lt3 c = (search rules, omega arith, omega arith, search rules, search (letter_put, rules))

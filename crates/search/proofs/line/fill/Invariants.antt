@@ -1,11 +1,8 @@
 -- `fill` meets its contract. The loop's invariant: what stands after the first `n` numbers is the side up to `k` with its letters' parts put in.
-use Prim.Native.Nat.{◌≤◌, ◌+◌, ◌-◌}
-use native.Mathlib.Omega.{arith}
+use Prim.Native.Nat.{◌≤◌, ◌-◌}
 use mathlib.Core.Path.{◌≡◌}
-use lib.ListN.{length, length-set}
-use Rattle.search.proofs.Spans.{old_within}
-use Rattle.search.proofs.Filling.{Filling, filling_starts, letter_long, letter_put, number_long, number_put, fill_ends}
-use borrow.Author.Rules.{rules}
+use lib.ListN.{length}
+use Rattle.search.proofs.Filling.{Filling}
 use Rattle.search.proofs.line.fill.Given as goal
 
 abbrev pub invariant-loop-k : goal.invariant-loop-k

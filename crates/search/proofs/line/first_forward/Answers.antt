@@ -8,7 +8,6 @@ use Rattle.search.specs.Coded.{law_at}
 use Rattle.search.specs.Bound.{first_number}
 use Rattle.search.proofs.Firsts.{law_told}
 use Rattle.search.specs.declared.search.Direction.TheVariants.{Forward}
-use borrow.Author.Rules.{rules}
 use Rattle.search.proofs.line.first_forward.Goals as goal
 
 pub returns-in-AddAssoc : goal.returns-in-AddAssoc

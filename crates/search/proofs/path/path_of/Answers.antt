@@ -1,9 +1,4 @@
-use Prim.Native.Nat.{◌≤◌}
-use mathlib.Core.Path.{◌≡◌}
-use lib.ListN.{length}
-use lib.Seq.{slice}
-use Rattle.search.specs.Runs.{value_of}
-use Rattle.search.proofs.Tracing.{Tracing, tracing_starts, path_too_long, tracing_stuck, tracing_back, tracing_ends}
+use Rattle.search.proofs.Tracing.{tracing_starts, path_too_long, tracing_stuck, tracing_back, tracing_ends}
 use borrow.Author.Rules.{rules}
 use Rattle.search.proofs.path.path_of.Goals as goal
 

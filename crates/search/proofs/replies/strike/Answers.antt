@@ -1,11 +1,10 @@
-use Prim.Native.Nat.{◌+◌, ◌≤◌, ◌-◌}
+use Prim.Native.Nat.{◌+◌}
 use native.Mathlib.Omega.{arith}
-use mathlib.Core.Path.{◌≡◌, refl, ◌∙◌}
-use mathlib.Core.Logic.{⊎_elim}
-use lib.ListN.{length, length-set}
-use Rattle.search.proofs.Replying.{StruckUpTo, struck_starts, struck_more, struck_past, struck_other, struck_all}
-use borrow.Author.Rules.{rules}
+use mathlib.Core.Path.{refl, ◌∙◌}
+use lib.ListN.{length-set}
+use Rattle.search.proofs.Replying.{struck_starts, struck_more, struck_past, struck_other, struck_all}
 use Rattle.search.proofs.replies.strike.Goals as goal
+use Rattle.search.proofs.replies.strike.Goals.{then-has_run+then-replies-r-eq0, then-has_run+else-replies-r-eq0, else-has_run}
 
 pub loop-r-init : goal.loop-r-init
 loop-r-init c =
@@ -19,12 +18,11 @@ loop-r-preserved c =
     let p = c.loop-r-test.true in
     let d = c.has_run.ensures in
     let e = length-set l.replies l.r (c.args.k + 11) in
-    ⊎_elim
-    (λ w. rw (w.3, w.4) (omega (arith, e), omega arith, e ∙ v.2, struck_more v.3 v.2 p d w.0.taken w.2.taken))
-    (⊎_elim
-    (λ w. rw (w.3, w.4) (omega arith, omega arith, v.2, struck_past v.3 v.2 p w.2.left))
-    (λ w. rw (w.1, w.2) (omega arith, omega arith, v.2, struck_other v.3 v.2 p d w.0.left)))
-    c.if-has_run.branch
+    elim c.if-has_run.branch [
+      | then-has_run+then-replies-r-eq0 w ↦ rw (w.replies-is, w.count-is) (omega (arith, e), omega arith, e ∙ v.2, struck_more v.3 v.2 p d w.if-has_run.true w.if-replies-r-eq0.true)
+      | then-has_run+else-replies-r-eq0 w ↦ rw (w.replies-is, w.count-is) (omega arith, omega arith, v.2, struck_past v.3 v.2 p w.if-replies-r-eq0.false)
+      | else-has_run w ↦ rw (w.replies-is, w.count-is) (omega arith, omega arith, v.2, struck_other v.3 v.2 p d w.if-has_run.false)
+    ]
 
 pub returns : goal.returns
 returns c = let v = c.loop-r.invariant in struck_all v.3 v.2 (omega arith)

@@ -1,11 +1,8 @@
 -- `strike` meets its contract. The loop's invariant: of the first `r` right sides `count` are struck, the others are as they were.
-use Prim.Native.Nat.{◌+◌, ◌≤◌, ◌-◌}
-use native.Mathlib.Omega.{arith}
-use mathlib.Core.Path.{◌≡◌, refl, ◌∙◌}
-use mathlib.Core.Logic.{⊎_elim}
-use lib.ListN.{length, length-set}
-use Rattle.search.proofs.Replying.{StruckUpTo, struck_starts, struck_more, struck_past, struck_other, struck_all}
-use borrow.Author.Rules.{rules}
+use Prim.Native.Nat.{◌≤◌, ◌-◌}
+use mathlib.Core.Path.{◌≡◌}
+use lib.ListN.{length}
+use Rattle.search.proofs.Replying.{StruckUpTo}
 use Rattle.search.proofs.replies.strike.Given as goal
 
 abbrev pub invariant-loop-r : goal.invariant-loop-r

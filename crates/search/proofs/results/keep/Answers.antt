@@ -13,17 +13,16 @@ slice_bounds-spot_of-end-2 c = simp length-take (omega arith)
 
 pub returns-in_default : goal.returns-in_default
 returns-in_default c =
-    let a = f.before.before.before.before.before.args in
-    keeps_already a.ws.now a.noted a.s.now a.step a.res.now a.order.now a.count c.listed.result c.listed.ensures c.if1.false
-    c.spot_of_lem.result c.spot_of_lem.ensures c.in_default.is
+    let a = c.args in
+    keeps_already a.ws.now a.noted a.s.now a.step a.res.now a.order.now a.count c.listed.result c.listed.ensures c.if-listed.false
+    c.spot_of.result c.spot_of.ensures c.in_default.is
 
 pub slice_bounds-shift-end-2 : goal.slice_bounds-shift-end-2
 slice_bounds-shift-end-2 c = simp length-take (omega arith)
 
 pub returns : goal.returns
 returns c =
-    let b = f.before.before.before.before.before in
-    let a = b.args in
-    keeps_more a.ws.now a.noted a.s.now a.step a.res.now a.order.now a.count c.listed.result c.listed.ensures c.if1.false
-    c.spot_of_lem.result c.spot_of_lem.ensures c.in-At.p c.in-At.is b.requires.4 c.write_slot.new.ws c.shift.new.s
+    let a = c.args in
+    keeps_more a.ws.now a.noted a.s.now a.step a.res.now a.order.now a.count c.listed.result c.listed.ensures c.if-listed.false
+    c.spot_of.result c.spot_of.ensures c.in-At.p c.in-At.is c.requires.4 c.write_slot.new.ws c.shift.new.s
     c.write_slot.ensures c.shift.ensures c.shift.auto.s

@@ -12,19 +12,19 @@ pub slice_bounds-too_deep-end : goal.slice_bounds-too_deep-end
 slice_bounds-too_deep-end c = omega (arith, tries_within c.put_line.ensures c.in-To.is)
 
 pub slice_bounds-too_deep-end-2 : goal.slice_bounds-too_deep-end-2
-slice_bounds-too_deep-end-2 c = simp length-take (omega (arith, tries_within c.put_line.ensures c.m.given.1))
+slice_bounds-too_deep-end-2 c = simp length-take (omega (arith, tries_within c.put_line.ensures c.in-To.is))
 
 pub returns-then-too_deep : goal.returns-then-too_deep
 returns-then-too_deep c = search (adds_too_deep, rules)
 
 pub slice_bounds-keep-end : goal.slice_bounds-keep-end
-slice_bounds-keep-end c = omega (arith, tries_within c.put_line.ensures c.m.given.1)
+slice_bounds-keep-end c = omega (arith, tries_within c.put_line.ensures c.in-To.is)
 
 pub slice_bounds-keep-end-2 : goal.slice_bounds-keep-end-2
-slice_bounds-keep-end-2 c = simp length-take (omega (arith, tries_within c.put_line.ensures c.m.given.1))
+slice_bounds-keep-end-2 c = simp length-take (omega (arith, tries_within c.put_line.ensures c.in-To.is))
 
 pub keep-requires : goal.keep-requires
-keep-requires c = simp length-take (omega (arith, tries_within c.put_line.ensures c.m.given.1))
+keep-requires c = simp length-take (omega (arith, tries_within c.put_line.ensures c.in-To.is))
 
 pub returns : goal.returns
 returns c = search (adds_kept, rules)

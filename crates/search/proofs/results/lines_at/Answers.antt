@@ -1,9 +1,6 @@
-use Prim.Native.Nat.{◌≤◌, ◌-◌}
 use native.Mathlib.Omega.{arith}
-use mathlib.Core.Path.{◌≡◌, refl, ◌∙◌}
-use lib.ListN.{length}
-use Rattle.search.specs.Resulted.{Adds}
-use Rattle.search.proofs.InTurn.{in_turn, turns_none, step_lines, step_kept, step_passed, step_outgrown, step_repeated, steps_all}
+use mathlib.Core.Path.{refl, ◌∙◌}
+use Rattle.search.proofs.InTurn.{turns_none, step_lines, step_kept, step_passed, step_outgrown, step_repeated, steps_all}
 use Rattle.search.proofs.Trying.{law_bound}
 use borrow.Author.Rules.{rules}
 use Rattle.search.proofs.results.lines_at.Goals as goal
@@ -42,9 +39,9 @@ loop-n-preserved c =
     let f = c.keep_line-kept in
     let l = c.loop-n in (
       omega (arith, c.loop-n-test.true),
-      f.auto.1.1.1.1.1.1.0 ∙ l.invariant.1,
-      f.auto.1.1.1.1.1.1.1.0 ∙ l.invariant.2,
-      f.auto.1.1.1.1.1.1.1.1.0 ∙ l.invariant.3,
+      f.auto.out ∙ l.invariant.1,
+      f.auto.res ∙ l.invariant.2,
+      f.auto.order ∙ l.invariant.3,
       step_kept c.args.place l.n l.invariant.4 c.law_of-law.result c.direction_of-direction.result c.law_of-law.ensures c.direction_of-direction.ensures l.invariant.1 f.ensures,
     )
 

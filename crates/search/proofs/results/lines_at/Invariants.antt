@@ -1,12 +1,9 @@
 -- `lines_at` meets its contract. The loop's invariant: the lines of the first `n` steps are tried.
 use Prim.Native.Nat.{◌≤◌, ◌-◌}
-use native.Mathlib.Omega.{arith}
-use mathlib.Core.Path.{◌≡◌, refl, ◌∙◌}
+use mathlib.Core.Path.{◌≡◌}
 use lib.ListN.{length}
 use Rattle.search.specs.Resulted.{Adds}
-use Rattle.search.proofs.InTurn.{in_turn, turns_none, step_lines, step_kept, step_passed, step_outgrown, step_repeated, steps_all}
-use Rattle.search.proofs.Trying.{law_bound}
-use borrow.Author.Rules.{rules}
+use Rattle.search.proofs.InTurn.{in_turn, step_lines}
 use Rattle.search.proofs.results.lines_at.Given as goal
 
 abbrev pub invariant-loop-n : goal.invariant-loop-n

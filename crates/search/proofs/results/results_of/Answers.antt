@@ -1,12 +1,10 @@
-use Prim.Native.Nat.{◌+◌, ◌≤◌, ◌-◌, ◌*◌}
+use Prim.Native.Nat.{◌+◌, ◌*◌}
 use native.Mathlib.Omega.{arith}
 use mathlib.Core.Path.{◌≡◌, refl, ◌∙◌}
 use lib.ListN.{length, take, length-take}
 use lib.Seq.{length-take-le, length_front}
 use Rattle.terms.specs.Theory.Held.{size_of}
-use Rattle.search.specs.Resulted.{Adds}
-use Rattle.search.proofs.InTurn.{in_turn, turns_none, turns_more, place_lines, places_all, resulted_never}
-use borrow.Author.Rules.{rules}
+use Rattle.search.proofs.InTurn.{turns_none, turns_more, place_lines, places_all, resulted_never}
 use Rattle.search.proofs.results.results_of.Goals as goal
 
 pub returns-then-most-s : goal.returns-then-most-s
@@ -34,9 +32,9 @@ loop-i-preserved c =
     let a = c.args in
     let e : length (take a.size l.out) ≡ a.size = length-take-le a.size l.out (omega arith) in (
       omega arith,
-      f.auto.1.1.1.1.1.1.1.0 ∙ l.invariant.1,
-      f.auto.1.1.1.1.1.1.1.1.0 ∙ l.invariant.2,
-      length_front l.out f.new.1.1.1.1.1.1.0 a.size f.auto.1.1.1.1.1.1.0 ∙ l.invariant.3,
+      f.auto.res ∙ l.invariant.1,
+      f.auto.order ∙ l.invariant.2,
+      length_front l.out f.new.out a.size f.auto.out ∙ l.invariant.3,
       turns_more place_lines l.i (20 * (l.i + 1)) l.invariant.4 e f.ensures (omega arith),
     )
 

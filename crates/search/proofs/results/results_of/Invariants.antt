@@ -1,13 +1,9 @@
 -- `results_of` meets its contract. The loop's invariant: the lines at the first `i` places are tried.
-use Prim.Native.Nat.{◌+◌, ◌≤◌, ◌-◌, ◌*◌}
-use native.Mathlib.Omega.{arith}
-use mathlib.Core.Path.{◌≡◌, refl, ◌∙◌}
-use lib.ListN.{length, take, length-take}
-use lib.Seq.{length-take-le, length_front}
-use Rattle.terms.specs.Theory.Held.{size_of}
+use Prim.Native.Nat.{◌≤◌, ◌-◌, ◌*◌}
+use mathlib.Core.Path.{◌≡◌}
+use lib.ListN.{length}
 use Rattle.search.specs.Resulted.{Adds}
-use Rattle.search.proofs.InTurn.{in_turn, turns_none, turns_more, place_lines, places_all, resulted_never}
-use borrow.Author.Rules.{rules}
+use Rattle.search.proofs.InTurn.{in_turn, place_lines}
 use Rattle.search.proofs.results.results_of.Given as goal
 
 abbrev pub invariant-loop-i : goal.invariant-loop-i

@@ -1,9 +1,7 @@
-use Prim.Native.Nat.{ℕ, ◌+◌, ◌-◌, ◌/◌, ◌≤◌, ◌<◌}
+use Prim.Native.Nat.{◌+◌, ◌-◌, ◌/◌}
 use native.Mathlib.Omega.{arith}
 use mathlib.Core.Path.{◌≡◌}
-use lib.ListN.{length}
-use Rattle.search.proofs.Sorting.{Seeking, Leaving, Tells, seeking_starts, tells, spot_there}
-use borrow.Author.Rules.{rules}
+use Rattle.search.proofs.Sorting.{seeking_starts, tells, spot_there}
 use Rattle.search.proofs.results.spot_of.Goals as goal
 
 pub loop-low-init : goal.loop-low-init
@@ -11,34 +9,26 @@ loop-low-init c =
     let a = c.args in
     (omega arith, omega arith, seeking_starts a.res.now a.order.now a.s.now, λ h. absurd (omega arith))
 
--- the place between the two
-abbrev middle : ℕ → ℕ → ℕ
-middle low high = low + (high - low) / 2
-
--- BY HAND
--- what the comparison says
-told : (c : tie.After-compare invariant-loop decreases-loop) →
-    let l = c.before.before.before.before in
-    let a = l.before.before.before.before.args in
-    Tells a.res.now a.order.now a.s.now (middle l.loop.low l.loop.high) c.compare.result
-told c =
-    let l = c.before.before.before.before in
-    let a = l.before.before.before.before.args in
-    tells a.res.now a.order.now a.s.now (middle l.loop.low l.loop.high) (omega arith) c.before.run_of.ensures
-    c.compare.result c.compare.ensures
-
 pub loop-low-preserved-in-Less : goal.loop-low-preserved-in-Less
 loop-low-preserved-in-Less c =
     let l = c.loop-low in
-    (omega arith, omega arith, l.invariant.2, λ h. rw c.in-Less.is at (told c))
+    let a = c.args in
+    let t = tells a.res.now a.order.now a.s.now (l.low + (l.high - l.low) / 2) (omega arith) c.run_of-run.ensures c.compare.result c.compare.ensures in
+    (omega arith, omega arith, l.invariant.2, λ h. rw c.in-Less.is at t)
 
 pub returns-in-Equal : goal.returns-in-Equal
-returns-in-Equal c = rw c.in-Equal.is at (told c)
+returns-in-Equal c =
+    let l = c.loop-low in
+    let a = c.args in
+    let t = tells a.res.now a.order.now a.s.now (l.low + (l.high - l.low) / 2) (omega arith) c.run_of-run.ensures c.compare.result c.compare.ensures in
+    rw c.in-Equal.is at t
 
 pub loop-low-preserved : goal.loop-low-preserved
 loop-low-preserved c =
     let l = c.loop-low in
-    (omega arith, omega arith, rw c.in-Greater.is at (told c), l.invariant.3)
+    let a = c.args in
+    let t = tells a.res.now a.order.now a.s.now (l.low + (l.high - l.low) / 2) (omega arith) c.run_of-run.ensures c.compare.result c.compare.ensures in
+    (omega arith, omega arith, rw c.in-Greater.is at t, l.invariant.3)
 
 pub returns : goal.returns
 returns c =

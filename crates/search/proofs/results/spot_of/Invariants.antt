@@ -1,11 +1,8 @@
 -- `spot_of` meets its contract. The loop's invariant: the result goes in behind the first `low`, and before the one at `high` if there is
 -- one.
-use Prim.Native.Nat.{ℕ, ◌+◌, ◌-◌, ◌/◌, ◌≤◌, ◌<◌}
-use native.Mathlib.Omega.{arith}
-use mathlib.Core.Path.{◌≡◌}
+use Prim.Native.Nat.{◌-◌, ◌≤◌, ◌<◌}
 use lib.ListN.{length}
-use Rattle.search.proofs.Sorting.{Seeking, Leaving, Tells, seeking_starts, tells, spot_there}
-use borrow.Author.Rules.{rules}
+use Rattle.search.proofs.Sorting.{Seeking, Leaving}
 use Rattle.search.proofs.results.spot_of.Given as goal
 
 abbrev pub invariant-loop-low : goal.invariant-loop-low

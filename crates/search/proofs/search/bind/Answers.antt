@@ -1,8 +1,4 @@
-use Prim.Native.Nat.{◌≤◌, ◌-◌}
-use lib.ListN.{length}
-use borrow.Author.Tests.{not-true, not-false}
-use Rattle.search.specs.Span.{Within, Matching}
-use Rattle.search.proofs.Matching.{Pending, matching_starts, letter_bound, end_within, bound_within, letter_unbound, node_matched, node_unmatched, node_absent, matching_ends}
+use Rattle.search.proofs.Matching.{matching_starts, letter_bound, end_within, bound_within, letter_unbound, node_matched, node_unmatched, node_absent, matching_ends}
 use borrow.Author.Rules.{rules}
 use Rattle.search.proofs.search.bind.Goals as goal
 
@@ -13,14 +9,14 @@ pub may_meet-requires : goal.may_meet-requires
 may_meet-requires c = search (end_within, rules)
 
 pub returns-then-not-may_meet : goal.returns-then-not-may_meet
-returns-then-not-may_meet c = search (letter_unbound, not-true, rules)
+returns-then-not-may_meet c = search (letter_unbound, rules)
 
 pub overflow_sub-end : goal.overflow_sub-end
 overflow_sub-end c = search (end_within, rules)
 
 pub loop-k-preserved-then-x-lt3 : goal.loop-k-preserved-then-x-lt3
 loop-k-preserved-then-x-lt3 c =
-    let q = not-false c.may_meet.result c.if-not-may_meet.false in (
+    let q = c.if-not-may_meet.false in (
       search rules,
       search (end_within, rules),
       bound_within _ _ _ _ _ _ _ c.may_meet.ensures q c.with_span-bound.ensures,

@@ -1,10 +1,8 @@
 -- `bind` meets its contract. The loop's invariant: the patterns from `k` on, matched in turn with the terms from `i` on, give what the whole match gives.
 use Prim.Native.Nat.{◌≤◌, ◌-◌}
 use lib.ListN.{length}
-use borrow.Author.Tests.{not-true, not-false}
 use Rattle.search.specs.Span.{Within, Matching}
-use Rattle.search.proofs.Matching.{Pending, matching_starts, letter_bound, end_within, bound_within, letter_unbound, node_matched, node_unmatched, node_absent, matching_ends}
-use borrow.Author.Rules.{rules}
+use Rattle.search.proofs.Matching.{Pending}
 use Rattle.search.proofs.search.bind.Given as goal
 
 abbrev pub invariant-loop-k : goal.invariant-loop-k

@@ -1,5 +1,4 @@
-use Prim.Native.Nat.{◌≤◌, ◌-◌}
-use Rattle.search.proofs.Directing.{Passing, passing_starts, passed_over, law_taken, no_law}
+use Rattle.search.proofs.Directing.{passing_starts, passed_over, law_taken, no_law}
 use borrow.Author.Rules.{rules}
 use Rattle.search.proofs.search.first_law.Goals as goal
 

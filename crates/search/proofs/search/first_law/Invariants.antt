@@ -1,7 +1,6 @@
 -- `first_law` meets its contract. The loop's invariant: none of the first `n` laws matches.
 use Prim.Native.Nat.{◌≤◌, ◌-◌}
-use Rattle.search.proofs.Directing.{Passing, passing_starts, passed_over, law_taken, no_law}
-use borrow.Author.Rules.{rules}
+use Rattle.search.proofs.Directing.{Passing}
 use Rattle.search.proofs.search.first_law.Given as goal
 
 abbrev pub invariant-loop-n : goal.invariant-loop-n

@@ -1,7 +1,6 @@
 -- `law_of` meets its contract.
 use mathlib.Core.Path.{sym}
 use lib.ListN.{get_or-eq_default}
-use borrow.Author.Rules.{rules}
 use Rattle.search.specs.Coded.{laws}
 use Rattle.search.specs.declared.search.Law.TheVariants.{AddAssoc}
 use Rattle.search.proofs.search.law_of.Goals as goal

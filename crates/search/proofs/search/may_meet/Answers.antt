@@ -14,5 +14,8 @@ overflow_add-from c = omega (arith, old_within _ c.span_of-old.ensures c.require
 pub offset_bounds-s-from : goal.offset_bounds-s-from
 offset_bounds-s-from c = omega (arith, old_within _ c.span_of-old.ensures c.requires.3)
 
+pub slice_bounds-equal-end : goal.slice_bounds-equal-end
+slice_bounds-equal-end c = omega (arith, old_within _ c.span_of-old.ensures c.requires.3)
+
 pub returns : goal.returns
 returns c = search (meets_old, rules)

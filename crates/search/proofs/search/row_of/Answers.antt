@@ -3,7 +3,6 @@ use Rattle.terms.specs.Run.{run}
 use Rattle.search.specs.Law.{semiring}
 use Rattle.search.specs.Coded.{law_at}
 use Rattle.search.proofs.Rows.{side_row, row, law_row}
-use borrow.Author.Rules.{rules}
 use Rattle.search.proofs.search.row_of.Goals as goal
 
 pub returns-in-AddAssoc : goal.returns-in-AddAssoc

@@ -14,4 +14,4 @@ returns-then-x-eq1 c = search (first_if, second_if, rules)
 
 pub returns : goal.returns
 unfolding span_of
-returns c = search (first_if, second_if, rules)
+returns c = search (second_if, rules)

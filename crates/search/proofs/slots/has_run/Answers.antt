@@ -1,6 +1,5 @@
 -- `has_run` meets its contract.
 use Rattle.search.proofs.Hashing.{compared, hash_differs}
-use borrow.Author.Rules.{rules}
 use Rattle.search.proofs.slots.has_run.Goals as goal
 
 pub returns-then-ws-k : goal.returns-then-ws-k

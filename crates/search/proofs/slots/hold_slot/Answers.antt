@@ -1,6 +1,5 @@
 -- `hold_slot` meets its contract.
 use Rattle.search.proofs.Holding.{holds_run}
-use borrow.Author.Rules.{rules}
 use Rattle.search.proofs.slots.hold_slot.Goals as goal
 
 pub returns : goal.returns

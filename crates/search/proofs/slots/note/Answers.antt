@@ -1,6 +1,5 @@
 -- `note` meets its contract: a slot written and linked is one more noted term.
 use Rattle.search.proofs.Noting.{notes}
-use borrow.Author.Rules.{rules}
 use Rattle.search.proofs.slots.note.Goals as goal
 
 pub returns : goal.returns

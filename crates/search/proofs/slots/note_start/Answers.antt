@@ -1,6 +1,5 @@
 -- `note_start` meets its contract: a slot written and linked is the first noted term.
 use Rattle.search.proofs.Noting.{starts}
-use borrow.Author.Rules.{rules}
 use Rattle.search.proofs.slots.note_start.Goals as goal
 
 pub returns : goal.returns

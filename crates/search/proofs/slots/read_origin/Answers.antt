@@ -1,6 +1,5 @@
 -- `read_origin` meets its contract.
 use borrow.Author.Tests.{ne_eqb}
-use borrow.Author.Rules.{rules}
 use Rattle.search.proofs.slots.read_origin.Goals as goal
 
 pub returns-then-tag-eq0 : goal.returns-then-tag-eq0

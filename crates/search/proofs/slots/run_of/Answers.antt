@@ -10,7 +10,7 @@ pub returns-then-ws-b : goal.returns-then-ws-b
 returns-then-ws-b c = search (shows_no_slot, rules)
 
 pub overflow_cast-n : goal.overflow_cast-n
-overflow_cast-n c = omega (arith, c.shared_slice_known-1.given (SLOT * c.args.k))
+overflow_cast-n c = omega (arith, c.type_inv.ws (SLOT * c.args.k))
 
 pub returns-then-ws-b-2 : goal.returns-then-ws-b-2
 returns-then-ws-b-2 c = search (shows_no_run, rules)

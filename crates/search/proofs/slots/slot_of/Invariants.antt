@@ -1,8 +1,6 @@
 -- `slot_of` meets its contract. The loop's invariant: no slot from `end` on has the run, and of the others slot `k` is the newest in the run's bucket.
 use Prim.Native.Nat.{◌≤◌}
-use native.Mathlib.Omega.{arith}
-use Rattle.search.proofs.Looking.{Passed, Leading, Tells, passed_starts, leading_starts, leading_next, none_noted, tells, found_nowhere}
-use borrow.Author.Rules.{rules}
+use Rattle.search.proofs.Looking.{Passed, Leading}
 use Rattle.search.proofs.slots.slot_of.Given as goal
 
 abbrev pub invariant-loop-k : goal.invariant-loop-k

@@ -1,7 +1,6 @@
 -- `value_of` meets its contract: past the end of the slots every number is 0.
 use mathlib.Core.Path.{sym}
 use lib.ListN.{get_or-eq_default}
-use borrow.Author.Rules.{rules}
 use Rattle.search.proofs.slots.value_of.Goals as goal
 
 pub returns-then-ws-at : goal.returns-then-ws-at

@@ -2,7 +2,6 @@
 use native.Mathlib.Numerals.{towards_suc}
 use native.Mathlib.Omega.{arith}
 use lib.ListN.{length-set}
-use borrow.Author.Rules.{rules}
 use Rattle.search.proofs.slots.write_origin.Goals as goal
 
 pub bounds-ws-at-in-Start : goal.bounds-ws-at-in-Start

@@ -3,7 +3,6 @@ use native.Mathlib.Omega.{arith}
 use mathlib.Core.Path.{◌∙◌}
 use lib.ListN.{length-set}
 use Rattle.search.proofs.Writing.{writes}
-use borrow.Author.Rules.{rules}
 use Rattle.search.proofs.slots.write_slot.Goals as goal
 
 pub write_origin-requires : goal.write_origin-requires
