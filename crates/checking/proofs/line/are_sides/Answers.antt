@@ -15,12 +15,12 @@ loop-i-init c = (c.requires.0, refl)
 pub returns-then-not-is_side : goal.returns-then-not-is_side
 returns-then-not-is_side c =
     let a = c.args in
-    no_side a.s.now c.loop-i.i a.to (omega arith) c.requires.1 (sym (not-true c.is_side.result c.if-not-is_side.true) ∙ c.is_side.ensures) ∙ sym c.loop-i.invariant.1
+    no_side a.s.now c.loop-i.i a.to (omega arith) c.requires.1 (sym c.if-not-is_side.true ∙ c.is_side.ensures) ∙ sym c.loop-i.invariant.1
 
 pub loop-i-preserved : goal.loop-i-preserved
 loop-i-preserved c =
     let a = c.args in
-    (omega arith, c.loop-i.invariant.1 ∙ some_side a.s.now c.loop-i.i a.to (omega arith) c.requires.1 (sym (not-false c.is_side.result c.if-not-is_side.false) ∙ c.is_side.ensures))
+    (omega arith, c.loop-i.invariant.1 ∙ some_side a.s.now c.loop-i.i a.to (omega arith) c.requires.1 (sym c.if-not-is_side.false ∙ c.is_side.ensures))
 
 pub returns : goal.returns
 returns c =

@@ -16,16 +16,8 @@ returns-in_default c =
     let a = c.args in
     (no_term a.q (slice a.result.from a.result.to a.s.now) (rw c.in_default.is at c.read_term.ensures), search rules)
 
--- BY HAND
--- the term that was read
-term : (c : tie.After-known-told) →
-    let m = c.before.before.before.before.before in
-    let a = m.before.before.before.before.args in
-    TermRead (slice a.result.from a.result.to a.s.now) m.read_term.new.1.1.1.0 c.before.n.given.0.0
-term c = rw c.before.n.given.1 at c.before.before.before.before.before.read_term.ensures
-
 pub returns-in-Term : goal.returns-in-Term
-returns-in-Term c = (a_term (term c) c.in-Term.is, search rules)
+returns-in-Term c = (a_term (rw c.in-At.is at c.read_term.ensures) c.in-Term.is, search rules)
 
 pub returns-in-Small : goal.returns-in-Small
-returns-in-Small c = (a_small_term (term c) c.in-Small.is, search rules)
+returns-in-Small c = (a_small_term (rw c.in-At.is at c.read_term.ensures) c.in-Small.is, search rules)
