@@ -5,7 +5,7 @@ use mathlib.Core.Path.{◌≡◌, refl, sym, ap, subst}
 use mathlib.Core.Bool.{not}
 use mathlib.Core.List.{List}
 use lib.ListN.{length, take}
-use lib.Seq.{slice, sets, length-take-le, length-sets}
+use lib.Seq.{length-take-le}
 use Rattle.text.specs.SideRead.{TermRead}
 use Rattle.checking.specs.LineRead.{LineAt, LineIn}
 use Rattle.checking.specs.PlaceRead.{Locates}
@@ -16,10 +16,6 @@ use Rattle.checking.proofs.chain.follow.Goals as goal
 -- a front is as long as it says
 front_length : (n : ℕ) (xs : List ℕ) → n ≤ length xs → n ≡ length (take n xs)
 front_length n xs h = sym (length-take-le n xs h)
-
--- a buffer keeps its length
-kept_length : {both₁ both : List ℕ} (n : ℕ) (xs : List ℕ) → both₁ ≡ sets both n xs → length both₁ ≡ length both
-kept_length {both = both} n xs e = rw e (length-sets both n xs)
 
 pub returns-in_default : goal.returns-in_default
 returns-in_default c =
@@ -64,16 +60,14 @@ pub slice_bounds-copy-end-2 : goal.slice_bounds-copy-end-2
 slice_bounds-copy-end-2 c = front_length _ _ (rw c.in-At.is at c.read_term.ensures).room
 
 pub slice_bounds-is_use-end-2 : goal.slice_bounds-is_use-end-2
-slice_bounds-is_use-end-2 c =
-    let l = kept_length _ _ c.copy.ensures in
-    front_length _ _ (omega (arith, l, c.requires))
+slice_bounds-is_use-end-2 c = front_length (c.args.n + c.in-At.m) c.copy.new.out (omega arith)
 
 pub is_use-requires : goal.is_use-requires
 is_use-requires c =
-    let l = kept_length _ _ c.copy.ensures in
     let p = rw c.in-At-position_of.is at c.position_of.ensures in
-    let n = front_length c.args.n c.args.both.now (omega (arith, c.requires)) in
-    (omega (arith, p.within, n), omega arith)
+    let n = front_length c.args.n c.args.both.now (omega arith) in
+    let l = front_length (c.args.n + c.in-At.m) c.copy.new.out (omega arith) in
+    (omega (arith, p.within), omega arith)
 
 pub returns-then-not-is_use : goal.returns-then-not-is_use
 returns-then-not-is_use c =

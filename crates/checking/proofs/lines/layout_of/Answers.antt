@@ -36,8 +36,8 @@ well_formed-requires c = let v = rw c.in-Between-keyed.is at c.keyed-2.ensures i
 
 pub returns-then-not-well_formed : goal.returns-then-not-well_formed
 unfolding ascii
-returns-then-not-well_formed c = no_steps c.args.s.now (subst (λ r. Values c.args.s.now 0 (ascii "left=") r) c.in-Between.is c.keyed.ensures) (subst (λ r. Values c.args.s.now (c.in-Between.left_end + 1) (ascii "right=") r) c.in-Between-keyed.is c.keyed-2.ensures) (sym c.well_formed.ensures ∙ c.if-not-well_formed.true)
+returns-then-not-well_formed c = no_steps c.args.s.now (subst (λ r. Values c.args.s.now 0 (ascii "left=") r) c.in-Between.is c.keyed.ensures) (subst (λ r. Values c.args.s.now (c.in-Between.left_end + 1) (ascii "right=") r) c.in-Between-keyed.is c.keyed-2.ensures) (sym c.well_formed-2.ensures ∙ c.if-not-well_formed.true)
 
 pub returns : goal.returns
 unfolding ascii
-returns c = laid_out c.args.s.now (subst (λ r. Values c.args.s.now 0 (ascii "left=") r) c.in-Between.is c.keyed.ensures) (subst (λ r. Values c.args.s.now (c.in-Between.left_end + 1) (ascii "right=") r) c.in-Between-keyed.is c.keyed-2.ensures) (sym c.well_formed.ensures ∙ c.if-not-well_formed.false)
+returns c = laid_out c.args.s.now (subst (λ r. Values c.args.s.now 0 (ascii "left=") r) c.in-Between.is c.keyed.ensures) (subst (λ r. Values c.args.s.now (c.in-Between.left_end + 1) (ascii "right=") r) c.in-Between-keyed.is c.keyed-2.ensures) (sym c.well_formed-2.ensures ∙ c.if-not-well_formed.false)

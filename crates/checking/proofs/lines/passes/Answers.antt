@@ -14,7 +14,7 @@ read_term-requires c =
 pub returns-in_default : goal.returns-in_default
 returns-in_default c =
     let a = c.args in
-    (no_term a.q (slice a.result.from a.result.to a.s.now) (rw c.in_default.is at c.read_term.ensures), search rules)
+    (no_term a.q (slice a.res.from a.res.to a.s.now) (rw c.in_default.is at c.read_term.ensures), search rules)
 
 pub returns-in-Term : goal.returns-in-Term
 returns-in-Term c = (a_term (rw c.in-At.is at c.read_term.ensures) c.in-Term.is, search rules)
