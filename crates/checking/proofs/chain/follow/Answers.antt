@@ -6,9 +6,7 @@ use mathlib.Core.Bool.{not}
 use mathlib.Core.List.{List}
 use lib.ListN.{length, take}
 use lib.Seq.{length-take-le}
-use Rattle.text.specs.SideRead.{TermRead}
-use Rattle.checking.specs.LineRead.{LineAt, LineIn}
-use Rattle.checking.specs.PlaceRead.{Locates}
+use Rattle.checking.specs.LineRead.{LineIn}
 use Rattle.checking.proofs.Following.{no_line, no_term, large_term, no_place, not_used, is_used}
 use Rattle.checking.proofs.LineStarts.{lines_malformed}
 use Rattle.checking.proofs.chain.follow.Goals as goal
@@ -45,13 +43,12 @@ position_of-requires c =
     (w.place_starts, omega (arith, w.place_starts, w.place_ends))
 
 pub returns-in_default-position_of : goal.returns-in_default-position_of
-returns-in_default-position_of c =
-    (
-      no_place (rw c.in-Is.is at c.step_line.ensures) (rw c.in-At.is at c.read_term.ensures)
-          (rw c.in_default-position_of.is at c.position_of.ensures),
-      omega arith,
-      refl,
-    )
+returns-in_default-position_of c = (
+  no_place (rw c.in-Is.is at c.step_line.ensures) (rw c.in-At.is at c.read_term.ensures)
+      (rw c.in_default-position_of.is at c.position_of.ensures),
+  omega arith,
+  refl,
+)
 
 pub slice_bounds-copy-end : goal.slice_bounds-copy-end
 slice_bounds-copy-end c = (rw c.in-At.is at c.read_term.ensures).room
@@ -70,13 +67,12 @@ is_use-requires c =
     (omega (arith, p.within), omega arith)
 
 pub returns-then-not-is_use : goal.returns-then-not-is_use
-returns-then-not-is_use c =
-    (
-      not_used (rw c.in-Is.is at c.step_line.ensures) (rw c.in-At.is at c.read_term.ensures) _ _ _ (rw c.in-At-position_of.is at c.position_of.ensures)
-          (omega (arith, c.requires)) c.copy.ensures c.is_use.ensures (ap not c.if-not-is_use.true),
-      omega arith,
-      omega arith,
-    )
+returns-then-not-is_use c = (
+  not_used (rw c.in-Is.is at c.step_line.ensures) (rw c.in-At.is at c.read_term.ensures) _ _ _ (rw c.in-At-position_of.is at c.position_of.ensures)
+      (omega (arith, c.requires)) c.copy.ensures c.is_use.ensures (ap not c.if-not-is_use.true),
+  omega arith,
+  omega arith,
+)
 
 pub slice_bounds-copy-end-3 : goal.slice_bounds-copy-end-3
 slice_bounds-copy-end-3 c = (rw c.in-At.is at c.read_term.ensures).room
@@ -85,11 +81,10 @@ pub slice_bounds-copy-end-4 : goal.slice_bounds-copy-end-4
 slice_bounds-copy-end-4 c = front_length _ _ (rw c.in-At.is at c.read_term.ensures).room
 
 pub returns : goal.returns
-returns c =
-    (
-      is_used (rw c.in-Is.is at c.step_line.ensures) (rw c.in-At.is at c.read_term.ensures) _ _ _ (rw c.in-At-position_of.is at c.position_of.ensures)
-          (omega (arith, c.requires)) c.copy.ensures c.is_use.ensures (ap not c.if-not-is_use.false) c.if-m-gt31.false
-          c.copy-2.ensures,
-      omega arith,
-      omega arith,
-    )
+returns c = (
+  is_used (rw c.in-Is.is at c.step_line.ensures) (rw c.in-At.is at c.read_term.ensures) _ _ _ (rw c.in-At-position_of.is at c.position_of.ensures)
+      (omega (arith, c.requires)) c.copy.ensures c.is_use.ensures (ap not c.if-not-is_use.false) c.if-m-gt31.false
+      c.copy-2.ensures,
+  omega arith,
+  omega arith,
+)

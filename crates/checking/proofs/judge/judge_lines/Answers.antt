@@ -1,11 +1,11 @@
 -- `judge_lines` meets its contract: the terms are read, then asked for their size, then judged.
 use Prim.Native.Nat.{ℕ, ◌≤◌}
 use native.Mathlib.Omega.{arith}
-use mathlib.Core.Path.{◌≡◌, sym, ap, ◌∙◌}
+use mathlib.Core.Path.{◌≡◌, sym, ap}
 use mathlib.Core.Bool.{not}
 use mathlib.Core.List.{List}
 use lib.ListN.{length, take, replicate, length-take}
-use lib.Seq.{slice, length-take-le}
+use lib.Seq.{length-take-le}
 use Rattle.checking.proofs.Judging.{foul_left, foul_right, foul_result, large_left, large_right, large_result, lines_judged, copied}
 use Rattle.checking.proofs.judge.judge_lines.Goals as goal
 
@@ -57,12 +57,11 @@ returns-then-not-all_pass-2 c =
     (ap not c.if-not-all_pass-2.true)
 
 pub judge_terms-requires : goal.judge_terms-requires
-judge_terms-requires c =
-    (
-      c.requires.0.steps_start,
-      omega arith,
-      omega (arith, ap length c.front.ensures, length-take c.in-At.m c.copy.new.out, c.if-m-gt31.false),
-    )
+judge_terms-requires c = (
+  c.requires.0.steps_start,
+  omega arith,
+  omega (arith, ap length c.front.ensures, length-take c.in-At.m c.copy.new.out, c.if-m-gt31.false),
+)
 
 pub returns : goal.returns
 returns c =

@@ -2,7 +2,6 @@
 use mathlib.Core.Path.{ap}
 use mathlib.Core.Bool.{not}
 use Rattle.checking.proofs.Judging.{many_letters, no_step, not_led, all_led}
-use borrow.Author.Rules.{rules}
 use Rattle.checking.proofs.judge.judge_terms.Goals as goal
 
 pub returns-then-not-few_letters : goal.returns-then-not-few_letters

@@ -1,12 +1,6 @@
-use Prim.Native.Nat.{◌-◌, ◌≤◌}
 use native.Mathlib.Omega.{arith}
-use mathlib.Core.Path.{◌≡◌, refl, sym, ◌∙◌}
-use lib.Seq.{slice}
-use borrow.Author.Tests.{not-true, not-false}
-use Rattle.terms.specs.Numbers.{is_some}
-use Rattle.text.specs.StepText.{read_sides}
+use mathlib.Core.Path.{refl, sym, ◌∙◌}
 use Rattle.checking.proofs.Placed.{no_sides_left, some_side, no_side}
-use borrow.Author.Rules.{rules}
 use Rattle.checking.proofs.line.are_sides.Goals as goal
 
 pub loop-i-init : goal.loop-i-init

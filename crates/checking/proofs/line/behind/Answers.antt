@@ -4,7 +4,6 @@ use mathlib.Core.Path.{◌≡◌, subst}
 use mathlib.Core.Bool.{Bool, true}
 use mathlib.Core.List.{List}
 use Prim.Native.Nat.{ℕ}
-use borrow.Author.Tests.{not-true, not-false}
 use Rattle.text.specs.Reading.{Key, Keys}
 use Rattle.checking.proofs.Spelling.{no_key, key_too_long, key_behind}
 use Rattle.checking.proofs.line.behind.Goals as goal

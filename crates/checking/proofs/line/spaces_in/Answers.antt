@@ -2,7 +2,7 @@
 use Prim.Native.Nat.{◌+◌}
 use native.Mathlib.Omega.{arith}
 use mathlib.Core.Path.{subst}
-use Rattle.checking.specs.LineRead.{SpaceAt, SpaceIn}
+use Rattle.checking.specs.LineRead.{SpaceIn}
 use Rattle.checking.proofs.StepParts.{no_first, no_second, no_third}
 use Rattle.checking.proofs.line.spaces_in.Goals as goal
 

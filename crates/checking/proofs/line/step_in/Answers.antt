@@ -1,13 +1,9 @@
 -- `step_in` meets its contract: law, direction, place and result are read one after the other.
-use Prim.Native.Nat.{ℕ, ◌+◌}
+use Prim.Native.Nat.{◌+◌}
 use native.Mathlib.Omega.{arith}
-use mathlib.Core.Path.{◌≡◌, sym, subst, ◌∙◌}
-use mathlib.Core.Bool.{true}
-use mathlib.Core.List.{List}
-use lib.Seq.{slice}
-use borrow.Author.Tests.{not-true, not-false}
+use mathlib.Core.Path.{sym, subst, ◌∙◌}
 use Rattle.text.specs.Bytes.{ascii}
-use Rattle.checking.specs.LineRead.{Behind, LawIn, DirectionIn, SpacesIn}
+use Rattle.checking.specs.LineRead.{Behind, SpacesIn}
 use Rattle.checking.proofs.StepParts.{no_law, no_direction, no_at, no_place, no_to, step_whole}
 use Rattle.checking.proofs.line.step_in.Goals as goal
 

@@ -1,11 +1,6 @@
-use Prim.Native.Nat.{◌≤◌, ◌-◌}
 use native.Mathlib.Omega.{arith}
-use mathlib.Core.Path.{◌≡◌, refl, subst}
-use mathlib.Core.Bool.{Bool}
-use borrow.Author.Tests.{not-true, not-false}
-use lib.ListN.{length}
-use Rattle.checking.specs.LineRead.{LineAt, LineIn}
-use Rattle.checking.specs.LinesRead.{AllPass}
+use mathlib.Core.Path.{refl, subst}
+use Rattle.checking.specs.LineRead.{LineIn}
 use Rattle.checking.proofs.Asking.{all_passed, pass_malformed, one_fails, one_passes}
 use Rattle.checking.proofs.LineStarts.{lines_malformed, line_later}
 use borrow.Author.Rules.{rules}
@@ -33,8 +28,7 @@ loop-at-smaller c = let n = rw c.in-Is.is at c.step_line.ensures in omega (arith
 
 pub loop-at-preserved : goal.loop-at-preserved
 loop-at-preserved c =
-    let n = rw c.in-Is.is at c.step_line.ensures in
-    (
+    let n = rw c.in-Is.is at c.step_line.ensures in (
       n.ends,
       search rules,
       λ r h. c.loop-at.invariant.2 r (one_passes n c.passes.ensures.0 c.if-not-passes.false h),

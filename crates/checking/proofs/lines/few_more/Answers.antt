@@ -1,12 +1,7 @@
-use Prim.Native.Nat.{◌≤◌, ◌-◌}
 use native.Mathlib.Omega.{arith}
-use mathlib.Core.Path.{◌≡◌, refl, sym, subst}
-use mathlib.Core.Bool.{Bool}
-use lib.ListN.{length}
-use lib.Seq.{slice, length-take-le}
-use Rattle.text.specs.SideRead.{TermRead}
-use Rattle.checking.specs.LineRead.{LineAt, LineIn}
-use Rattle.checking.specs.LinesRead.{FewMore}
+use mathlib.Core.Path.{refl, sym, subst}
+use lib.Seq.{length-take-le}
+use Rattle.checking.specs.LineRead.{LineIn}
 use Rattle.checking.proofs.Lettering.{no_more_letters, few_malformed, few_foul, too_many, more_letters}
 use Rattle.checking.proofs.LineStarts.{lines_malformed, line_later}
 use borrow.Author.Rules.{rules}
@@ -36,11 +31,10 @@ pub slice_bounds-gather-end-in-loop-at : goal.slice_bounds-gather-end-in-loop-at
 slice_bounds-gather-end-in-loop-at c = sym (length-take-le _ _ (rw c.in-At.is at c.read_term.ensures).room)
 
 pub returns-in_default-gather : goal.returns-in_default-gather
-returns-in_default-gather c =
-    (
-      c.loop-at.invariant.3 _ (too_many (rw c.in-Is.is at c.step_line.ensures) (rw c.in-At.is at c.read_term.ensures) _ (rw c.in_default-gather.is at c.gather.ensures)),
-      search rules,
-    )
+returns-in_default-gather c = (
+  c.loop-at.invariant.3 _ (too_many (rw c.in-Is.is at c.step_line.ensures) (rw c.in-At.is at c.read_term.ensures) _ (rw c.in_default-gather.is at c.gather.ensures)),
+  search rules,
+)
 
 pub loop-at-smaller : goal.loop-at-smaller
 loop-at-smaller c =
@@ -48,13 +42,12 @@ loop-at-smaller c =
     omega (arith, line_later n, n.ends)
 
 pub loop-at-preserved : goal.loop-at-preserved
-loop-at-preserved c =
-    (
-      (rw c.in-Is.is at c.step_line.ensures).ends,
-      search rules,
-      search rules,
-      λ r h. c.loop-at.invariant.3 r (more_letters (rw c.in-Is.is at c.step_line.ensures) (rw c.in-At.is at c.read_term.ensures) (rw c.in-All.is at c.gather.ensures) h),
-    )
+loop-at-preserved c = (
+  (rw c.in-Is.is at c.step_line.ensures).ends,
+  search rules,
+  search rules,
+  λ r h. c.loop-at.invariant.3 r (more_letters (rw c.in-Is.is at c.step_line.ensures) (rw c.in-At.is at c.read_term.ensures) (rw c.in-All.is at c.gather.ensures) h),
+)
 
 pub returns : goal.returns
 returns c = (c.loop-at.invariant.3 _ (no_more_letters c.loop-at-test.false), search rules)

@@ -2,11 +2,9 @@
 use Prim.Native.Nat.{◌+◌}
 use native.Mathlib.Omega.{arith}
 use mathlib.Core.Path.{sym, subst, ◌∙◌}
-use borrow.Author.Tests.{not-true, not-false}
 use Rattle.text.specs.Bytes.{ascii}
-use Rattle.text.specs.Reading.{Valued, Values}
+use Rattle.text.specs.Reading.{Values}
 use Rattle.checking.proofs.StepLines.{no_left, no_right, no_steps, laid_out}
-use borrow.Author.Rules.{rules}
 use Rattle.checking.proofs.lines.layout_of.Goals as goal
 
 pub returns-in_default : goal.returns-in_default

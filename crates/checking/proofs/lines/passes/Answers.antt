@@ -1,7 +1,6 @@
 -- `passes` meets its contract: the run that was read is as long as its term is large.
 use native.Mathlib.Omega.{arith}
 use lib.Seq.{slice}
-use Rattle.text.specs.SideRead.{TermRead}
 use Rattle.checking.proofs.Asking.{no_term, a_term, a_small_term}
 use borrow.Author.Rules.{rules}
 use Rattle.checking.proofs.lines.passes.Goals as goal

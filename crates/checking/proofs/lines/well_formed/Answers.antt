@@ -1,12 +1,9 @@
-use Prim.Native.Nat.{◌≤◌, ◌-◌}
 use native.Mathlib.Omega.{arith}
-use mathlib.Core.Path.{◌≡◌, refl, sym, ap, subst, ◌∙◌}
-use lib.ListN.{length}
+use mathlib.Core.Path.{refl, sym, ap, subst, ◌∙◌}
 use Rattle.terms.specs.Numbers.{is_some}
-use Rattle.checking.specs.LineRead.{lines_from, LineAt, LineIn}
+use Rattle.checking.specs.LineRead.{LineIn}
 use Rattle.checking.proofs.StepLines.{no_lines, formed_on}
 use Rattle.checking.proofs.LineStarts.{lines_malformed, line_later}
-use borrow.Author.Rules.{rules}
 use Rattle.checking.proofs.lines.well_formed.Goals as goal
 
 pub loop-at-init : goal.loop-at-init
