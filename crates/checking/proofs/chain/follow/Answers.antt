@@ -40,7 +40,7 @@ slice_bounds-position_of-end-2 c = front_length c.args.n c.args.both.now (omega 
 pub position_of-requires : goal.position_of-requires
 position_of-requires c =
     let w = (rw c.in-Is.is at c.step_line.ensures).stands in
-    (w.place_starts, omega (arith, w.place_starts, w.place_ends))
+    (omega (arith, w.place_starts), omega (arith, w.place_starts, w.place_ends))
 
 pub returns-in_default-position_of : goal.returns-in_default-position_of
 returns-in_default-position_of c = (
