@@ -7,7 +7,7 @@ use Rattle.search.specs.Law.{semiring}
 use Rattle.search.specs.Chain.{any_line, is_chain}
 use Rattle.search.specs.Searched.{slots_of}
 use Rattle.text.specs.Bytes.{ascii}
-use Rattle.text.specs.Answer.{refused, accepted, field, parts}
+use Rattle.text.specs.Answer.{refused, accepted, field}
 use Rattle.text.specs.Find.{block}
 use Rattle.text.specs.Entry.{returned, output_after, FindCall}
 use Rattle.text.specs.Claims.{CallClaims}

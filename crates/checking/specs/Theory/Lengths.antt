@@ -1,5 +1,5 @@
 -- How long texts are at most.
-use Rattle.std.specs.Prelude.{ℕ, zero, suc, ◌+◌, ◌*◌, ◌≤◌, ◌<◌, ◌≡◌, refl, length}
+use Rattle.std.specs.Prelude.{ℕ, suc, ◌+◌, ◌*◌, ◌≤◌, ◌<◌, ◌≡◌, refl, length}
 use Rattle.std.proofs.Common.{arith, ap, ⊎_elim, length-append}
 use Rattle.std.proofs.Math.Option.{some, none-ne-some}
 use mathlib.Core.List.{List, [], ◌∷◌, ◌++◌, flat_map}

@@ -17,7 +17,6 @@ use Rattle.text.specs.Bytes.{ascii, after, end, up_to, parted, pieces}
 use Rattle.text.specs.TermText.{Readable, write_term, read_term}
 use Rattle.text.specs.Layout.{keyed}
 use Rattle.text.specs.Answer.{Answer, accepted, ◌>>=◌, require, or_refuse, field}
-use Rattle.text.specs.Job.{few}
 use Rattle.text.specs.FindJob.{every, all_small}
 use Rattle.text.specs.StepText.{names, which, read_law, read_direction, read_place, step_value}
 use Rattle.text.specs.Find.{step}

@@ -1,14 +1,9 @@
-use Prim.Native.Nat.{◌-◌, ◌≤◌}
 use native.Mathlib.Omega.{arith}
-use mathlib.Core.Path.{◌≡◌, refl, ap, subst, ◌∙◌}
-use mathlib.Core.Bool.{Bool, false}
-use lib.ListN.{length, take, replicate}
+use mathlib.Core.Path.{refl, ap, ◌∙◌}
+use mathlib.Core.Bool.{false}
+use lib.ListN.{length, replicate}
 use lib.Seq.{length-sets}
-use Rattle.checking.specs.declared.chain.Followed.{Followed}
-use Rattle.checking.specs.declared.chain.Followed.TheVariants.{To}
-use Rattle.checking.specs.Judged.{Follows, Leads}
 use Rattle.checking.proofs.Leading.{leads_starts, leads_wrong, leads_on, leads_ends}
-use borrow.Author.Rules.{rules}
 use Rattle.checking.proofs.chain.leads.Goals as goal
 
 pub loop-at-init : goal.loop-at-init
@@ -22,25 +17,18 @@ loop-at-init c =
       leads_starts (replicate 62 0) (omega (arith, p.2)) c.copy.ensures,
     )
 
--- BY HAND
--- what the line is judged to be
-abbrev followed : tie.After-follow invariant-loop decreases-loop → Followed → Type 0
-followed c r = let l = c.before.before.before.before in Follows l.before.before.before.before.before.before.before.before.args.s.now l.loop.at (take l.loop.n l.loop.both) r c.follow.new.1.1.1.0
-
--- BY HAND
-there : (c : tie.After-known-told invariant-loop decreases-loop) → followed c.before.before.before.before.before.before (To c.before.m.given.0.0 c.before.m.given.0.1.0)
-there c = subst (followed c.before.before.before.before.before.before) c.before.m.given.1 c.before.before.before.before.before.before.follow.ensures.0
-
 pub returns-in_default : goal.returns-in_default
-returns-in_default c = c.loop-at.invariant.4 false (leads_wrong c.loop-at-test.true (subst (followed c) c.in_default.is c.follow.ensures.0))
+returns-in_default c = c.loop-at.invariant.4 false (leads_wrong c.loop-at-test.true (rw c.in_default.is at c.follow.ensures.0))
 
 pub loop-at-smaller : goal.loop-at-smaller
-loop-at-smaller c = omega (arith, (there c).onward.1, (there c).onward.2)
+loop-at-smaller c =
+    let f = rw c.in-To.is at c.follow.ensures.0 in
+    omega (arith, f.onward.1, f.onward.2)
 
 pub loop-at-preserved : goal.loop-at-preserved
 loop-at-preserved c =
     let e = c.follow.ensures in
-    let f = there c in (
+    let f = rw c.in-To.is at c.follow.ensures.0 in (
       f.onward.2,
       f.onward.0,
       e.2 ∙ c.loop-at.invariant.2,

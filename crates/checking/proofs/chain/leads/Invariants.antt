@@ -1,15 +1,9 @@
 -- `leads` meets its contract: what the lines left lead to, all lead to.
 use Prim.Native.Nat.{◌-◌, ◌≤◌}
-use native.Mathlib.Omega.{arith}
-use mathlib.Core.Path.{◌≡◌, refl, ap, subst, ◌∙◌}
-use mathlib.Core.Bool.{Bool, false}
-use lib.ListN.{length, take, replicate}
-use lib.Seq.{length-sets}
-use Rattle.checking.specs.declared.chain.Followed.{Followed}
-use Rattle.checking.specs.declared.chain.Followed.TheVariants.{To}
-use Rattle.checking.specs.Judged.{Follows, Leads}
-use Rattle.checking.proofs.Leading.{leads_starts, leads_wrong, leads_on, leads_ends}
-use borrow.Author.Rules.{rules}
+use mathlib.Core.Path.{◌≡◌}
+use mathlib.Core.Bool.{Bool}
+use lib.ListN.{length, take}
+use Rattle.checking.specs.Judged.{Leads}
 use Rattle.checking.proofs.chain.leads.Given as goal
 
 abbrev pub invariant-loop-at : goal.invariant-loop-at

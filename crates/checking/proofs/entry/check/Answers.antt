@@ -5,7 +5,6 @@ use Rattle.text.specs.Bytes.{ascii}
 use Rattle.checking.specs.Check.{good}
 use Rattle.checking.specs.Judged.{Judges}
 use Rattle.checking.proofs.Answering.{check_refused, check_no_room, check_good}
-use borrow.Author.Rules.{rules}
 use Rattle.checking.proofs.entry.check.Goals as goal
 
 pub returns-then-output-lt-GOOD : goal.returns-then-output-lt-GOOD

@@ -6,7 +6,6 @@ use Rattle.text.specs.Bytes.{ascii}
 use Rattle.text.specs.StepText.{direction}
 use Rattle.checking.specs.LineRead.{Spells}
 use Rattle.checking.proofs.Spelling.{forward_known, back_known, direction_unknown}
-use borrow.Author.Rules.{rules}
 use Rattle.checking.proofs.line.direction_in.Goals as goal
 
 pub returns-then-spells : goal.returns-then-spells

@@ -3,7 +3,6 @@ use Rattle.text.specs.Bytes.{ascii}
 use Rattle.text.specs.StepText.{law_name}
 use lib.Seq.{slice}
 use Rattle.checking.proofs.Spelling.{named}
-use borrow.Author.Rules.{rules}
 use Rattle.checking.proofs.line.is_named.Goals as goal
 
 pub returns-in-AddAssoc : goal.returns-in-AddAssoc

@@ -2,7 +2,6 @@
 use native.Mathlib.Omega.{arith}
 use mathlib.Core.Path.{◌∙◌}
 use Rattle.checking.proofs.Placed.{no_place, place_dot, place_sides}
-use borrow.Author.Rules.{rules}
 use Rattle.checking.proofs.line.is_place.Goals as goal
 
 pub returns-then-to-from : goal.returns-then-to-from

@@ -2,6 +2,7 @@
 use Rattle.terms.specs.Numbers.{is_some}
 use Rattle.text.specs.StepText.{read_side}
 use Rattle.checking.proofs.Placed.{other_byte}
+use borrow.Author.Rules.{rules}
 use Rattle.checking.proofs.line.is_side.Goals as goal
 
 pub returns-in-108 : goal.returns-in-108
@@ -13,4 +14,4 @@ unfolding read_side is_some
 returns-in-114 c = rw c.in-114.is
 
 pub returns-in_default : goal.returns-in_default
-returns-in_default c = other_byte _ c.in_default.in_default-own.rest.0.1 c.in_default.in_default-own.rest.1
+returns-in_default c = search (other_byte, rules)

@@ -1,4 +1,3 @@
-use Prim.Native.Nat.{◌-◌, ◌≤◌}
 use native.Mathlib.Omega.{arith}
 use mathlib.Core.Path.{subst}
 use mathlib.Core.Bool.{false}
@@ -6,8 +5,7 @@ use lib.Seq.{slice}
 use Rattle.text.specs.StepText.{law_name}
 use Rattle.search.specs.Coded.{name_of}
 use Rattle.checking.specs.LineRead.{Spells}
-use Rattle.checking.proofs.Spelling.{NoneBelow, none_below_first, none_below_next, law_known, law_unknown}
-use borrow.Author.Rules.{rules}
+use Rattle.checking.proofs.Spelling.{none_below_first, none_below_next, law_known, law_unknown}
 use Rattle.checking.proofs.line.law_in.Goals as goal
 
 pub loop-n-init : goal.loop-n-init

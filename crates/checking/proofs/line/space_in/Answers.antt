@@ -1,6 +1,5 @@
 -- `space_in` meets its contract: the first item ends before the text does.
 use Rattle.checking.proofs.Placed.{no_space, a_space}
-use borrow.Author.Rules.{rules}
 use Rattle.checking.proofs.line.space_in.Goals as goal
 
 pub returns-then-to-end : goal.returns-then-to-end

@@ -2,7 +2,6 @@
 use mathlib.Core.Path.{subst}
 use Rattle.checking.specs.LineRead.{Behind}
 use Rattle.checking.proofs.Spelling.{spelled_not, spelled}
-use borrow.Author.Rules.{rules}
 use Rattle.checking.proofs.line.spells.Goals as goal
 
 pub returns-in_default : goal.returns-in_default

@@ -1,11 +1,6 @@
-use Prim.Native.Nat.{◌≤◌, ◌-◌}
 use native.Mathlib.Omega.{arith}
-use mathlib.Core.Path.{◌≡◌, refl, subst}
-use mathlib.Core.Bool.{Bool}
-use borrow.Author.Tests.{not-true, not-false}
-use lib.ListN.{length}
-use Rattle.checking.specs.LineRead.{LineAt, LineIn}
-use Rattle.checking.specs.LinesRead.{AllPass}
+use mathlib.Core.Path.{refl, subst}
+use Rattle.checking.specs.LineRead.{LineIn}
 use Rattle.checking.proofs.Asking.{all_passed, pass_malformed, one_fails, one_passes}
 use Rattle.checking.proofs.LineStarts.{lines_malformed, line_later}
 use borrow.Author.Rules.{rules}
@@ -20,35 +15,23 @@ returns-in_default c =
     let m = subst (λ r. LineIn s c.loop-at.at r) c.in_default.is c.step_line.ensures in
     (c.loop-at.invariant.2 _ (pass_malformed (lines_malformed s c.loop-at.at m c.loop-at-test.true)), search rules)
 
--- BY HAND
--- the line at the position reached
-line : (c : tie.After-known-told invariant-loop decreases-loop) →
-    let l = c.before.before.before.before.before in
-    let v = c.before.x.given.0 in
-    LineAt l.before.before.before.args.s.now l.loop.at v.0 v.1.0
-line c =
-    let l = c.before.before.before.before.before in
-    let s = l.before.before.before.args.s.now in
-    subst (λ r. LineIn s l.loop.at r) c.before.x.given.1 c.before.before.before.step_line.ensures
-
 pub passes-requires : goal.passes-requires
 passes-requires c =
-    let n = (line c).stands in
+    let n = (rw c.in-Is.is at c.step_line.ensures).stands in
     (omega (arith, n.result_starts, n.place_starts), omega (arith, n.result_ends, n.place_ends), omega (arith, c.loop-at.invariant.1, c.requires.1))
 
 pub returns-then-not-passes : goal.returns-then-not-passes
-returns-then-not-passes c = (c.loop-at.invariant.2 _ (one_fails (line c) c.passes.ensures.0 (not-true _ c.if-not-passes.true)), search rules)
+returns-then-not-passes c = (c.loop-at.invariant.2 _ (one_fails (rw c.in-Is.is at c.step_line.ensures) c.passes.ensures.0 c.if-not-passes.true), search rules)
 
 pub loop-at-smaller : goal.loop-at-smaller
-loop-at-smaller c = let n = line c in omega (arith, line_later n, n.ends)
+loop-at-smaller c = let n = rw c.in-Is.is at c.step_line.ensures in omega (arith, line_later n, n.ends)
 
 pub loop-at-preserved : goal.loop-at-preserved
 loop-at-preserved c =
-    let n = line c in
-    (
+    let n = rw c.in-Is.is at c.step_line.ensures in (
       n.ends,
       search rules,
-      λ r h. c.loop-at.invariant.2 r (one_passes n c.passes.ensures.0 (not-false _ c.if-not-passes.false) h),
+      λ r h. c.loop-at.invariant.2 r (one_passes n c.passes.ensures.0 c.if-not-passes.false h),
     )
 
 pub returns : goal.returns

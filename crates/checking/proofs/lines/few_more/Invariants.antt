@@ -1,16 +1,9 @@
 -- `few_more` meets its contract: the letters of the results passed are among the names, so that what is left decides.
 use Prim.Native.Nat.{◌≤◌, ◌-◌}
-use native.Mathlib.Omega.{arith}
-use mathlib.Core.Path.{◌≡◌, refl, sym, subst}
+use mathlib.Core.Path.{◌≡◌}
 use mathlib.Core.Bool.{Bool}
 use lib.ListN.{length}
-use lib.Seq.{slice, length-take-le}
-use Rattle.text.specs.SideRead.{TermRead}
-use Rattle.checking.specs.LineRead.{LineAt, LineIn}
 use Rattle.checking.specs.LinesRead.{FewMore}
-use Rattle.checking.proofs.Lettering.{no_more_letters, few_malformed, few_foul, too_many, more_letters}
-use Rattle.checking.proofs.LineStarts.{lines_malformed, line_later}
-use borrow.Author.Rules.{rules}
 use Rattle.checking.proofs.lines.few_more.Given as goal
 
 abbrev pub invariant-loop-at : goal.invariant-loop-at

@@ -1,12 +1,9 @@
-use Prim.Native.Nat.{◌≤◌, ◌-◌}
 use native.Mathlib.Omega.{arith}
-use mathlib.Core.Path.{◌≡◌, refl, sym, ap, subst, ◌∙◌}
-use lib.ListN.{length}
+use mathlib.Core.Path.{refl, sym, ap, subst, ◌∙◌}
 use Rattle.terms.specs.Numbers.{is_some}
-use Rattle.checking.specs.LineRead.{lines_from, LineAt, LineIn}
+use Rattle.checking.specs.LineRead.{LineIn}
 use Rattle.checking.proofs.StepLines.{no_lines, formed_on}
 use Rattle.checking.proofs.LineStarts.{lines_malformed, line_later}
-use borrow.Author.Rules.{rules}
 use Rattle.checking.proofs.lines.well_formed.Goals as goal
 
 pub loop-at-init : goal.loop-at-init
@@ -19,23 +16,12 @@ returns-in_default c =
     let m = subst (λ r. LineIn s c.loop-at.at r) c.in_default.is c.step_line.ensures in
     sym (c.loop-at.invariant.1 ∙ ap is_some (lines_malformed s c.loop-at.at m c.loop-at-test.true))
 
--- BY HAND
--- the line at the position reached
-line : (c : tie.After-known-told invariant-loop decreases-loop) →
-    let l = c.before.before.before.before.before in
-    let v = c.before.next.given.0 in
-    LineAt l.before.before.args.s.now l.loop.at v.0 v.1.0
-line c =
-    let l = c.before.before.before.before.before in
-    let s = l.before.before.args.s.now in
-    subst (λ r. LineIn s l.loop.at r) c.before.next.given.1 c.before.before.before.step_line.ensures
-
 pub loop-at-smaller : goal.loop-at-smaller
-loop-at-smaller c = let n = line c in omega (arith, line_later n, n.ends)
+loop-at-smaller c = let n = rw c.in-Is.is at c.step_line.ensures in omega (arith, line_later n, n.ends)
 
 pub loop-at-preserved : goal.loop-at-preserved
 loop-at-preserved c =
-    let n = line c in
+    let n = rw c.in-Is.is at c.step_line.ensures in
     (n.ends, c.loop-at.invariant.1 ∙ formed_on n)
 
 pub returns : goal.returns

@@ -1,13 +1,9 @@
 -- `well_formed` meets its contract: the lines passed are well formed, so that what is left decides.
 use Prim.Native.Nat.{◌≤◌, ◌-◌}
-use native.Mathlib.Omega.{arith}
-use mathlib.Core.Path.{◌≡◌, refl, sym, ap, subst, ◌∙◌}
+use mathlib.Core.Path.{◌≡◌}
 use lib.ListN.{length}
 use Rattle.terms.specs.Numbers.{is_some}
-use Rattle.checking.specs.LineRead.{lines_from, LineAt, LineIn}
-use Rattle.checking.proofs.StepLines.{no_lines, formed_on}
-use Rattle.checking.proofs.LineStarts.{lines_malformed, line_later}
-use borrow.Author.Rules.{rules}
+use Rattle.checking.specs.LineRead.{lines_from}
 use Rattle.checking.proofs.lines.well_formed.Given as goal
 
 abbrev pub invariant-loop-at : goal.invariant-loop-at

@@ -1,5 +1,4 @@
-use Prim.Native.Nat.{◌-◌, ◌≤◌}
-use Rattle.checking.proofs.Placing.{Reaches, follow_starts, follow_ends, follow_dot, follow_left, follow_left_nowhere, follow_right, follow_right_nowhere}
+use Rattle.checking.proofs.Placing.{follow_starts, follow_ends, follow_dot, follow_left, follow_left_nowhere, follow_right, follow_right_nowhere}
 use borrow.Author.Rules.{rules}
 use Rattle.checking.proofs.place.position_of.Goals as goal
 

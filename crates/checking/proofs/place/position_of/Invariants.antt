@@ -1,7 +1,6 @@
 -- `position_of` meets its contract: what is left of the place, at the subterm reached.
 use Prim.Native.Nat.{◌-◌, ◌≤◌}
-use Rattle.checking.proofs.Placing.{Reaches, follow_starts, follow_ends, follow_dot, follow_left, follow_left_nowhere, follow_right, follow_right_nowhere}
-use borrow.Author.Rules.{rules}
+use Rattle.checking.proofs.Placing.{Reaches}
 use Rattle.checking.proofs.place.position_of.Given as goal
 
 abbrev pub invariant-loop-i : goal.invariant-loop-i
