@@ -8,7 +8,7 @@ use Rattle.catalogue.proofs.places.has_list.Goals as goal
 
 -- src/places.rt:52:13
 pub overflow_cast-n : goal.overflow_cast-n
-overflow_cast-n c = omega (arith, c.shared_slice_known-3-1.given c.args.size)
+overflow_cast-n c = omega (arith, c.type_inv.cat c.args.size)
 
 -- src/places.rt:48:1
 pub returns : goal.returns

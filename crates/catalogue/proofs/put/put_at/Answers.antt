@@ -15,16 +15,14 @@ use Rattle.catalogue.proofs.put.put_at.Goals as goal
 -- src/put.rt:31:9
 pub returns-then-known : goal.returns-then-known
 returns-then-known c =
-    let z = h.before.before.before.before.before in
-    put_counted z.requires.0 z.requires.1 z.requires.2 z.requires.3 c.store.ensures _ (λ a. refl)
-    (λ new l. absurd (new (confirmed {P = AnotherOf z.args.cat.now PLACES z.args.key z.args.left.now z.args.right.now}
+    put_counted c.requires.0 c.requires.1 c.requires.2 c.requires.3 c.store.ensures _ (λ a. refl)
+    (λ new l. absurd (new (confirmed {P = AnotherOf c.args.cat.now PLACES c.args.key c.args.left.now c.args.right.now}
     c.has_another-known.result c.has_another-known.ensures c.if-known.true))) c.keep_count.ensures
 
 -- src/put.rt:23:1
 pub returns : goal.returns
 returns c =
-    let z = h.before.before.before.before.before in
-    put_counted z.requires.0 z.requires.1 z.requires.2 z.requires.3 c.store.ensures _
-    (λ a. absurd (refuted {P = AnotherOf z.args.cat.now PLACES z.args.key z.args.left.now z.args.right.now}
+    put_counted c.requires.0 c.requires.1 c.requires.2 c.requires.3 c.store.ensures _
+    (λ a. absurd (refuted {P = AnotherOf c.args.cat.now PLACES c.args.key c.args.left.now c.args.right.now}
     c.has_another-known.result c.has_another-known.ensures c.if-known.false a))
-    (λ new l. one_more _ _ c.wrapping_add_u32.ensures l) c.keep_count-2.ensures
+    (λ new l. one_more _ _ c.wrapping_add_u32.ensures.value l) c.keep_count-2.ensures

@@ -16,7 +16,7 @@ pub returns-then-has_key : goal.returns-then-has_key
 unfolding ascii key_name field
 returns-then-has_key c =
     let a = c.args in
-    key_there a.s.now a.from Raw (subst (Keys a.s.now a.from (key_line raw)) c.if-has_key.true c.has_key_lem.ensures)
+    key_there a.s.now a.from Raw (subst (Keys a.s.now a.from (key_line raw)) c.if-has_key.true c.has_key.ensures)
 
 -- src/read.rt:70:9
 pub returns-then-has_key-2 : goal.returns-then-has_key-2
@@ -30,5 +30,5 @@ pub returns : goal.returns
 unfolding ascii key_name field
 returns c =
     let a = c.args in
-    key_unknown a.s.now a.from (subst (Keys a.s.now a.from (key_line raw)) c.if-has_key.false c.has_key_lem.ensures)
+    key_unknown a.s.now a.from (subst (Keys a.s.now a.from (key_line raw)) c.if-has_key.false c.has_key.ensures)
     (subst (Keys a.s.now a.from (key_line worded)) c.if-has_key-2.false c.has_key-2.ensures)

@@ -9,11 +9,11 @@ use Rattle.catalogue.proofs.withdraw.is_shared.Goals as goal
 
 -- src/withdraw.rt:23:13
 pub overflow_cast-m : goal.overflow_cast-m
-overflow_cast-m c = omega (arith, c.shared_slice_known-2-1.given (PLACE * c.args.k + 2))
+overflow_cast-m c = omega (arith, c.type_inv.cat (PLACE * c.args.k + 2))
 
 -- src/withdraw.rt:24:13
 pub overflow_cast-n : goal.overflow_cast-n
-overflow_cast-n c = omega (arith, c.shared_slice_known-3-1.given (PLACE * c.args.k + 3))
+overflow_cast-n c = omega (arith, c.type_inv.cat (PLACE * c.args.k + 3))
 
 -- src/withdraw.rt:26:9
 pub returns-then-m-gt-ROOM : goal.returns-then-m-gt-ROOM
