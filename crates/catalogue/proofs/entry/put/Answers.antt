@@ -1,16 +1,10 @@
 -- `put` meets its contract.
-use Rattle.std.proofs.Common.{◌≡◌, ℕ, List, subst, arith, rules}
+use Rattle.std.proofs.Common.{◌≡◌, ℕ, List, subst, arith}
 use Rattle.catalogue.specs.Promises.{TakesPut, ReadsPut}
 use Rattle.catalogue.specs.declared.read.Put.{Put}
 use Rattle.catalogue.specs.declared.read.PutRead.{PutRead}
 use Rattle.catalogue.specs.declared.read.PutRead.TheVariants.{Accepted}
 use Rattle.catalogue.proofs.Calling.{other_length, text_refused, put_refused, put_sent}
-use Rattle.catalogue.proofs.entry.put.Reads as reads
-use Rattle.catalogue.proofs.entry.put.Lts as lts
-use Rattle.catalogue.proofs.put.put_equation.Reads as put-equation-reads
-use Rattle.catalogue.proofs.read.read_put.Reads as read-put-reads
-use Rattle.search.proofs.slots.run_of.Reads as run-of-reads
-use Rattle.words.proofs.normal_form.front.Reads as front_reads
 use Rattle.catalogue.proofs.entry.put.Goals as goal
 
 -- src/entry.rt:19:9

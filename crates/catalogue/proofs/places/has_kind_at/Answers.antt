@@ -1,9 +1,5 @@
 -- `has_kind_at` meets its contract.
 use Rattle.catalogue.proofs.Comparing.{refuted, confirmed, left_differs, kind_compared}
-use Rattle.std.proofs.Common.{rules}
-use Rattle.catalogue.proofs.places.has_kind_at.Reads as reads
-use Rattle.catalogue.proofs.places.has_kind_at.Lts as lts
-use Rattle.catalogue.proofs.places.has_list.Reads as has-list-reads
 use Rattle.catalogue.proofs.places.has_kind_at.Goals as goal
 
 -- src/places.rt:67:9

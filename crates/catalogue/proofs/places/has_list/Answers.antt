@@ -1,9 +1,6 @@
 -- `has_list` meets its contract.
-use Rattle.std.proofs.Common.{arith, rules}
+use Rattle.std.proofs.Common.{arith}
 use Rattle.catalogue.proofs.Comparing.{list_compared}
-use Rattle.catalogue.proofs.places.has_list.Reads as reads
-use Rattle.catalogue.proofs.places.has_list.Lts as lts
-use Rattle.terms.proofs.term.equal_by_fours.Reads as equal-by-fours-reads
 use Rattle.catalogue.proofs.places.has_list.Goals as goal
 
 -- src/places.rt:52:13

@@ -1,15 +1,9 @@
 -- `put_at` meets its contract.
-use Rattle.std.proofs.Common.{refl, rules}
+use Rattle.std.proofs.Common.{refl}
 use Rattle.catalogue.specs.Catalogue.{PLACES}
 use Rattle.catalogue.specs.Promises.{AnotherOf}
 use Rattle.catalogue.proofs.Comparing.{refuted, confirmed}
 use Rattle.catalogue.proofs.Counting.{one_more, put_counted}
-use Rattle.catalogue.proofs.put.put_at.Reads as reads
-use Rattle.catalogue.proofs.put.put_at.Lts as lts
-use Rattle.catalogue.proofs.places.has_another.Reads as has-another-reads
-use Rattle.catalogue.proofs.places.keep_count.Reads as keep-count-reads
-use Rattle.catalogue.proofs.places.store.Reads as store-reads
-use Rattle.std.proofs.num.wrapping_add_u32.Reads as wrapping-add-u32-reads
 use Rattle.catalogue.proofs.put.put_at.Goals as goal
 
 -- src/put.rt:31:9

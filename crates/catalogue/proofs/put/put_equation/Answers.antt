@@ -1,11 +1,7 @@
 -- `put_equation` meets its contract.
-use Rattle.std.proofs.Common.{subst, rules}
+use Rattle.std.proofs.Common.{subst}
 use Rattle.catalogue.specs.Promises.{Seeks}
 use Rattle.catalogue.proofs.Calling.{put_again, put_nowhere, put_there}
-use Rattle.catalogue.proofs.put.put_equation.Reads as reads
-use Rattle.catalogue.proofs.put.put_equation.Lts as lts
-use Rattle.catalogue.proofs.places.place_of.Reads as place-of-reads
-use Rattle.catalogue.proofs.put.put_lists.Reads as put-lists-reads
 use Rattle.catalogue.proofs.put.put_equation.Goals as goal
 
 -- src/put.rt:68:9

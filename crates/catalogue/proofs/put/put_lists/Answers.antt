@@ -1,12 +1,6 @@
 -- `put_lists` meets its contract.
-use Rattle.std.proofs.Common.{inl, inr, arith, length-take, rules}
+use Rattle.std.proofs.Common.{inl, inr, arith, length-take}
 use Rattle.catalogue.proofs.Calling.{lists_long, lists_put}
-use Rattle.catalogue.proofs.put.put_lists.Reads as reads
-use Rattle.catalogue.proofs.put.put_lists.Lts as lts
-use Rattle.catalogue.proofs.kind.key_number.Reads as key-number-reads
-use Rattle.catalogue.proofs.kind.lists_of.Reads as lists-of-reads
-use Rattle.catalogue.proofs.put.put_at.Reads as put-at-reads
-use Rattle.words.proofs.normal_form.front.Reads as front_reads
 use Rattle.catalogue.proofs.put.put_lists.Goals as goal
 
 -- src/put.rt:54:9

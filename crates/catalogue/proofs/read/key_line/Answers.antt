@@ -1,14 +1,11 @@
 -- `key_line` meets its contract.
-use Rattle.std.proofs.Common.{subst, rules}
+use Rattle.std.proofs.Common.{subst}
 use Rattle.text.specs.Bytes.{ascii}
 use Rattle.text.specs.Answer.{field}
 use Rattle.text.specs.Reading.{Keys}
 use Rattle.catalogue.specs.Texts.{raw, worded, key_name}
 use Rattle.catalogue.specs.declared.kind.Key.TheVariants.{Raw, Words}
 use Rattle.catalogue.proofs.Reading.{key_line, key_there, key_unknown}
-use Rattle.catalogue.proofs.read.key_line.Reads as reads
-use Rattle.catalogue.proofs.read.key_line.Lts as lts
-use Rattle.text.proofs.job.has_key.Reads as has-key-reads
 use Rattle.catalogue.proofs.read.key_line.Goals as goal
 
 -- src/read.rt:67:9

@@ -1,13 +1,10 @@
 -- `number_line` meets its contract.
-use Rattle.std.proofs.Common.{◌≡◌, ℕ, List, refl, subst, arith, rules}
+use Rattle.std.proofs.Common.{◌≡◌, ℕ, List, refl, subst, arith}
 use Rattle.text.specs.Bytes.{ascii}
 use Rattle.text.specs.LayoutRead.{LimitAt, LimitIn}
 use Rattle.text.specs.declared.job.lines.Limit.{Limit}
 use Rattle.text.specs.declared.job.lines.Limit.TheVariants.{Is}
 use Rattle.catalogue.proofs.Reading.{no_number, number_out, number_there}
-use Rattle.catalogue.proofs.read.number_line.Reads as reads
-use Rattle.catalogue.proofs.read.number_line.Lts as lts
-use Rattle.text.proofs.job.lines.limit_line.Reads as limit-line-reads
 use Rattle.catalogue.proofs.read.number_line.Goals as goal
 
 -- src/read.rt:50:9

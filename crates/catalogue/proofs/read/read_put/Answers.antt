@@ -1,5 +1,5 @@
 -- `read_put` meets its contract.
-use Rattle.std.proofs.Common.{◌≡◌, ℕ, List, subst, arith, rules}
+use Rattle.std.proofs.Common.{◌≡◌, ℕ, List, subst, arith}
 use Rattle.catalogue.specs.Promises.{NumberAt, NumberIn, KeyAt, KeyIn}
 use Rattle.catalogue.specs.declared.kind.Key.{Key}
 use Rattle.catalogue.specs.declared.read.NumberLine.{NumberLine}
@@ -7,11 +7,6 @@ use Rattle.catalogue.specs.declared.read.NumberLine.TheVariants as number-line
 use Rattle.catalogue.specs.declared.read.KeyLine.{KeyLine}
 use Rattle.catalogue.specs.declared.read.KeyLine.TheVariants as key-line
 use Rattle.catalogue.proofs.Reading.{long_put, no_put, no_key, job_refused, job_taken}
-use Rattle.catalogue.proofs.read.read_put.Reads as reads
-use Rattle.catalogue.proofs.read.read_put.Lts as lts
-use Rattle.catalogue.proofs.read.key_line.Reads as key-line-reads
-use Rattle.catalogue.proofs.read.number_line.Reads as number-line-reads
-use Rattle.text.proofs.job.accept.read_job.Reads as read-job-reads
 use Rattle.catalogue.proofs.read.read_put.Goals as goal
 
 -- src/read.rt:81:9

@@ -1,12 +1,9 @@
 -- `read_withdrawal` meets its contract.
-use Rattle.std.proofs.Common.{◌≡◌, ℕ, List, subst, arith, rules}
+use Rattle.std.proofs.Common.{◌≡◌, ℕ, List, subst, arith}
 use Rattle.catalogue.specs.Promises.{NumberAt, NumberIn}
 use Rattle.catalogue.specs.declared.read.NumberLine.{NumberLine}
 use Rattle.catalogue.specs.declared.read.NumberLine.TheVariants.{Is}
 use Rattle.catalogue.proofs.Reading.{long_withdrawal, no_withdrawal, more_behind, withdrawal_read}
-use Rattle.catalogue.proofs.read.read_withdrawal.Reads as reads
-use Rattle.catalogue.proofs.read.read_withdrawal.Lts as lts
-use Rattle.catalogue.proofs.read.number_line.Reads as number-line-reads
 use Rattle.catalogue.proofs.read.read_withdrawal.Goals as goal
 
 -- src/read.rt:104:9

@@ -1,10 +1,7 @@
 -- `is_shared` meets its contract.
-use Rattle.std.proofs.Common.{◌+◌, ◌*◌, arith, rules}
+use Rattle.std.proofs.Common.{◌+◌, ◌*◌, arith}
 use Rattle.catalogue.specs.Stored.{PLACE}
 use Rattle.catalogue.proofs.Comparing.{another_alike}
-use Rattle.catalogue.proofs.withdraw.is_shared.Reads as reads
-use Rattle.catalogue.proofs.withdraw.is_shared.Lts as lts
-use Rattle.catalogue.proofs.places.has_another.Reads as has-another-reads
 use Rattle.catalogue.proofs.withdraw.is_shared.Goals as goal
 
 -- src/withdraw.rt:23:13

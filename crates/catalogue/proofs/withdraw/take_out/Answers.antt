@@ -1,12 +1,7 @@
 -- `take_out` meets its contract.
-use Rattle.std.proofs.Common.{refl, length-set, rules}
+use Rattle.std.proofs.Common.{refl, length-set}
 use Rattle.catalogue.proofs.Comparing.{refuted, confirmed}
 use Rattle.catalogue.proofs.Counting.{one_less, taken_counted}
-use Rattle.catalogue.proofs.withdraw.take_out.Reads as reads
-use Rattle.catalogue.proofs.withdraw.take_out.Lts as lts
-use Rattle.catalogue.proofs.places.keep_count.Reads as keep-count-reads
-use Rattle.catalogue.proofs.withdraw.is_shared.Reads as is-shared-reads
-use Rattle.std.proofs.num.wrapping_sub_u32.Reads as wrapping-sub-u32-reads
 use Rattle.catalogue.proofs.withdraw.take_out.Goals as goal
 
 -- src/withdraw.rt:53:9

@@ -1,12 +1,7 @@
 -- `withdraw_entry` meets its contract.
-use Rattle.std.proofs.Common.{subst, rules}
+use Rattle.std.proofs.Common.{subst}
 use Rattle.catalogue.specs.Promises.{Seeks}
-use Rattle.catalogue.specs.declared.places.Place.TheVariants.{At}
 use Rattle.catalogue.proofs.Calling.{not_there, taken_there}
-use Rattle.catalogue.proofs.withdraw.withdraw_entry.Reads as reads
-use Rattle.catalogue.proofs.withdraw.withdraw_entry.Lts as lts
-use Rattle.catalogue.proofs.places.place_of.Reads as place-of-reads
-use Rattle.catalogue.proofs.withdraw.take_out.Reads as take-out-reads
 use Rattle.catalogue.proofs.withdraw.withdraw_entry.Goals as goal
 
 -- src/withdraw.rt:64:9
