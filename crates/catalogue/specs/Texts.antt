@@ -11,7 +11,7 @@ use Rattle.text.specs.Layout.{keyed, limit_line}
 use Rattle.text.specs.Answer.{Answer, accepted, ◌>>=◌, require, or_refuse}
 use Rattle.text.specs.Job.{Job, read_job}
 use Rattle.text.specs.Rename.{term_lines, renamed_words}
-use Rattle.catalogue.specs.Catalogue.{Entry, Catalogue, put, withdraw, left_by}
+use Rattle.catalogue.specs.Catalogue.{Entry, Catalogue, left_by}
 use Rattle.catalogue.specs.Calls.{Call, puts, withdraws, call}
 
 -- `key=raw` or `key=words`

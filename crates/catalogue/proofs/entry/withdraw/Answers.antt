@@ -1,11 +1,7 @@
 -- `withdraw` meets its contract.
-use Rattle.std.proofs.Common.{subst, arith, rules}
+use Rattle.std.proofs.Common.{subst, arith}
 use Rattle.catalogue.specs.Promises.{ReadsWithdrawal}
 use Rattle.catalogue.proofs.Calling.{other_length, text_refused, withdrawal_refused, withdrawal_sent}
-use Rattle.catalogue.proofs.entry.withdraw.Reads as reads
-use Rattle.catalogue.proofs.entry.withdraw.Lts as lts
-use Rattle.catalogue.proofs.read.read_withdrawal.Reads as read-withdrawal-reads
-use Rattle.catalogue.proofs.withdraw.withdraw_entry.Reads as withdraw-entry-reads
 use Rattle.catalogue.proofs.entry.withdraw.Goals as goal
 
 -- src/entry.rt:43:9

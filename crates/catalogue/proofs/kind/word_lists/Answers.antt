@@ -1,10 +1,5 @@
 -- `word_lists` meets its contract.
 use Rattle.catalogue.proofs.Making.{nothing_made, lists_made}
-use Rattle.std.proofs.Common.{rules}
-use Rattle.catalogue.proofs.kind.word_lists.Reads as reads
-use Rattle.catalogue.proofs.kind.word_lists.Lts as lts
-use Rattle.text.proofs.answer.rename.same_words.Reads as same-words-reads
-use Rattle.words.proofs.candidate.words.canonical_words.Reads as canonical-words-reads
 use Rattle.catalogue.proofs.kind.word_lists.Goals as goal
 
 -- src/kind.rt:29:9

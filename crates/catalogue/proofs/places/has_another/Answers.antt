@@ -1,11 +1,6 @@
-use Rattle.std.proofs.Common.{◌-◌, ◌≤◌, arith, rules}
-use Rattle.catalogue.specs.Catalogue.{PLACES}
-use Rattle.catalogue.specs.Promises.{OtherOf}
-use Rattle.catalogue.proofs.Walking.{NoneOf, none_yet, none_next}
+use Rattle.std.proofs.Common.{arith}
+use Rattle.catalogue.proofs.Walking.{none_yet, none_next}
 use Rattle.catalogue.proofs.Comparing.{refuted, confirmed}
-use Rattle.catalogue.proofs.places.has_another.Reads as reads
-use Rattle.catalogue.proofs.places.has_another.Lts as lts
-use Rattle.catalogue.proofs.places.is_another.Reads as is-another-reads
 use Rattle.catalogue.proofs.places.has_another.Goals as goal
 
 -- src/places.rt:95:5

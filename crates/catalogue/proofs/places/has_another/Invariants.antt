@@ -1,12 +1,8 @@
 -- `has_another` meets its contract.
-use Rattle.std.proofs.Common.{◌-◌, ◌≤◌, arith, rules}
+use Rattle.std.proofs.Common.{◌-◌, ◌≤◌}
 use Rattle.catalogue.specs.Catalogue.{PLACES}
 use Rattle.catalogue.specs.Promises.{OtherOf}
-use Rattle.catalogue.proofs.Walking.{NoneOf, none_yet, none_next}
-use Rattle.catalogue.proofs.Comparing.{refuted, confirmed}
-use Rattle.catalogue.proofs.places.has_another.Reads as reads
-use Rattle.catalogue.proofs.places.has_another.Lts as lts
-use Rattle.catalogue.proofs.places.is_another.Reads as is-another-reads
+use Rattle.catalogue.proofs.Walking.{NoneOf}
 use Rattle.catalogue.proofs.places.has_another.Given as goal
 
 abbrev pub invariant-loop-k : goal.invariant-loop-k

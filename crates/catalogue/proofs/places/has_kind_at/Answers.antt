@@ -1,10 +1,5 @@
 -- `has_kind_at` meets its contract.
 use Rattle.catalogue.proofs.Comparing.{refuted, confirmed, left_differs, kind_compared}
-use borrow.Author.Tests.{not-true, not-false}
-use Rattle.std.proofs.Common.{rules}
-use Rattle.catalogue.proofs.places.has_kind_at.Reads as reads
-use Rattle.catalogue.proofs.places.has_kind_at.Lts as lts
-use Rattle.catalogue.proofs.places.has_list.Reads as has-list-reads
 use Rattle.catalogue.proofs.places.has_kind_at.Goals as goal
 
 -- src/places.rt:67:9
@@ -15,11 +10,11 @@ returns-then-cat-at c = λ K. c.if-cat-at.true K.key
 pub returns-then-not-has_list : goal.returns-then-not-has_list
 returns-then-not-has_list c =
     let a = c.args in
-    left_differs a.cat.now a.k a.key a.left.now a.right.now (refuted c.has_list.result c.has_list.ensures (not-true _ c.if-not-has_list.true))
+    left_differs a.cat.now a.k a.key a.left.now a.right.now (refuted c.has_list.result c.has_list.ensures c.if-not-has_list.true)
 
 -- src/places.rt:61:1
 pub returns : goal.returns
 returns c =
     let a = c.args in
     kind_compared a.cat.now a.k a.key a.left.now a.right.now c.has_list-2.result c.if-cat-at.false
-    (confirmed c.has_list.result c.has_list.ensures (not-false _ c.if-not-has_list.false)) c.has_list-2.ensures
+    (confirmed c.has_list.result c.has_list.ensures c.if-not-has_list.false) c.has_list-2.ensures

@@ -1,14 +1,11 @@
 -- `has_list` meets its contract.
-use Rattle.std.proofs.Common.{arith, rules}
+use Rattle.std.proofs.Common.{arith}
 use Rattle.catalogue.proofs.Comparing.{list_compared}
-use Rattle.catalogue.proofs.places.has_list.Reads as reads
-use Rattle.catalogue.proofs.places.has_list.Lts as lts
-use Rattle.terms.proofs.term.equal_by_fours.Reads as equal-by-fours-reads
 use Rattle.catalogue.proofs.places.has_list.Goals as goal
 
 -- src/places.rt:52:13
 pub overflow_cast-n : goal.overflow_cast-n
-overflow_cast-n c = omega (arith, c.shared_slice_known-3-1.given c.args.size)
+overflow_cast-n c = omega (arith, c.type_inv.cat c.args.size)
 
 -- src/places.rt:48:1
 pub returns : goal.returns

@@ -1,9 +1,5 @@
 -- `is_another` meets its contract.
 use Rattle.catalogue.proofs.Comparing.{another_compared}
-use Rattle.std.proofs.Common.{rules}
-use Rattle.catalogue.proofs.places.is_another.Reads as reads
-use Rattle.catalogue.proofs.places.is_another.Lts as lts
-use Rattle.catalogue.proofs.places.has_kind_at.Reads as has-kind-at-reads
 use Rattle.catalogue.proofs.places.is_another.Goals as goal
 
 -- src/places.rt:81:9

@@ -1,9 +1,5 @@
-use Rattle.std.proofs.Common.{◌≡◌, ◌-◌, ◌≤◌, arith, rules}
-use Rattle.catalogue.specs.Catalogue.{PLACES}
-use Rattle.catalogue.specs.Stored.{number_at}
-use Rattle.catalogue.proofs.Walking.{NoneOf, none_yet, none_next}
-use Rattle.catalogue.proofs.places.place_of.Reads as reads
-use Rattle.catalogue.proofs.places.place_of.Lts as lts
+use Rattle.std.proofs.Common.{arith}
+use Rattle.catalogue.proofs.Walking.{none_yet, none_next}
 use Rattle.catalogue.proofs.places.place_of.Goals as goal
 
 -- src/places.rt:38:5

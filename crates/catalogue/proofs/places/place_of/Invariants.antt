@@ -1,10 +1,8 @@
 -- `place_of` meets its contract.
-use Rattle.std.proofs.Common.{◌≡◌, ◌-◌, ◌≤◌, arith, rules}
+use Rattle.std.proofs.Common.{◌≡◌, ◌-◌, ◌≤◌}
 use Rattle.catalogue.specs.Catalogue.{PLACES}
 use Rattle.catalogue.specs.Stored.{number_at}
-use Rattle.catalogue.proofs.Walking.{NoneOf, none_yet, none_next}
-use Rattle.catalogue.proofs.places.place_of.Reads as reads
-use Rattle.catalogue.proofs.places.place_of.Lts as lts
+use Rattle.catalogue.proofs.Walking.{NoneOf}
 use Rattle.catalogue.proofs.places.place_of.Given as goal
 
 abbrev pub invariant-loop-k : goal.invariant-loop-k

@@ -1,9 +1,6 @@
 -- `store` meets its contract.
-use Rattle.std.proofs.Common.{◌∙◌, arith, length-set, rules}
+use Rattle.std.proofs.Common.{◌∙◌, arith, length-set}
 use Rattle.catalogue.proofs.Storing.{entry_stored}
-use Rattle.catalogue.proofs.places.store.Reads as reads
-use Rattle.catalogue.proofs.places.store.Lts as lts
-use Rattle.catalogue.proofs.places.store_list.Reads as store-list-reads
 use Rattle.catalogue.proofs.places.store.Goals as goal
 
 -- src/places.rt:120:5

@@ -1,9 +1,6 @@
 -- `store_list` meets its contract.
-use Rattle.std.proofs.Common.{length-set, rules}
+use Rattle.std.proofs.Common.{length-set}
 use Rattle.catalogue.proofs.Storing.{list_stored}
-use Rattle.catalogue.proofs.places.store_list.Reads as reads
-use Rattle.catalogue.proofs.places.store_list.Lts as lts
-use Rattle.words.proofs.normal_form.copy.Reads as copy-reads
 use Rattle.catalogue.proofs.places.store_list.Goals as goal
 
 -- src/places.rt:105:1

@@ -1,30 +1,22 @@
 -- `put_at` meets its contract.
-use Rattle.std.proofs.Common.{refl, rules}
+use Rattle.std.proofs.Common.{refl}
 use Rattle.catalogue.specs.Catalogue.{PLACES}
 use Rattle.catalogue.specs.Promises.{AnotherOf}
 use Rattle.catalogue.proofs.Comparing.{refuted, confirmed}
 use Rattle.catalogue.proofs.Counting.{one_more, put_counted}
-use Rattle.catalogue.proofs.put.put_at.Reads as reads
-use Rattle.catalogue.proofs.put.put_at.Lts as lts
-use Rattle.catalogue.proofs.places.has_another.Reads as has-another-reads
-use Rattle.catalogue.proofs.places.keep_count.Reads as keep-count-reads
-use Rattle.catalogue.proofs.places.store.Reads as store-reads
-use Rattle.std.proofs.num.wrapping_add_u32.Reads as wrapping-add-u32-reads
 use Rattle.catalogue.proofs.put.put_at.Goals as goal
 
 -- src/put.rt:31:9
 pub returns-then-known : goal.returns-then-known
 returns-then-known c =
-    let z = h.before.before.before.before.before in
-    put_counted z.requires.0 z.requires.1 z.requires.2 z.requires.3 c.store.ensures _ (λ a. refl)
-    (λ new l. absurd (new (confirmed {P = AnotherOf z.args.cat.now PLACES z.args.key z.args.left.now z.args.right.now}
+    put_counted c.requires.0 c.requires.1 c.requires.2 c.requires.3 c.store.ensures _ (λ a. refl)
+    (λ new l. absurd (new (confirmed {P = AnotherOf c.args.cat.now PLACES c.args.key c.args.left.now c.args.right.now}
     c.has_another-known.result c.has_another-known.ensures c.if-known.true))) c.keep_count.ensures
 
 -- src/put.rt:23:1
 pub returns : goal.returns
 returns c =
-    let z = h.before.before.before.before.before in
-    put_counted z.requires.0 z.requires.1 z.requires.2 z.requires.3 c.store.ensures _
-    (λ a. absurd (refuted {P = AnotherOf z.args.cat.now PLACES z.args.key z.args.left.now z.args.right.now}
+    put_counted c.requires.0 c.requires.1 c.requires.2 c.requires.3 c.store.ensures _
+    (λ a. absurd (refuted {P = AnotherOf c.args.cat.now PLACES c.args.key c.args.left.now c.args.right.now}
     c.has_another-known.result c.has_another-known.ensures c.if-known.false a))
-    (λ new l. one_more _ _ c.wrapping_add_u32.ensures l) c.keep_count-2.ensures
+    (λ new l. one_more _ _ c.wrapping_add_u32.ensures.value l) c.keep_count-2.ensures

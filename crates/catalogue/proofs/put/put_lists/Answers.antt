@@ -1,21 +1,15 @@
 -- `put_lists` meets its contract.
-use Rattle.std.proofs.Common.{inl, inr, arith, length-take, rules}
+use Rattle.std.proofs.Common.{inl, inr, arith, length-take}
 use Rattle.catalogue.proofs.Calling.{lists_long, lists_put}
-use Rattle.catalogue.proofs.put.put_lists.Reads as reads
-use Rattle.catalogue.proofs.put.put_lists.Lts as lts
-use Rattle.catalogue.proofs.kind.key_number.Reads as key-number-reads
-use Rattle.catalogue.proofs.kind.lists_of.Reads as lists-of-reads
-use Rattle.catalogue.proofs.put.put_at.Reads as put-at-reads
-use Rattle.words.proofs.normal_form.front.Reads as front_reads
 use Rattle.catalogue.proofs.put.put_lists.Goals as goal
 
 -- src/put.rt:54:9
 pub returns-then-l-gt-ROOM : goal.returns-then-l-gt-ROOM
-returns-then-l-gt-ROOM c = lists_long c.args.cat.now c.args.k c.args.n c.requires.1 c.args.key c.Lists-of.ensures (omega arith) (omega arith) c.Lists-of.auto.1.1.1.0 c.Lists-of.auto.1.1.1.1.0 (inl (omega (arith, c.if-l-gt-ROOM.true)))
+returns-then-l-gt-ROOM c = lists_long c.args.cat.now c.args.k c.args.n c.requires.1 c.args.key c.lists_of-lists.ensures (omega arith) (omega arith) c.lists_of-lists.auto.u c.lists_of-lists.auto.v (inl (omega (arith, c.if-l-gt-ROOM.true)))
 
 -- src/put.rt:57:9
 pub returns-then-m-gt-ROOM : goal.returns-then-m-gt-ROOM
-returns-then-m-gt-ROOM c = lists_long c.args.cat.now c.args.k c.args.n c.requires.1 c.args.key c.Lists-of.ensures (omega arith) (omega arith) c.Lists-of.auto.1.1.1.0 c.Lists-of.auto.1.1.1.1.0 (inr (omega (arith, c.if-m-gt-ROOM.true)))
+returns-then-m-gt-ROOM c = lists_long c.args.cat.now c.args.k c.args.n c.requires.1 c.args.key c.lists_of-lists.ensures (omega arith) (omega arith) c.lists_of-lists.auto.u c.lists_of-lists.auto.v (inr (omega (arith, c.if-m-gt-ROOM.true)))
 
 -- src/put.rt:59:5
 pub put_at-requires : goal.put_at-requires
@@ -24,5 +18,5 @@ put_at-requires c = (omega arith, omega arith, rw c.front.ensures (simp length-t
 -- src/put.rt:37:1
 pub returns : goal.returns
 returns c =
-    lists_put c.args.cat.now c.args.k c.args.n c.requires.1 c.args.key c.Lists-of.ensures (omega arith) (omega arith) c.Lists-of.auto.1.1.1.0 c.Lists-of.auto.1.1.1.1.0
+    lists_put c.args.cat.now c.args.k c.args.n c.requires.1 c.args.key c.lists_of-lists.ensures (omega arith) (omega arith) c.lists_of-lists.auto.u c.lists_of-lists.auto.v
     (rw (← c.key_number.ensures, ← c.front.ensures, ← c.front-2.ensures) c.put_at.ensures)

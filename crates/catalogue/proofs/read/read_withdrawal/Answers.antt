@@ -1,10 +1,9 @@
 -- `read_withdrawal` meets its contract.
-use Rattle.std.proofs.Common.{subst, arith, rules}
+use Rattle.std.proofs.Common.{◌≡◌, ℕ, List, subst, arith}
 use Rattle.catalogue.specs.Promises.{NumberAt, NumberIn}
+use Rattle.catalogue.specs.declared.read.NumberLine.{NumberLine}
+use Rattle.catalogue.specs.declared.read.NumberLine.TheVariants.{Is}
 use Rattle.catalogue.proofs.Reading.{long_withdrawal, no_withdrawal, more_behind, withdrawal_read}
-use Rattle.catalogue.proofs.read.read_withdrawal.Reads as reads
-use Rattle.catalogue.proofs.read.read_withdrawal.Lts as lts
-use Rattle.catalogue.proofs.read.number_line.Reads as number-line-reads
 use Rattle.catalogue.proofs.read.read_withdrawal.Goals as goal
 
 -- src/read.rt:104:9
@@ -17,20 +16,14 @@ returns-in_default c =
     let s = c.args.s.now in
     no_withdrawal s c.if-s-gt1024.false (subst (NumberIn s) c.in_default.is c.number_line.ensures)
 
--- BY HAND
--- src/read.rt:110:9
 -- the number as it was read
-number : (c : tie.After-known-told) →
-    let a = c.before.before.before.before.before.before.args in
-    let v = c.before.n.given.0 in
-    NumberAt a.s.now v.0 v.1.0
-number c =
-    let l = c.before.before.before in
-    subst (NumberIn l.before.before.before.args.s.now) c.before.n.given.1 l.number-line.ensures
+number : (s : List ℕ) {r : NumberLine} {n next : ℕ} → NumberIn s r → r ≡ Is n next → NumberAt s n next
+number s h e = subst (NumberIn s) e h
 
+-- src/read.rt:110:9
 pub returns-then-next-s : goal.returns-then-next-s
-returns-then-next-s c = more_behind _ c.if-s-gt1024.false (number c) (omega (arith, (number c).ends, c.if-next-s.true))
+returns-then-next-s c = more_behind _ c.if-s-gt1024.false (number c.args.s.now c.number_line.ensures c.in-Is.is) (omega (arith, (number c.args.s.now c.number_line.ensures c.in-Is.is).ends, c.if-next-s.true))
 
 -- src/read.rt:100:1
 pub returns : goal.returns
-returns c = ((number c).low, withdrawal_read _ c.if-s-gt1024.false (number c) (omega (arith, c.if-next-s.false)))
+returns c = ((number c.args.s.now c.number_line.ensures c.in-Is.is).low, withdrawal_read _ c.if-s-gt1024.false (number c.args.s.now c.number_line.ensures c.in-Is.is) (omega (arith, c.if-next-s.false)))

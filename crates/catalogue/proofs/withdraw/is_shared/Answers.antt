@@ -1,19 +1,16 @@
 -- `is_shared` meets its contract.
-use Rattle.std.proofs.Common.{◌+◌, ◌*◌, arith, rules}
+use Rattle.std.proofs.Common.{◌+◌, ◌*◌, arith}
 use Rattle.catalogue.specs.Stored.{PLACE}
 use Rattle.catalogue.proofs.Comparing.{another_alike}
-use Rattle.catalogue.proofs.withdraw.is_shared.Reads as reads
-use Rattle.catalogue.proofs.withdraw.is_shared.Lts as lts
-use Rattle.catalogue.proofs.places.has_another.Reads as has-another-reads
 use Rattle.catalogue.proofs.withdraw.is_shared.Goals as goal
 
 -- src/withdraw.rt:23:13
 pub overflow_cast-m : goal.overflow_cast-m
-overflow_cast-m c = omega (arith, c.shared_slice_known-2-1.given (PLACE * c.args.k + 2))
+overflow_cast-m c = omega (arith, c.type_inv.cat (PLACE * c.args.k + 2))
 
 -- src/withdraw.rt:24:13
 pub overflow_cast-n : goal.overflow_cast-n
-overflow_cast-n c = omega (arith, c.shared_slice_known-3-1.given (PLACE * c.args.k + 3))
+overflow_cast-n c = omega (arith, c.type_inv.cat (PLACE * c.args.k + 3))
 
 -- src/withdraw.rt:26:9
 pub returns-then-m-gt-ROOM : goal.returns-then-m-gt-ROOM
