@@ -42,6 +42,10 @@ module _ (b : ℕ) where
   unfolding digit
   above h k = rw (le-leb 48 b h, digit) (rw (lt-leb b 57 k))
 
+  -- the mark of a digit
+  pub marked : 48 ≤ b → b ≤ 57 → mark b ≡ is.Digit (b - 48)
+  marked h k = other (λ p. omega arith) (λ p. omega arith) (λ p. omega arith) (λ p. omega arith) ∙ inside h k
+
 -- ---- the byte by its mark
 
 abbrev byte : Sign → ℕ

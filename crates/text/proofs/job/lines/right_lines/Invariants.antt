@@ -10,7 +10,7 @@ use borrow.Author.Rules.{rules}
 use Rattle.text.proofs.job.lines.right_lines.Given as goal
 
 abbrev pub invariant-loop-start : goal.invariant-loop-start
-invariant-loop-start l = Midway l.s l.from l.initial.places l.count l.at at
+invariant-loop-start l = Midway l.s l.from l.initial.places l.places l.count l.at
 
 abbrev pub decreases-loop-start : goal.decreases-loop-start
-decreases-loop-start l = length l.s - at
+decreases-loop-start l = length l.s - l.at
