@@ -1,14 +1,12 @@
-use Prim.Native.Nat.{◌+◌, ◌*◌, ◌≤◌, ◌-◌}
+use Prim.Native.Nat.{◌+◌, ◌*◌, ◌-◌}
 use native.Mathlib.Omega.{arith}
-use mathlib.Core.Path.{◌≡◌, refl, ap, sym, ◌∙◌}
+use mathlib.Core.Path.{refl, ap, sym, ◌∙◌}
 use lib.ListN.{get_or}
 use lib.Seq.{slice}
 use Rattle.text.specs.declared.job.Mark.TheVariants as is
-use Rattle.text.specs.Bytes.{digits}
 use Rattle.text.specs.Reading.{limited}
 use Rattle.text.proofs.Marking.{tells, marked}
 use Rattle.text.proofs.Numbers.{allowed, too_large, malformed, past, foul, next, done}
-use borrow.Author.Rules.{rules}
 use Rattle.text.proofs.job.digits_in.Goals as goal
 
 pub loop-i-init : goal.loop-i-init

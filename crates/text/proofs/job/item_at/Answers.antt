@@ -6,10 +6,9 @@ use Rattle.text.specs.declared.job.Sign.TheVariants.{Letter}
 use Rattle.text.specs.declared.job.Mark.TheVariants as is
 use Rattle.text.specs.Marks.{mark}
 use Rattle.text.specs.Reading.{Items}
-use Rattle.text.proofs.Marking.{tells, no_sign, no_letter_sign}
+use Rattle.text.proofs.Marking.{tells}
 use Rattle.text.proofs.Reading.{no_item, no_letter, letter_item}
 use Rattle.text.proofs.Parts.{one_part}
-use borrow.Author.Rules.{rules}
 use Rattle.text.proofs.job.item_at.Goals as goal
 
 pub returns-then-to-from : goal.returns-then-to-from

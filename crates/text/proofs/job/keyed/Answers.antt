@@ -1,12 +1,7 @@
 -- `keyed` meets its contract: the value is the line behind the key.
-use Prim.Native.Nat.{◌+◌}
 use native.Mathlib.Omega.{arith}
-use lib.ListN.{length}
-use mathlib.Core.Path.{subst}
-use borrow.Author.Tests.{not-true, not-false}
-use Rattle.text.specs.Reading.{Key, Keys, Lines}
+use Rattle.text.specs.Reading.{Key}
 use Rattle.text.proofs.Lines.{no_key, value_ends, value_open}
-use borrow.Author.Rules.{rules}
 use Rattle.text.proofs.job.keyed.Goals as goal
 
 pub returns-then-not-has_key : goal.returns-then-not-has_key

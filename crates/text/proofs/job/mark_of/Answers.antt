@@ -1,7 +1,7 @@
 -- `mark_of` meets its contract: a single byte by its number, the digits by the two ends of their range.
-use mathlib.Core.Path.{◌≡◌, sym, ◌∙◌}
+use mathlib.Core.Path.{sym, ◌∙◌}
 use native.Mathlib.Omega.{arith}
-use Rattle.text.specs.Marks.{digit, mark}
+use Rattle.text.specs.Marks.{mark}
 use Rattle.text.proofs.Marking.{other, inside, below, above}
 use Rattle.text.proofs.job.mark_of.Goals as goal
 

@@ -4,7 +4,6 @@ use mathlib.Core.Path.{ap, sym, ◌∙◌}
 use Rattle.terms.specs.Numbers as numbers
 use Rattle.text.specs.declared.job.Mark.TheVariants as is
 use Rattle.text.proofs.Reading.{one_byte, no_atom}
-use borrow.Author.Rules.{rules}
 use Rattle.text.proofs.job.sign_item.Goals as goal
 
 pub returns-in-Plus : goal.returns-in-Plus

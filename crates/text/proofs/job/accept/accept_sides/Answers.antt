@@ -1,6 +1,5 @@
 -- `accept_sides` meets its contract: each refusal in its turn, or left's run kept.
 use Rattle.text.proofs.Accepts.{refuse_letters, refuse_limits, refuse_same, accept_after, refuse_before, accept_one}
-use borrow.Author.Rules.{rules}
 use Rattle.text.proofs.job.accept.accept_sides.Goals as goal
 
 pub returns-then-not-all_pass : goal.returns-then-not-all_pass

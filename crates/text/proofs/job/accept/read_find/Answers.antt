@@ -1,8 +1,6 @@
 -- `read_find` meets its contract: the lines, then their sides.
 use native.Mathlib.Omega.{arith}
-use Rattle.text.specs.LayoutRead.{LaidOut}
 use Rattle.text.proofs.Jobs.{find_long, find_malformed, many_rights, find_read}
-use borrow.Author.Rules.{rules}
 use Rattle.text.proofs.job.accept.read_find.Goals as goal
 
 pub returns-then-s-gt4096 : goal.returns-then-s-gt4096

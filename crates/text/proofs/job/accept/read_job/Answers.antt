@@ -1,8 +1,6 @@
 -- `read_job` meets its contract: the lines, of which one is a right line, then their sides.
 use native.Mathlib.Omega.{arith}
-use Rattle.text.specs.LayoutRead.{LaidOut}
 use Rattle.text.proofs.Jobs.{job_long, job_malformed, not_one_right, job_read}
-use borrow.Author.Rules.{rules}
 use Rattle.text.proofs.job.accept.read_job.Goals as goal
 
 pub returns-then-s-gt1024 : goal.returns-then-s-gt1024

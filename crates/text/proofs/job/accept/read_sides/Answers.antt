@@ -3,10 +3,8 @@ use native.Mathlib.Omega.{arith}
 use mathlib.Core.Path.{sym}
 use lib.ListN.{replicate}
 use lib.Seq.{slice, length-take-le}
-use Rattle.text.specs.LayoutRead.{LaidOut}
 use Rattle.text.specs.SideRead.{TermRead}
 use Rattle.text.proofs.Jobs.{inside, foul_left, foul_right, large_right, large_left, sides_read}
-use borrow.Author.Rules.{rules}
 use Rattle.text.proofs.job.accept.read_sides.Goals as goal
 
 pub read_term-requires : goal.read_term-requires

@@ -1,12 +1,8 @@
 -- `layout_of` meets its contract: left, the right sides, then the limits.
 use native.Mathlib.Omega.{arith}
-use mathlib.Core.Path.{subst}
-use lib.ListN.{drop}
 use Rattle.text.specs.Bytes.{ascii}
-use Rattle.text.specs.Reading.{Valued, Values}
-use Rattle.text.specs.LayoutRead.{LimitsIn}
+use Rattle.text.specs.Reading.{Valued}
 use Rattle.text.proofs.Layouts.{no_left, no_right, no_limits, laid_out}
-use borrow.Author.Rules.{rules}
 use Rattle.text.proofs.job.lines.layout_of.Goals as goal
 
 pub returns-in_default : goal.returns-in_default

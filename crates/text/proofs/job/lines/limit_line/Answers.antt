@@ -1,10 +1,8 @@
 -- `limit_line` meets its contract: the number of the keyed line, or one above the largest.
 use native.Mathlib.Omega.{arith}
-use mathlib.Core.Path.{subst}
 use Rattle.text.specs.declared.job.Number.TheVariants.{Is, TooLarge, Malformed}
-use Rattle.text.specs.Reading.{Valued, Values}
+use Rattle.text.specs.Reading.{Valued}
 use Rattle.text.proofs.Layouts.{no_limit, limit_told}
-use borrow.Author.Rules.{rules}
 use Rattle.text.proofs.job.lines.limit_line.Goals as goal
 
 pub returns-in_default : goal.returns-in_default

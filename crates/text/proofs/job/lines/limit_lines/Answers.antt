@@ -1,9 +1,7 @@
 -- `limit_lines` meets its contract: four lines, and nothing behind them.
-use mathlib.Core.Path.{subst}
 use Rattle.text.specs.Bytes.{ascii}
-use Rattle.text.specs.LayoutRead.{LimitAt, LimitIn}
+use Rattle.text.specs.LayoutRead.{LimitAt}
 use Rattle.text.proofs.Layouts.{no_steps, no_size, no_depth, no_nodes, more_lines, limits_end}
-use borrow.Author.Rules.{rules}
 use Rattle.text.proofs.job.lines.limit_lines.Goals as goal
 
 pub returns-in_default : goal.returns-in_default

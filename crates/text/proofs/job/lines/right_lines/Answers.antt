@@ -1,11 +1,8 @@
-use Prim.Native.Nat.{◌+◌, ◌-◌, ◌<◌}
+use Prim.Native.Nat.{◌+◌, ◌<◌}
 use native.Mathlib.Omega.{arith}
-use mathlib.Core.Path.{subst}
-use lib.ListN.{length}
 use Rattle.text.specs.Bytes.{ascii}
-use Rattle.text.specs.Reading.{Valued, Values}
-use Rattle.text.proofs.RightLines.{Midway, begins, no_more, farther, one_line}
-use borrow.Author.Rules.{rules}
+use Rattle.text.specs.Reading.{Valued}
+use Rattle.text.proofs.RightLines.{begins, no_more, farther, one_line}
 use Rattle.text.proofs.job.lines.right_lines.Goals as goal
 
 pub loop-start-init : goal.loop-start-init

@@ -1,13 +1,10 @@
-use Prim.Native.Nat.{◌+◌, ◌*◌, ◌≤◌, ◌-◌}
+use Prim.Native.Nat.{◌+◌, ◌*◌}
 use native.Mathlib.Omega.{arith}
-use mathlib.Core.Logic.{⊎_elim}
-use mathlib.Core.Path.{◌≡◌, refl, sym, ap, ◌∙◌}
-use lib.ListN.{length}
+use mathlib.Core.Path.{refl, sym, ◌∙◌}
 use lib.Seq.{slice, length-take-le}
 use Rattle.text.specs.LayoutRead.{starts_at, ends_at}
 use Rattle.text.specs.SideRead.{TermRead}
-use Rattle.text.proofs.Rights.{ReadTo, none_read, all_read, foul_side, large_side, small_side}
-use borrow.Author.Rules.{rules}
+use Rattle.text.proofs.Rights.{none_read, all_read, foul_side, large_side, small_side}
 use Rattle.text.proofs.job.rights.read_rights.Goals as goal
 use Rattle.text.proofs.job.rights.read_rights.Goals.{then-m-gt31, else-m-gt31}
 

@@ -1,13 +1,10 @@
-use Prim.Native.Nat.{ℕ, ◌≤◌, ◌-◌}
 use native.Mathlib.Omega.{arith}
 use mathlib.Core.Path.{ap, sym, ◌∙◌}
 use lib.ListN.{get_or}
 use Rattle.text.specs.declared.job.Mark.TheVariants as is
 use Rattle.text.specs.Marks.{mark}
-use Rattle.text.specs.SideRead.{ItemEnds}
-use Rattle.text.proofs.Marking.{tells, no_space}
+use Rattle.text.proofs.Marking.{tells}
 use Rattle.text.proofs.Sides.{side_ends, space_ends, item_goes_on}
-use borrow.Author.Rules.{rules}
 use Rattle.text.proofs.job.side.item_end.Goals as goal
 
 pub loop-i-init : goal.loop-i-init

@@ -1,11 +1,6 @@
-use Prim.Native.Nat.{ℕ, ◌-◌}
-use mathlib.Core.List.{List}
 use native.Mathlib.Omega.{arith}
-use mathlib.Core.Path.{◌≡◌, refl, subst}
-use lib.ListN.{length}
-use lib.Seq.{slice}
-use Rattle.text.specs.Reading.{Numbered, Items}
-use Rattle.text.proofs.Sides.{Reached, at_first, foul_item, last_item, next_item}
+use mathlib.Core.Path.{refl}
+use Rattle.text.proofs.Sides.{at_first, foul_item, last_item, next_item}
 use borrow.Author.Rules.{rules}
 use Rattle.text.proofs.job.side.items_in.Goals as goal
 

@@ -1,13 +1,8 @@
 -- `read_term` meets its contract: the numbers of the items are the run of the term, if they are a run.
-use Prim.Native.Nat.{ℕ}
-use mathlib.Core.List.{List}
-use mathlib.Core.Path.{sym, subst}
-use borrow.Author.Tests.{not-true, not-false}
+use mathlib.Core.Path.{sym}
 use lib.Seq.{slice, length-take-le}
-use Rattle.terms.specs.Promises.{Reads}
-use Rattle.text.specs.SideRead.{ItemsRead, ReadsItems}
+use Rattle.text.specs.SideRead.{ItemsRead}
 use Rattle.text.proofs.Sides.{term_read, no_term}
-use borrow.Author.Rules.{rules}
 use Rattle.text.proofs.job.side.read_term.Goals as goal
 
 pub returns-in_default : goal.returns-in_default
