@@ -2,11 +2,8 @@
 use Prim.Native.Nat.{ℕ, ◌<◌}
 use native.Mathlib.Omega.{arith}
 use mathlib.Core.Path.{◌≡◌, refl, sym, ap, subst, ◌∙◌}
-use mathlib.Core.Logic.{⊎_elim}
 use mathlib.Core.Bool.{Bool, true, false}
 use mathlib.Core.List.{List, [], ◌∷◌, append-nil, flat_map}
-use types.Run.{OneOf}
-use denote.Enum.Declared.{tag_of}
 use lib.ListN.{length, get_or}
 use Rattle.terms.specs.Lists.{◌∈◌, in_map}
 use Rattle.terms.specs.Term.{Term, zero}
@@ -26,7 +23,6 @@ use Rattle.search.specs.declared.bounded_search.Limits.{Limits}
 use Rattle.search.specs.declared.bounded_search.Stop.{Stop}
 use Rattle.search.specs.declared.bounded_search.Stop.TheVariants.{All, Over, Full}
 use Rattle.search.specs.declared.bounded_search.Ended.{Ended}
-use Rattle.search.specs.contracts.replies.Reply as replies
 use Rattle.text.specs.Answer.{refused, accepted, ◌>>=◌, fitting}
 use Rattle.text.specs.Job.{Accepted}
 use Rattle.text.specs.FindJob.{read_find, job_of, jobs_of}
@@ -45,11 +41,11 @@ out_at t = elim t [ All ↦ true | Over ↦ false | Full ↦ true ]
 
 module _ (reply : ℕ) {r : Reply} (is : r ≡ reply_of reply) (ended : Ended) where
   -- one that is noted, or matched directly, has one
-  pub out_other : OneOf (1 ∷ 2 ∷ []) (tag_of replies.the_type r) → false ≡ runs_out reply ended
-  out_other k = go r k ∙ ap (λ q. without q ended) is
+  pub out_noted : (r ≡ Unnoted → ⊥) → false ≡ runs_out reply ended
+  out_noted n = go r n ∙ ap (λ q. without q ended) is
     where
-      go : (q : Reply) → OneOf (1 ∷ 2 ∷ []) (tag_of replies.the_type q) → false ≡ without q ended
-      go Unnoted h = absurd (⊎_elim (λ e. omega (arith, e)) (λ e. omega (arith, e)) h)
+      go : (q : Reply) → (q ≡ Unnoted → ⊥) → false ≡ without q ended
+      go Unnoted h = absurd (h refl)
       go (Direct w) h = refl
       go (Noted n) h = refl
 

@@ -1,11 +1,8 @@
 -- A byte by the tests that tell what it is.
 use Prim.Native.Nat.{ℕ, ◌≤◌, ◌<◌, ◌-◌}
 use native.Mathlib.Omega.{arith}
-use mathlib.Core.Logic.{⊎_elim, inl, inr}
-use mathlib.Core.List.{[], ◌∷◌}
-use mathlib.Core.Path.{◌≡◌, refl, ap, sym, subst, ◌∙◌}
-use types.Run.{OneOf}
-use denote.Enum.Declared.{tag_of}
+use mathlib.Core.Logic.{⊎_elim}
+use mathlib.Core.Path.{◌≡◌, refl, sym, subst, ◌∙◌}
 use borrow.Author.Tests.{ne_eqb, le-leb, lt-leb}
 use Rattle.terms.specs.Theory.Order.{below?}
 use Rattle.text.specs.declared.job.Sign.{Sign}
@@ -13,8 +10,6 @@ use Rattle.text.specs.declared.job.Sign.TheVariants.{Plus, Times, Letter}
 use Rattle.text.specs.declared.job.Mark.{Mark}
 use Rattle.text.specs.declared.job.Mark.TheVariants as is
 use Rattle.text.specs.Marks.{digit, mark}
-use Rattle.text.specs.contracts.job.Sign as signs
-use Rattle.text.specs.contracts.job.Mark as marks
 
 -- a fact of every number, by one number and all others
 pub at : (P : ℕ → Type 0) (k b : ℕ) → P k → ((b ≡ k → ⊥) → P b) → P b
@@ -41,6 +36,10 @@ module _ (b : ℕ) where
   pub above : 48 ≤ b → 57 < b → digit b ≡ is.Foul
   unfolding digit
   above h k = rw (le-leb 48 b h, digit) (rw (lt-leb b 57 k))
+
+  -- the mark of a digit
+  pub marked : 48 ≤ b → b ≤ 57 → mark b ≡ is.Digit (b - 48)
+  marked h k = other (λ p. omega arith) (λ p. omega arith) (λ p. omega arith) (λ p. omega arith) ∙ inside h k
 
 -- ---- the byte by its mark
 
@@ -79,32 +78,3 @@ mark_tells b =
 
 pub tells : (b : ℕ) (m : Mark) → mark b ≡ m → Tells b m
 tells b m e = subst (Tells b) e (mark_tells b)
-
--- a number is none of three others
-none_of : (n i j k : ℕ) → (n ≡ i → ⊥) → (n ≡ j → ⊥) → (n ≡ k → ⊥) → OneOf (i ∷ j ∷ k ∷ []) n → ⊥
-none_of n i j k p q r = ⊎_elim p (⊎_elim q r)
-
--- a mark of another kind tells what the byte is not
-module _ (b : ℕ) (m : Mark) (e : m ≡ mark b) where
-  pub no_space : OneOf (0 ∷ 1 ∷ 3 ∷ []) (tag_of marks.the_type m) → b ≡ 32 → ⊥
-  unfolding mark
-  no_space k p =
-      none_of 2 0 1 3 (λ q. omega arith) (λ q. omega arith) (λ q. omega arith)
-      (subst (λ x. OneOf (0 ∷ 1 ∷ 3 ∷ []) (tag_of marks.the_type x)) (e ∙ ap mark p) k)
-
-  pub no_sign : OneOf (1 ∷ 2 ∷ 3 ∷ []) (tag_of marks.the_type m) → b ≡ 118 → ⊥
-  unfolding mark
-  no_sign k p =
-      none_of 0 1 2 3 (λ q. omega arith) (λ q. omega arith) (λ q. omega arith)
-      (subst (λ x. OneOf (1 ∷ 2 ∷ 3 ∷ []) (tag_of marks.the_type x)) (e ∙ ap mark p) k)
-
-  pub no_digit : OneOf (0 ∷ 2 ∷ 3 ∷ []) (tag_of marks.the_type m) → 48 ≤ b → b ≤ 57 → ⊥
-  no_digit k h l =
-      let is_digit : mark b ≡ is.Digit (b - 48) = other b (λ p. omega arith) (λ p. omega arith) (λ p. omega arith) (λ p. omega arith) ∙ inside b h l in
-      none_of 1 0 2 3 (λ q. omega arith) (λ q. omega arith) (λ q. omega arith)
-      (subst (λ x. OneOf (0 ∷ 2 ∷ 3 ∷ []) (tag_of marks.the_type x)) (e ∙ is_digit) k)
-
-pub no_letter_sign : (b : ℕ) (s : Sign) → mark b ≡ is.Sign s → OneOf (0 ∷ 1 ∷ []) (tag_of signs.the_type s) → b ≡ 118 → ⊥
-no_letter_sign b Plus e k p = omega (arith, tells b (is.Sign Plus) e)
-no_letter_sign b Times e k p = omega (arith, tells b (is.Sign Times) e)
-no_letter_sign b Letter e k p = none_of 2 0 1 0 (λ q. omega arith) (λ q. omega arith) (λ q. omega arith) (⊎_elim (λ q. inl q) (λ q. inr (inl q)) k)

@@ -1,7 +1,6 @@
 -- `put_yes_no_line` meets its contract.
 use Rattle.text.specs.Answer.{yes_no}
 use Rattle.text.proofs.Overlay.{put_as}
-use borrow.Author.Rules.{rules}
 use Rattle.text.proofs.answer.put_yes_no_line.Goals as goal
 
 pub returns-then-yes : goal.returns-then-yes

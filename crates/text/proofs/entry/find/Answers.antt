@@ -1,7 +1,6 @@
 -- `find` meets its contract: the job is refused, or answered by the search.
 use native.Mathlib.Omega.{arith}
 use Rattle.text.proofs.Entries.{find_refused, find_answered}
-use borrow.Author.Rules.{rules}
 use Rattle.text.proofs.entry.find.Goals as goal
 
 pub answer_find-requires : goal.answer_find-requires

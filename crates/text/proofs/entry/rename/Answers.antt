@@ -1,6 +1,5 @@
 -- `rename` meets its contract: the job is refused, or answered.
 use Rattle.text.proofs.Entries.{rename_refused, rename_answered}
-use borrow.Author.Rules.{rules}
 use Rattle.text.proofs.entry.rename.Goals as goal
 
 pub returns-in-Refused : goal.returns-in-Refused

@@ -1,6 +1,5 @@
 -- `words` meets its contract: the job is refused, or answered.
 use Rattle.text.proofs.Entries.{words_refused, words_answered}
-use borrow.Author.Rules.{rules}
 use Rattle.text.proofs.entry.words.Goals as goal
 
 pub returns-in-Refused : goal.returns-in-Refused

@@ -1,15 +1,9 @@
 -- `digits_in` meets its contract: the digits behind the number so far are those still to be read.
-use Prim.Native.Nat.{◌+◌, ◌*◌, ◌≤◌, ◌-◌}
-use native.Mathlib.Omega.{arith}
-use mathlib.Core.Path.{◌≡◌, refl, ap, sym, ◌∙◌}
-use lib.ListN.{get_or}
+use Prim.Native.Nat.{◌≤◌, ◌-◌}
+use mathlib.Core.Path.{◌≡◌}
 use lib.Seq.{slice}
-use Rattle.text.specs.declared.job.Mark.TheVariants as is
 use Rattle.text.specs.Bytes.{digits}
 use Rattle.text.specs.Reading.{limited}
-use Rattle.text.proofs.Marking.{Tells, tells, no_digit}
-use Rattle.text.proofs.Numbers.{allowed, too_large, malformed, past, foul, next, done}
-use borrow.Author.Rules.{rules}
 use Rattle.text.proofs.job.digits_in.Given as goal
 
 abbrev pub invariant-loop-i : goal.invariant-loop-i

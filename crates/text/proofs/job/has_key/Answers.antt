@@ -1,11 +1,9 @@
-use Prim.Native.Nat.{◌+◌, ◌≤◌, ◌-◌}
+use Prim.Native.Nat.{◌+◌}
 use native.Mathlib.Omega.{arith}
 use mathlib.Core.Path.{◌≡◌, refl, ap, ◌∙◌}
 use mathlib.Core.Option.{some}
 use lib.ListN.{length, drop}
-use Rattle.text.specs.Bytes.{after}
 use Rattle.text.proofs.Lines.{key_ends, text_ends, bytes_differ, bytes_agree}
-use borrow.Author.Rules.{rules}
 use Rattle.text.proofs.job.has_key.Goals as goal
 
 pub loop-j-init : goal.loop-j-init

@@ -1,12 +1,8 @@
 -- `has_key` meets its contract: the bytes passed are those of the key.
 use Prim.Native.Nat.{◌+◌, ◌≤◌, ◌-◌}
-use native.Mathlib.Omega.{arith}
-use mathlib.Core.Path.{◌≡◌, refl, ap, ◌∙◌}
-use mathlib.Core.Option.{some}
+use mathlib.Core.Path.{◌≡◌}
 use lib.ListN.{length, drop}
 use Rattle.text.specs.Bytes.{after}
-use Rattle.text.proofs.Lines.{key_ends, text_ends, bytes_differ, bytes_agree}
-use borrow.Author.Rules.{rules}
 use Rattle.text.proofs.job.has_key.Given as goal
 
 abbrev pub invariant-loop-j : goal.invariant-loop-j

@@ -4,11 +4,11 @@ use mathlib.Core.Path.{◌≡◌, ap, sym, subst, ◌∙◌}
 use lib.ListN.{get_or}
 use Rattle.text.specs.declared.job.Sign.TheVariants.{Letter}
 use Rattle.text.specs.declared.job.Mark.TheVariants as is
+use Rattle.text.specs.Marks.{mark}
 use Rattle.text.specs.Reading.{Items}
-use Rattle.text.proofs.Marking.{tells, no_sign, no_letter_sign}
+use Rattle.text.proofs.Marking.{tells}
 use Rattle.text.proofs.Reading.{no_item, no_letter, letter_item}
 use Rattle.text.proofs.Parts.{one_part}
-use borrow.Author.Rules.{rules}
 use Rattle.text.proofs.job.item_at.Goals as goal
 
 pub returns-then-to-from : goal.returns-then-to-from
@@ -22,39 +22,30 @@ returns-then-to-next c =
     subst (λ bs. Items bs c.sign_item.result) (sym (one_part a.s.now a.from a.to c.requires.1 (omega arith) (omega arith))) c.sign_item.ensures
 
 pub returns-in_default : goal.returns-in_default
+unfolding mark
 returns-in_default c =
     let a = c.args in
     no_letter a.s.now a.from a.to c.requires.1 (omega arith)
-    (no_sign (get_or a.s.now a.from 0) c.mark_of.result c.mark_of.ensures c.in_default.in_default-own.keys2)
+    (λ p. c.in_default.not-Sign Letter (c.mark_of.ensures ∙ ap mark p))
 
 pub returns-in_default-sign : goal.returns-in_default-sign
+unfolding mark
 returns-in_default-sign c =
     let a = c.args in
     no_letter a.s.now a.from a.to c.requires.1 (omega arith)
-    (no_letter_sign (get_or a.s.now a.from 0) c.in-Sign.sign (sym c.mark_of.ensures ∙ c.in-Sign.is) c.in_default-sign.in_default-sign-own.keys2)
-
--- BY HAND
--- the sign is the letter's
-letter : (c : tie.After-enum-told) →
-    let a = c.before.before.before.before.before.before.before.before.before.before.args in
-    get_or a.s.now a.from 0 ≡ 118
-letter c =
-    let g = c.before.before.before in
-    let m = g.before.before in
-    let a = m.before.before.before.before.before.args in
-    tells (get_or a.s.now a.from 0) (is.Sign Letter) (sym m.mark_of.ensures ∙ g.sign.given.1 ∙ ap is.Sign c.enum_told.given.1)
+    (λ p. c.in_default-sign.not-Letter (let e : is.Sign c.in-Sign.sign ≡ is.Sign Letter = sym c.in-Sign.is ∙ c.mark_of.ensures ∙ ap mark p in cc))
 
 pub returns-in-Is : goal.returns-in-Is
 returns-in-Is c =
     let a = c.args in
-    letter_item a.s.now a.from a.to c.requires.1 (omega arith) (letter c) _ (sym c.number_in-n.ensures ∙ c.in-Is.is)
+    letter_item a.s.now a.from a.to c.requires.1 (omega arith) (tells (get_or a.s.now a.from 0) (is.Sign Letter) (sym c.mark_of.ensures ∙ c.in-Sign.is ∙ ap is.Sign c.in-Letter.is)) _ (sym c.number_in-n.ensures ∙ c.in-Is.is)
 
 pub returns-in-TooLarge : goal.returns-in-TooLarge
 returns-in-TooLarge c =
     let a = c.args in
-    letter_item a.s.now a.from a.to c.requires.1 (omega arith) (letter c) _ (sym c.number_in-n.ensures ∙ c.in-TooLarge.is)
+    letter_item a.s.now a.from a.to c.requires.1 (omega arith) (tells (get_or a.s.now a.from 0) (is.Sign Letter) (sym c.mark_of.ensures ∙ c.in-Sign.is ∙ ap is.Sign c.in-Letter.is)) _ (sym c.number_in-n.ensures ∙ c.in-TooLarge.is)
 
 pub returns-in-Malformed : goal.returns-in-Malformed
 returns-in-Malformed c =
     let a = c.args in
-    letter_item a.s.now a.from a.to c.requires.1 (omega arith) (letter c) _ (sym c.number_in-n.ensures ∙ c.in-Malformed.is)
+    letter_item a.s.now a.from a.to c.requires.1 (omega arith) (tells (get_or a.s.now a.from 0) (is.Sign Letter) (sym c.mark_of.ensures ∙ c.in-Sign.is ∙ ap is.Sign c.in-Letter.is)) _ (sym c.number_in-n.ensures ∙ c.in-Malformed.is)

@@ -1,11 +1,6 @@
-use Prim.Native.Nat.{◌≤◌, ◌-◌}
 use native.Mathlib.Omega.{arith}
-use lib.ListN.{length}
-use Rattle.text.specs.declared.job.Found.{Found}
 use Rattle.text.specs.declared.job.Found.TheVariants.{At, Nothing}
-use Rattle.text.specs.Reading.{Lines}
 use Rattle.text.proofs.Lines.{no_line, line_ends, line_goes_on}
-use borrow.Author.Rules.{rules}
 use Rattle.text.proofs.job.line_end.Goals as goal
 
 pub loop-i-init : goal.loop-i-init

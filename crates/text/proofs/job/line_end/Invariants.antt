@@ -1,12 +1,8 @@
 -- `line_end` meets its contract: where the line ends from the byte reached on, it ends from the start on.
 use Prim.Native.Nat.{◌≤◌, ◌-◌}
-use native.Mathlib.Omega.{arith}
 use lib.ListN.{length}
 use Rattle.text.specs.declared.job.Found.{Found}
-use Rattle.text.specs.declared.job.Found.TheVariants.{At, Nothing}
 use Rattle.text.specs.Reading.{Lines}
-use Rattle.text.proofs.Lines.{no_line, line_ends, line_goes_on}
-use borrow.Author.Rules.{rules}
 use Rattle.text.proofs.job.line_end.Given as goal
 
 abbrev pub invariant-loop-i : goal.invariant-loop-i

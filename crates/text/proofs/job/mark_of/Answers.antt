@@ -1,7 +1,7 @@
 -- `mark_of` meets its contract: a single byte by its number, the digits by the two ends of their range.
-use mathlib.Core.Path.{◌≡◌, sym, ◌∙◌}
+use mathlib.Core.Path.{sym, ◌∙◌}
 use native.Mathlib.Omega.{arith}
-use Rattle.text.specs.Marks.{digit, mark}
+use Rattle.text.specs.Marks.{mark}
 use Rattle.text.proofs.Marking.{other, inside, below, above}
 use Rattle.text.proofs.job.mark_of.Goals as goal
 
@@ -21,15 +21,17 @@ pub returns-in-32 : goal.returns-in-32
 unfolding mark
 returns-in-32 c = rw c.in-32.is
 
--- BY HAND
-past : (c : tie.At-match-rest) → mark c.before.args.b ≡ digit c.before.args.b
-past c = let r = c.match.rest in other _ r.0.0.0.1 r.0.0.1 r.0.1 r.1
-
 pub returns-in-48-to-57 : goal.returns-in-48-to-57
-returns-in-48-to-57 c = sym (past c ∙ inside c.args.b c.if-b-lt48.false (omega arith))
+returns-in-48-to-57 c =
+    let b = c.args.b in
+    sym (other b (omega arith) (omega arith) (omega arith) (omega arith) ∙ inside b (omega arith) (omega arith))
 
 pub returns-in_default : goal.returns-in_default
-returns-in_default c = sym (past c ∙ below _ c.in_default.if-b-lt48-own.true)
+returns-in_default c =
+    let b = c.args.b in
+    sym (other b (omega arith) (omega arith) (omega arith) (omega arith) ∙ below b (omega arith))
 
 pub returns-in_default-2 : goal.returns-in_default-2
-returns-in_default-2 c = sym (past c ∙ above _ c.if-b-lt48.false c.in_default.if-b-lt58-own.false)
+returns-in_default-2 c =
+    let b = c.args.b in
+    sym (other b (omega arith) (omega arith) (omega arith) (omega arith) ∙ above b (omega arith) (omega arith))

@@ -3,7 +3,6 @@ use native.Mathlib.Omega.{arith}
 use mathlib.Core.Path.{ap, sym, ◌∙◌}
 use Rattle.text.specs.Reading.{limited}
 use Rattle.text.proofs.Numbers.{malformed, empty, needless, several, single}
-use borrow.Author.Rules.{rules}
 use Rattle.text.proofs.job.number_in.Goals as goal
 
 pub returns-then-to-from : goal.returns-then-to-from

@@ -4,7 +4,6 @@ use mathlib.Core.Path.{ap, sym, ◌∙◌}
 use Rattle.terms.specs.Numbers as numbers
 use Rattle.text.specs.declared.job.Mark.TheVariants as is
 use Rattle.text.proofs.Reading.{one_byte, no_atom}
-use borrow.Author.Rules.{rules}
 use Rattle.text.proofs.job.sign_item.Goals as goal
 
 pub returns-in-Plus : goal.returns-in-Plus
@@ -29,7 +28,7 @@ returns-in-1 c = record { small = omega arith; same = one_byte c.args.b _ (sym c
 pub returns-in_default : goal.returns-in_default
 returns-in_default c =
     one_byte c.args.b _ (sym c.mark_of-m.ensures ∙ c.in-Digit.is)
-    ∙ no_atom _ c.in_default.in_default-own.rest.0.1 c.in_default.in_default-own.rest.1
+    ∙ no_atom _ (λ e. omega arith) (λ e. omega arith)
 
 pub returns-in-Space : goal.returns-in-Space
 returns-in-Space c = one_byte c.args.b _ (sym c.mark_of-m.ensures ∙ c.in-Space.is)

@@ -30,3 +30,6 @@ loop-i-preserved c =
 
 pub returns : goal.returns
 returns c = λ ws e. put_all_words c.args.list.now c.loop-i.i ws c.if-list-eq0.false c.loop-i-test.false e (c.loop-i.invariant.1 ws e)
+
+pub slice_bounds-put_word-end : goal.slice_bounds-put_word-end
+slice_bounds-put_word-end c = omega (arith, c.word_end-end.ensures, end_within c.args.list.now c.loop-i.i c.loop-i-test.true)

@@ -2,7 +2,6 @@
 use mathlib.Core.Path.{sym, ◌∙◌}
 use Rattle.text.proofs.Overlay.{put_as}
 use Rattle.text.proofs.Blocks.{known_direct, known_met, known_unmet}
-use borrow.Author.Rules.{rules}
 use Rattle.text.proofs.answer.block.put_block.Goals as goal
 
 pub returns-in-Direct : goal.returns-in-Direct

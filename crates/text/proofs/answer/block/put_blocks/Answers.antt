@@ -1,8 +1,6 @@
-use Prim.Native.Nat.{◌≤◌, ◌-◌}
-use mathlib.Core.Path.{◌≡◌, refl}
+use mathlib.Core.Path.{refl}
 use native.Mathlib.Omega.{arith}
-use lib.ListN.{length}
-use Rattle.text.proofs.Blocks.{PutsBlocks, blocks_start, blocks_more, blocks_all}
+use Rattle.text.proofs.Blocks.{blocks_start, blocks_more, blocks_all}
 use borrow.Author.Rules.{rules}
 use Rattle.text.proofs.answer.block.put_blocks.Goals as goal
 

@@ -1,10 +1,8 @@
 -- `put_blocks` meets its contract. The invariant: the blocks before r are put.
 use Prim.Native.Nat.{◌≤◌, ◌-◌}
-use mathlib.Core.Path.{◌≡◌, refl}
-use native.Mathlib.Omega.{arith}
+use mathlib.Core.Path.{◌≡◌}
 use lib.ListN.{length}
-use Rattle.text.proofs.Blocks.{PutsBlocks, blocks_start, blocks_more, blocks_all}
-use borrow.Author.Rules.{rules}
+use Rattle.text.proofs.Blocks.{PutsBlocks}
 use Rattle.text.proofs.answer.block.put_blocks.Given as goal
 
 abbrev pub invariant-loop-r : goal.invariant-loop-r

@@ -2,7 +2,6 @@
 use native.Mathlib.Omega.{arith}
 use Rattle.terms.specs.Theory.Held.{size_of}
 use Rattle.text.proofs.Answering.{whole_led}
-use borrow.Author.Rules.{rules}
 use Rattle.text.proofs.answer.block.put_direct.Goals as goal
 
 pub returns-then-left-gt31 : goal.returns-then-left-gt31

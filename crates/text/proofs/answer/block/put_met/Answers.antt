@@ -1,7 +1,6 @@
 -- `put_met` meets its contract.
 use Rattle.text.proofs.Overlay.{put_as}
 use Rattle.text.proofs.Blocks.{met_lines, met_led, met_not_first, met_short, met_block}
-use borrow.Author.Rules.{rules}
 use Rattle.text.proofs.answer.block.put_met.Goals as goal
 
 pub returns-in_default : goal.returns-in_default

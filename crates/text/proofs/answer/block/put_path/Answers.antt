@@ -2,7 +2,6 @@
 use mathlib.Core.Path.{sym, subst}
 use Rattle.text.specs.Walk.{Walk}
 use Rattle.text.proofs.Answering.{path_walk}
-use borrow.Author.Rules.{rules}
 use Rattle.text.proofs.answer.block.put_path.Goals as goal
 
 pub returns : goal.returns

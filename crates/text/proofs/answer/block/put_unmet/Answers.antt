@@ -1,7 +1,6 @@
 -- `put_unmet` meets its contract: an arm for each reason to stop.
 use Rattle.text.proofs.Overlay.{put_as}
 use Rattle.text.proofs.Blocks.{unmet_some, unmet_full, unmet_over}
-use borrow.Author.Rules.{rules}
 use Rattle.text.proofs.answer.block.put_unmet.Goals as goal
 
 pub returns-in-Over : goal.returns-in-Over

@@ -1,7 +1,6 @@
 -- `put_walk` meets its contract.
 use mathlib.Core.Path.{refl, ◌∙◌}
 use Rattle.text.proofs.Answering.{letters_fit, letters_listed}
-use borrow.Author.Rules.{rules}
 use Rattle.text.proofs.answer.block.put_walk.Goals as goal
 
 pub returns-in_default : goal.returns-in_default

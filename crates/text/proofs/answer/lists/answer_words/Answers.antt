@@ -2,7 +2,6 @@
 use mathlib.Core.Path.{◌∙◌}
 use native.Mathlib.Omega.{arith}
 use Rattle.words.specs.Words.{words}
-use borrow.Author.Rules.{rules}
 use Rattle.text.proofs.answer.lists.answer_words.Goals as goal
 
 pub returns : goal.returns

@@ -1,7 +1,6 @@
 -- `put_lists` meets its contract.
 use Rattle.text.specs.Bytes.{ascii}
 use Rattle.text.proofs.WordLines.{put_lists}
-use borrow.Author.Rules.{rules}
 use Rattle.text.proofs.answer.lists.put_lists.Goals as goal
 
 pub returns : goal.returns

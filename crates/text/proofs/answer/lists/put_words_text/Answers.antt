@@ -1,7 +1,6 @@
 -- `put_words_text` meets its contract: an arm for each order of the lists.
 use Rattle.text.proofs.Overlay.{put_as}
 use Rattle.text.proofs.WordLines.{words_less, words_equal, words_greater}
-use borrow.Author.Rules.{rules}
 use Rattle.text.proofs.answer.lists.put_words_text.Goals as goal
 
 pub returns-in-Less : goal.returns-in-Less

@@ -5,7 +5,6 @@ use Rattle.text.specs.Answer.{field}
 use mathlib.Core.List.{[], ◌∷◌, ◌++◌}
 use Rattle.text.proofs.Overlay.{then, put_as}
 use Rattle.text.proofs.Outcomes.{walk_count}
-use borrow.Author.Rules.{rules}
 use Rattle.text.proofs.answer.outcome.put_figures.Goals as goal
 
 pub returns : goal.returns

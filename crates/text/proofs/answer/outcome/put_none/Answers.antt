@@ -5,7 +5,6 @@ use Rattle.text.specs.Bytes.{ascii}
 use Rattle.text.specs.Answer.{field, yes_no}
 use Rattle.text.specs.Find.{outcome_lines, outcome_text}
 use Rattle.text.proofs.Overlay.{then, put_as, put_last}
-use borrow.Author.Rules.{rules}
 use Rattle.text.proofs.answer.outcome.put_none.Goals as goal
 
 pub returns : goal.returns

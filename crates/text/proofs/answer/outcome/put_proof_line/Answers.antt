@@ -2,7 +2,6 @@
 use Rattle.text.specs.Bytes.{ascii}
 use Rattle.text.specs.Answer.{field}
 use Rattle.text.proofs.Overlay.{then}
-use borrow.Author.Rules.{rules}
 use Rattle.text.proofs.answer.outcome.put_proof_line.Goals as goal
 
 pub returns : goal.returns

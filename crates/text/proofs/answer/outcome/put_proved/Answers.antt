@@ -5,7 +5,6 @@ use Rattle.text.specs.Answer.{field}
 use Rattle.text.specs.Find.{outcome_lines, outcome_text}
 use Rattle.text.proofs.Overlay.{then, put_last}
 use Rattle.text.proofs.Outcomes.{figures_then}
-use borrow.Author.Rules.{rules}
 use Rattle.text.proofs.answer.outcome.put_proved.Goals as goal
 
 pub returns : goal.returns

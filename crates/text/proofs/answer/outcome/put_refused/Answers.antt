@@ -1,7 +1,6 @@
 -- `put_refused` meets its contract.
 use Rattle.text.specs.Answer.{printed}
 use Rattle.text.proofs.Overlay.{then}
-use borrow.Author.Rules.{rules}
 use Rattle.text.proofs.answer.outcome.put_refused.Goals as goal
 
 pub returns : goal.returns

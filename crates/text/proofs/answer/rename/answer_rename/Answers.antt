@@ -3,7 +3,6 @@ use native.Mathlib.Omega.{arith}
 use Rattle.words.specs.Words.{words}
 use Rattle.words.specs.Rename.{canonical_terms}
 use Rattle.text.proofs.Renaming.{canonical_runs, canonical_lists}
-use borrow.Author.Rules.{rules}
 use Rattle.text.proofs.answer.rename.answer_rename.Goals as goal
 
 pub returns : goal.returns

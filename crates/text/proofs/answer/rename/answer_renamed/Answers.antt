@@ -1,6 +1,5 @@
 -- `answer_renamed` meets its contract: measured on an output of no bytes, then written.
 use Rattle.text.proofs.Measured.{fits_behind, lacks_behind}
-use borrow.Author.Rules.{rules}
 use Rattle.text.proofs.answer.rename.answer_renamed.Goals as goal
 
 pub returns-then-out-n : goal.returns-then-out-n

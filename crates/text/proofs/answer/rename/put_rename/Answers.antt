@@ -1,6 +1,5 @@
 -- `put_rename` meets its contract.
 use Rattle.text.proofs.Overlay.{then}
-use borrow.Author.Rules.{rules}
 use Rattle.text.proofs.answer.rename.put_rename.Goals as goal
 
 pub returns : goal.returns

@@ -1,7 +1,6 @@
 -- `put_term_lines` meets its contract.
 use Rattle.text.specs.Bytes.{ascii}
 use Rattle.text.proofs.Renaming.{put_term_lines}
-use borrow.Author.Rules.{rules}
 use Rattle.text.proofs.answer.rename.put_term_lines.Goals as goal
 
 pub returns : goal.returns

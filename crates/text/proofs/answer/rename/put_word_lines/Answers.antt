@@ -1,7 +1,6 @@
 -- `put_word_lines` meets its contract: the lists agree, or both are put.
 use Rattle.text.specs.Bytes.{ascii}
 use Rattle.text.proofs.Renaming.{put_no_lists, put_word_lines}
-use borrow.Author.Rules.{rules}
 use Rattle.text.proofs.answer.rename.put_word_lines.Goals as goal
 
 pub returns-then-same : goal.returns-then-same

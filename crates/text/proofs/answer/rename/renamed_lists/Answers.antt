@@ -1,7 +1,6 @@
 -- `renamed_lists` meets its contract.
 use mathlib.Core.Path.{sym, ◌∙◌}
 use mathlib.Core.Bool.{true≢false}
-use borrow.Author.Rules.{rules}
 use Rattle.text.proofs.answer.rename.renamed_lists.Goals as goal
 
 pub returns-then-same : goal.returns-then-same

@@ -3,7 +3,6 @@ use native.Mathlib.Omega.{arith}
 use mathlib.Core.Path.{ap}
 use lib.ListN.{length, length-take}
 use Rattle.text.proofs.Accepts.{kept_in_order}
-use borrow.Author.Rules.{rules}
 use Rattle.text.proofs.job.accept.orient.Goals as goal
 
 pub hold_slot-requires : goal.hold_slot-requires

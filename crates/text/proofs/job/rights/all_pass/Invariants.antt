@@ -1,10 +1,6 @@
 -- `all_pass` meets its contract: of the right sides passed each passes, so that what is left decides.
 use Prim.Native.Nat.{◌≤◌, ◌-◌}
-use native.Mathlib.Omega.{arith}
-use mathlib.Core.Path.{refl}
-use borrow.Author.Tests.{not-true, not-false}
-use Rattle.text.proofs.Rights.{PassedTo, all_passed, one_fails, one_passes}
-use borrow.Author.Rules.{rules}
+use Rattle.text.proofs.Rights.{PassedTo}
 use Rattle.text.proofs.job.rights.all_pass.Given as goal
 
 abbrev pub invariant-loop-r : goal.invariant-loop-r

@@ -1,7 +1,6 @@
 -- `few_letters` meets its contract: the letters have room in six numbers, or there are more.
 use mathlib.Core.Path.{refl}
 use Rattle.text.proofs.Rights.{few, many}
-use borrow.Author.Rules.{rules}
 use Rattle.text.proofs.job.rights.few_letters.Goals as goal
 
 pub returns-in-All : goal.returns-in-All

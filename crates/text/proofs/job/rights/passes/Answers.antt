@@ -1,6 +1,5 @@
 -- `passes` meets its contract: each test asks what its function tells.
 use Rattle.text.proofs.Rights.{letters_asked, difference_asked, order_asked}
-use borrow.Author.Rules.{rules}
 use Rattle.text.proofs.job.rights.passes.Goals as goal
 
 pub returns-in-Few : goal.returns-in-Few

@@ -1,14 +1,8 @@
 -- `read_rights` meets its contract: the right sides passed are terms, all small and in their slots or one large.
-use Prim.Native.Nat.{◌+◌, ◌*◌, ◌≤◌, ◌-◌}
-use native.Mathlib.Omega.{arith}
-use mathlib.Core.Logic.{⊎_elim}
-use mathlib.Core.Path.{◌≡◌, refl, sym, ap, ◌∙◌}
+use Prim.Native.Nat.{◌≤◌, ◌-◌}
+use mathlib.Core.Path.{◌≡◌}
 use lib.ListN.{length}
-use lib.Seq.{slice, length-take-le}
-use Rattle.text.specs.LayoutRead.{starts_at, ends_at}
-use Rattle.text.specs.SideRead.{TermRead}
-use Rattle.text.proofs.Rights.{ReadTo, none_read, all_read, foul_side, large_side, small_side}
-use borrow.Author.Rules.{rules}
+use Rattle.text.proofs.Rights.{ReadTo}
 use Rattle.text.proofs.job.rights.read_rights.Given as goal
 
 abbrev pub invariant-loop-r : goal.invariant-loop-r

@@ -1,13 +1,6 @@
 -- `item_end` meets its contract: where the item ends from the byte reached on, it ends from the start on.
 use Prim.Native.Nat.{ℕ, ◌≤◌, ◌-◌}
-use native.Mathlib.Omega.{arith}
-use mathlib.Core.Path.{sym, ◌∙◌}
-use lib.ListN.{get_or}
-use Rattle.text.specs.declared.job.Mark.TheVariants as is
 use Rattle.text.specs.SideRead.{ItemEnds}
-use Rattle.text.proofs.Marking.{tells, no_space}
-use Rattle.text.proofs.Sides.{side_ends, space_ends, item_goes_on}
-use borrow.Author.Rules.{rules}
 use Rattle.text.proofs.job.side.item_end.Given as goal
 
 abbrev pub invariant-loop-i : goal.invariant-loop-i

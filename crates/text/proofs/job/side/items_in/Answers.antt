@@ -1,11 +1,6 @@
-use Prim.Native.Nat.{ℕ, ◌-◌}
-use mathlib.Core.List.{List}
 use native.Mathlib.Omega.{arith}
-use mathlib.Core.Path.{◌≡◌, refl, subst}
-use lib.ListN.{length}
-use lib.Seq.{slice}
-use Rattle.text.specs.Reading.{Numbered, Items}
-use Rattle.text.proofs.Sides.{Reached, at_first, foul_item, last_item, next_item}
+use mathlib.Core.Path.{refl}
+use Rattle.text.proofs.Sides.{at_first, foul_item, last_item, next_item}
 use borrow.Author.Rules.{rules}
 use Rattle.text.proofs.job.side.items_in.Goals as goal
 
@@ -17,27 +12,15 @@ loop-x-init c =
 pub returns-in_default : goal.returns-in_default
 returns-in_default c =
     let a = c.args in
-    foul_item a.s.now a.from a.to c.loop-x.run c.loop-x.n c.loop-x.i c.item_end-end.result c.loop-x.invariant.1 c.item_end-end.ensures
-    (subst (Items (slice c.loop-x.i c.item_end-end.result a.s.now)) c.in_default.is c.item_at.ensures)
-
--- BY HAND
--- the item passed, and its number
-abbrev item : tie.After-x invariant-loop decreases-loop → List ℕ
-item c =
-    let d = c.before.before.before in
-    slice d.before.loop.i d.item-end.result d.before.before.before.before.args.s.now
-
--- BY HAND
-numbered : (c : tie.After-x invariant-loop decreases-loop) → Numbered (item c) c.x.given.0.0
-numbered c = subst (Items (item c)) c.x.given.1 c.before.before.item-at.ensures
+    foul_item a.s.now a.from a.to c.loop-x.run c.loop-x.n c.loop-x.i c.item_end-end.result c.loop-x.invariant.1 c.item_end-end.ensures c.in_default.ensures
 
 pub returns-then-to-end : goal.returns-then-to-end
 returns-then-to-end c =
     let a = c.args in
     last_item a.s.now a.from a.to c.loop-x.run c.loop-x.n c.loop-x.i c.item_end-end.result c.loop-x.invariant.1 c.item_end-end.ensures
-    _ (numbered c) (omega arith) c.if-to-end.true
+    _ c.in-Is.ensures (omega arith) c.if-to-end.true
 
 pub loop-x-preserved : goal.loop-x-preserved
 loop-x-preserved c =
     let a = c.args in
-    (search rules, next_item a.s.now a.from a.to c.loop-x.run c.loop-x.n c.loop-x.i c.item_end-end.result c.loop-x.invariant.1 c.item_end-end.ensures _ (numbered c) (omega arith) c.if-to-end.false)
+    (search rules, next_item a.s.now a.from a.to c.loop-x.run c.loop-x.n c.loop-x.i c.item_end-end.result c.loop-x.invariant.1 c.item_end-end.ensures _ c.in-Is.ensures (omega arith) c.if-to-end.false)

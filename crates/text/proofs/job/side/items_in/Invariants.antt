@@ -1,13 +1,8 @@
 -- `items_in` meets its contract: the items passed are read, and what is left of the side goes behind them.
-use Prim.Native.Nat.{ℕ, ◌-◌}
-use mathlib.Core.List.{List}
-use native.Mathlib.Omega.{arith}
-use mathlib.Core.Path.{◌≡◌, refl, subst}
+use Prim.Native.Nat.{◌-◌}
+use mathlib.Core.Path.{◌≡◌}
 use lib.ListN.{length}
-use lib.Seq.{slice}
-use Rattle.text.specs.Reading.{Numbered, Items}
-use Rattle.text.proofs.Sides.{Reached, at_first, foul_item, last_item, next_item}
-use borrow.Author.Rules.{rules}
+use Rattle.text.proofs.Sides.{Reached}
 use Rattle.text.proofs.job.side.items_in.Given as goal
 
 abbrev pub invariant-loop-x : goal.invariant-loop-x

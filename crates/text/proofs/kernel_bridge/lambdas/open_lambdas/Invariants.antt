@@ -12,7 +12,7 @@ use borrow.Author.Rules.{rules}
 use Rattle.text.proofs.kernel_bridge.lambdas.open_lambdas.Given as goal
 
 abbrev pub invariant-loop-i : goal.invariant-loop-i
-invariant-loop-i l = (i ≤ l.n) × (length l.p ≡ length l.initial.out) × Put (opens i) l.initial.out l.at l.i l.p
+invariant-loop-i l = (l.i ≤ l.n) × (length l.out ≡ length l.initial.out) × Put (opens l.i) l.initial.out l.at l.p l.out
 
 abbrev pub decreases-loop-i : goal.decreases-loop-i
-decreases-loop-i l = l.n - i
+decreases-loop-i l = l.n - l.i

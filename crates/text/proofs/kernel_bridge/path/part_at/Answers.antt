@@ -10,7 +10,7 @@ pub returns-then-run-from-lt-ADD : goal.returns-then-run-from-lt-ADD
 returns-then-run-from-lt-ADD c = part_atom c.args.right c.if-run-from-lt-ADD.true
 
 pub returns-then-right : goal.returns-then-right
-returns-then-right c = part_right c.args.right c.end_of_lem.result c.if-right.true c.if-run-from-lt-ADD.false c.end_of_lem.ensures
+returns-then-right c = part_right c.args.right c.end_of.result c.if-right.true c.if-run-from-lt-ADD.false c.end_of.ensures
 
 pub returns : goal.returns
 returns c = part_left c.args.right c.if-right.false c.if-run-from-lt-ADD.false

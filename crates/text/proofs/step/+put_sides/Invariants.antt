@@ -1,0 +1,6 @@
+-- The measure is how far the place is.
+use Rattle.std.proofs.Common.{◌-◌}
+use Rattle.text.proofs.step.+put_sides.Given as goal
+
+abbrev pub decreases-put_sides : goal.decreases-put_sides
+decreases-put_sides l = l.place - l.from
