@@ -5,12 +5,12 @@ use Rattle.text.proofs.step.+put_sides.Goals as goal
 
 pub put_sides-requires : goal.put_sides-requires
 put_sides-requires t c =
-    let e = left_nears c.side_at.ensures c.in-Left.n-is c.in-Left.is in
+    let e = left_nears c.side_at.ensures c.in-Left.n c.in-Left.is in
     omega (arith, e)
 
 pub put_sides-requires-in-Right : goal.put_sides-requires-in-Right
 put_sides-requires-in-Right t c =
-    let e = right_nears c.side_at.ensures c.in-Right.n-is c.in-Right.is in
+    let e = right_nears c.side_at.ensures c.in-Right.n c.in-Right.is in
     omega (arith, e)
 
 pub returns-in-Here : goal.returns-in-Here
