@@ -15,14 +15,13 @@ pub loop-n-preserved-then-not-uses_law : goal.loop-n-preserved-then-not-uses_law
 loop-n-preserved-then-not-uses_law c = (omega arith, omega arith, c.loop-n.invariant.2, uses_skip c.loop-n.n c.loop-n-test.true c.law_of-law.result c.law_of-law.ensures c.loop-n.invariant.3 c.uses_law.ensures c.if-not-uses_law.true)
 
 pub loop-n-preserved : goal.loop-n-preserved
-loop-n-preserved c =
-    (
-      omega arith,
-      omega arith,
-      c.put_law-p.auto.out ∙ c.put_gap-q.auto.out ∙ c.loop-n.invariant.2,
-      uses_more c.loop-n.n c.loop-n-test.true c.law_of-law.result c.law_of-law.ensures c.loop-n.invariant.3 c.uses_law.ensures c.if-not-uses_law.false c.put_gap-q.ensures
-          c.put_law-p.ensures,
-    )
+loop-n-preserved c = (
+  omega arith,
+  omega arith,
+  c.put_law-p.auto.out ∙ c.put_gap-q.auto.out ∙ c.loop-n.invariant.2,
+  uses_more c.loop-n.n c.loop-n-test.true c.law_of-law.result c.law_of-law.ensures c.loop-n.invariant.3 c.uses_law.ensures c.if-not-uses_law.false c.put_gap-q.ensures
+      c.put_law-p.ensures,
+)
 
 pub returns : goal.returns
 returns c = search (uses_all, rules)
