@@ -96,7 +96,8 @@ pub fn finish<'a>(w: Writer<'a>) -> usize
 pub fn write_bytes(out: &mut [u8], at: usize, text: &[u8]) -> usize
     ensures { Put text.now out.old at result out.new }
 {
-    let w = put_bytes(new(out, at), text);
+    let mut w = new(out, at);
+    w.at = put::put_bytes(&mut *w.buf, at, text);
     finish(w)
 }
 
@@ -104,7 +105,8 @@ pub fn write_bytes(out: &mut [u8], at: usize, text: &[u8]) -> usize
 pub fn write_byte(out: &mut [u8], at: usize, b: u8) -> usize
     ensures { Put (b ∷ []) out.old at result out.new }
 {
-    let w = put_byte(new(out, at), b);
+    let mut w = new(out, at);
+    w.at = put::put_byte(&mut *w.buf, at, b);
     finish(w)
 }
 
@@ -112,7 +114,10 @@ pub fn write_byte(out: &mut [u8], at: usize, b: u8) -> usize
 pub fn write_line(out: &mut [u8], at: usize, key: &[u8], value: &[u8]) -> usize
     ensures { Put (key.now ++ (value.now ++ (10 ∷ []))) out.old at result out.new }
 {
-    let w = put_byte(put_bytes(put_bytes(new(out, at), key), value), b'\n');
+    let mut w = new(out, at);
+    let p = put::put_bytes(&mut *w.buf, at, key);
+    let q = put::put_bytes(&mut *w.buf, p, value);
+    w.at = put::put_byte(&mut *w.buf, q, b'\n');
     finish(w)
 }
 
@@ -120,7 +125,10 @@ pub fn write_line(out: &mut [u8], at: usize, key: &[u8], value: &[u8]) -> usize
 pub fn write_number_line(out: &mut [u8], at: usize, key: &[u8], n: usize) -> usize
     ensures { Put (key.now ++ (number n ++ (10 ∷ []))) out.old at result out.new }
 {
-    let w = put_byte(put_number(put_bytes(new(out, at), key), n), b'\n');
+    let mut w = new(out, at);
+    let p = put::put_bytes(&mut *w.buf, at, key);
+    let q = put::put_number(&mut *w.buf, p, n);
+    w.at = put::put_byte(&mut *w.buf, q, b'\n');
     finish(w)
 }
 
@@ -128,7 +136,10 @@ pub fn write_number_line(out: &mut [u8], at: usize, key: &[u8], n: usize) -> usi
 pub fn write_term_line(out: &mut [u8], at: usize, key: &[u8], run: &[u32]) -> usize
     ensures { (t : Term) → IsRun run.now t → Put (key.now ++ (write_term t ++ (10 ∷ []))) out.old at result out.new }
 {
-    let w = put_byte(put_term(put_bytes(new(out, at), key), run), b'\n');
+    let mut w = new(out, at);
+    let p = put::put_bytes(&mut *w.buf, at, key);
+    let q = put::put_term(&mut *w.buf, p, run);
+    w.at = put::put_byte(&mut *w.buf, q, b'\n');
     finish(w)
 }
 
@@ -136,6 +147,9 @@ pub fn write_term_line(out: &mut [u8], at: usize, key: &[u8], run: &[u32]) -> us
 pub fn write_words_line(out: &mut [u8], at: usize, key: &[u8], list: &[u32]) -> usize
     ensures { (ws : List Word) → list.now ≡ spelled ws → Put (key.now ++ (word_list ws ++ (10 ∷ []))) out.old at result out.new }
 {
-    let w = put_byte(put_words(put_bytes(new(out, at), key), list), b'\n');
+    let mut w = new(out, at);
+    let p = put::put_bytes(&mut *w.buf, at, key);
+    let q = put::put_words(&mut *w.buf, p, list);
+    w.at = put::put_byte(&mut *w.buf, q, b'\n');
     finish(w)
 }

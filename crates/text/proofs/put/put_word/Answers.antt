@@ -23,13 +23,12 @@ loop-i-init c =
     (search rules, refl, put_no_piece (code " ") letter_text a.letters.now a.out.now a.at (omega arith) (omega arith))
 
 pub loop-i-preserved : goal.loop-i-preserved
-loop-i-preserved c =
-    (
-      omega arith,
-      c.put_next_letter-p.auto.out ∙ c.loop-i.invariant.1,
-      put_piece (code " ") letter_text c.args.letters.now c.loop-i.i (omega arith) c.loop-i.invariant.2
-          (put_as (ap (λ k. gap (code " ") c.loop-i.i ++ write_letter k) c.letter_of.ensures) c.put_next_letter-p.ensures),
-    )
+loop-i-preserved c = (
+  omega arith,
+  c.put_next_letter-p.auto.out ∙ c.loop-i.invariant.1,
+  put_piece (code " ") letter_text c.args.letters.now c.loop-i.i (omega arith) c.loop-i.invariant.2
+      (put_as (ap (λ k. gap (code " ") c.loop-i.i ++ write_letter k) c.letter_of.ensures) c.put_next_letter-p.ensures),
+)
 
 pub returns : goal.returns
 returns c = λ w e. put_whole_word c.args.letters.now c.loop-i.i w c.if-letters-eq0.false c.loop-i-test.false e c.loop-i.invariant.2

@@ -21,12 +21,11 @@ pub overflow_add-i : goal.overflow_add-i
 overflow_add-i c = omega (arith, c.word_end-end.ensures, end_within c.args.list.now c.loop-i.i c.loop-i-test.true)
 
 pub loop-i-preserved : goal.loop-i-preserved
-loop-i-preserved c =
-    (
-      c.put_word-p.auto.out ∙ c.put_gap-q.auto.out ∙ c.loop-i.invariant.0,
-      λ ws e. one_more c.word_end-end.result c.loop-i-test.true c.word_end-end.ensures (c.loop-i.invariant.1 ws e) c.put_gap-q.ensures
-          c.put_word-p.ensures,
-    )
+loop-i-preserved c = (
+  c.put_word-p.auto.out ∙ c.put_gap-q.auto.out ∙ c.loop-i.invariant.0,
+  λ ws e. one_more c.word_end-end.result c.loop-i-test.true c.word_end-end.ensures (c.loop-i.invariant.1 ws e) c.put_gap-q.ensures
+      c.put_word-p.ensures,
+)
 
 pub returns : goal.returns
 returns c = λ ws e. put_all_words c.args.list.now c.loop-i.i ws c.if-list-eq0.false c.loop-i-test.false e (c.loop-i.invariant.1 ws e)

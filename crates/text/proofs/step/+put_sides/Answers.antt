@@ -3,14 +3,14 @@ use Rattle.std.proofs.Common.{arith, rules}
 use Rattle.text.proofs.StepTexts.{sides_end, left_nears, right_nears, sides_left, sides_right}
 use Rattle.text.proofs.step.+put_sides.Goals as goal
 
-pub put_sides-requires-in-Left : goal.put_sides-requires-in-Left
-put_sides-requires-in-Left t c =
-    let e = left_nears c.side_at.ensures c.in-Left.field-0-is c.in-Left.is in
+pub put_sides-requires : goal.put_sides-requires
+put_sides-requires t c =
+    let e = left_nears c.side_at.ensures c.in-Left.n c.in-Left.is in
     omega (arith, e)
 
 pub put_sides-requires-in-Right : goal.put_sides-requires-in-Right
 put_sides-requires-in-Right t c =
-    let e = right_nears c.side_at.ensures c.in-Right.field-0-is c.in-Right.is in
+    let e = right_nears c.side_at.ensures c.in-Right.n c.in-Right.is in
     omega (arith, e)
 
 pub returns-in-Here : goal.returns-in-Here

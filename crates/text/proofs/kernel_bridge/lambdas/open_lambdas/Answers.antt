@@ -16,12 +16,11 @@ loop-i-init c = (search rules, refl, put_none c.args.out.now c.args.at (omega ar
 
 pub loop-i-preserved : goal.loop-i-preserved
 unfolding opens ascii
-loop-i-preserved c =
-    (
-      omega (arith, c.loop-i.invariant.0),
-      c.put_byte-p.auto.out ∙ c.put_variable-b.auto.out ∙ c.put_bytes-a.auto.out ∙ c.loop-i.invariant.1,
-      rw add-one (then c.loop-i.invariant.2 (then c.put_bytes-a.ensures (then c.put_variable-b.ensures c.put_byte-p.ensures))),
-    )
+loop-i-preserved c = (
+  omega (arith, c.loop-i.invariant.0),
+  c.put_byte-p.auto.out ∙ c.put_variable-b.auto.out ∙ c.put_bytes-a.auto.out ∙ c.loop-i.invariant.1,
+  rw add-one (then c.loop-i.invariant.2 (then c.put_bytes-a.ensures (then c.put_variable-b.ensures c.put_byte-p.ensures))),
+)
 
 pub returns : goal.returns
 returns c =
