@@ -1,7 +1,6 @@
 -- What a byte of a term is.
 use Rattle.std.specs.Prelude.{ℕ, ◌-◌, true, false, eqb, leb}
 use Prim.Native.Char.{code}
-use Rattle.text.specs.declared.job.Sign.{Sign}
 use Rattle.text.specs.declared.job.Sign.TheVariants.{Plus, Times, Letter}
 use Rattle.text.specs.declared.job.Mark.{Mark}
 use Rattle.text.specs.declared.job.Mark.TheVariants as is

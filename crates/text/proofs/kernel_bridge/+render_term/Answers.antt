@@ -1,5 +1,4 @@
 -- `render_term` meets its contract: the parts are rendered one after the other.
-use Rattle.std.proofs.Common.{rules}
 use Rattle.text.specs.Bytes.{ascii}
 use Rattle.text.proofs.Rendered.{held_past, put_atom_term, put_node}
 use Rattle.text.proofs.kernel_bridge.+render_term.Goals as goal

@@ -1,7 +1,5 @@
 -- `copy_term` meets its contract.
-use native.Mathlib.Omega.{arith}
 use Rattle.text.proofs.Applied.{copies_past, copies_none, copies_all}
-use borrow.Author.Rules.{rules}
 use Rattle.text.proofs.kernel_bridge.copy_term.Goals as goal
 
 pub returns-then-run-from : goal.returns-then-run-from

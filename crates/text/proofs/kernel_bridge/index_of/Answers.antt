@@ -1,9 +1,5 @@
-use Prim.Native.Nat.{◌+◌, ◌-◌}
-use mathlib.Core.Path.{◌≡◌, sym, ◌∙◌}
-use lib.ListN.{length, drop}
-use Rattle.text.specs.Proof.{index_of}
+use mathlib.Core.Path.{sym, ◌∙◌}
 use Rattle.text.proofs.Rendered.{index_past, index_here, index_later}
-use borrow.Author.Rules.{rules}
 use Rattle.text.proofs.kernel_bridge.index_of.Goals as goal
 
 pub returns-then-names-i : goal.returns-then-names-i

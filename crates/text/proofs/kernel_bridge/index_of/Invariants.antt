@@ -1,10 +1,8 @@
 -- `index_of` meets its contract. The invariant: none of the names before i is n.
 use Prim.Native.Nat.{◌+◌, ◌-◌}
-use mathlib.Core.Path.{◌≡◌, sym, ◌∙◌}
+use mathlib.Core.Path.{◌≡◌}
 use lib.ListN.{length, drop}
 use Rattle.text.specs.Proof.{index_of}
-use Rattle.text.proofs.Rendered.{index_past, index_here, index_later}
-use borrow.Author.Rules.{rules}
 use Rattle.text.proofs.kernel_bridge.index_of.Given as goal
 
 abbrev pub invariant-loop-i : goal.invariant-loop-i

@@ -2,7 +2,6 @@
 use native.Mathlib.Omega.{arith}
 use Rattle.text.specs.Bytes.{ascii}
 use Rattle.text.proofs.Applied.{put_no_argument, put_argument}
-use borrow.Author.Rules.{rules}
 use Rattle.text.proofs.kernel_bridge.put_argument.Goals as goal
 
 pub returns-then-v-eq0 : goal.returns-then-v-eq0

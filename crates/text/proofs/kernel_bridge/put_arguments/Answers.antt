@@ -3,7 +3,6 @@ use native.Mathlib.Omega.{arith}
 use Rattle.search.specs.Span.{span_of}
 use Rattle.text.specs.Applied.{arguments}
 use Rattle.text.proofs.Overlay.{then}
-use borrow.Author.Rules.{rules}
 use Rattle.text.proofs.kernel_bridge.put_arguments.Goals as goal
 
 pub returns : goal.returns

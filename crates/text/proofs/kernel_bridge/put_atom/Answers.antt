@@ -3,7 +3,6 @@ use Rattle.text.specs.Bytes.{ascii}
 use Rattle.text.specs.Proof.{ref}
 use Rattle.text.proofs.Overlay.{put_as}
 use Rattle.text.proofs.Rendered.{atom_letter, atom_zero, atom_one}
-use borrow.Author.Rules.{rules}
 use Rattle.text.proofs.kernel_bridge.put_atom.Goals as goal
 
 pub returns-then-n-lt-ZERO : goal.returns-then-n-lt-ZERO

@@ -4,7 +4,6 @@ use Rattle.text.specs.Bytes.{ascii}
 use Rattle.text.specs.StepText.{law_name}
 use Rattle.text.proofs.Rendered.{put_ref}
 use Rattle.text.proofs.Applied.{put_call}
-use borrow.Author.Rules.{rules}
 use Rattle.text.proofs.kernel_bridge.put_call.Goals as goal
 
 pub returns : goal.returns

@@ -2,7 +2,6 @@
 use Rattle.text.specs.Bytes.{ascii}
 use Rattle.text.proofs.Overlay.{put_as}
 use Rattle.text.proofs.Rendered.{operator_add, operator_mul}
-use borrow.Author.Rules.{rules}
 use Rattle.text.proofs.kernel_bridge.put_operator.Goals as goal
 
 pub returns-then-n-eq-ADD : goal.returns-then-n-eq-ADD

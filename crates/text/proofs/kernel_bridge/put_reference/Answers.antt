@@ -4,7 +4,6 @@ use Rattle.text.specs.Bytes.{ascii}
 use Rattle.text.specs.Proof.{ref, variable}
 use Rattle.text.proofs.Overlay.{put_as}
 use Rattle.text.proofs.Rendered.{put_ref}
-use borrow.Author.Rules.{rules}
 use Rattle.text.proofs.kernel_bridge.put_reference.Goals as goal
 
 pub returns : goal.returns

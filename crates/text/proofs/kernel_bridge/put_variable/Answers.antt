@@ -2,7 +2,6 @@
 use Rattle.text.specs.Bytes.{ascii}
 use Rattle.text.specs.Proof.{variable}
 use Rattle.text.proofs.Overlay.{then}
-use borrow.Author.Rules.{rules}
 use Rattle.text.proofs.kernel_bridge.put_variable.Goals as goal
 
 pub returns : goal.returns

@@ -2,7 +2,6 @@
 use native.Mathlib.Omega.{arith}
 use mathlib.Core.Path.{refl}
 use Rattle.text.proofs.Applied.{both_held, put_unmatched, put_matched}
-use borrow.Author.Rules.{rules}
 use Rattle.text.proofs.kernel_bridge.render_axiom_application.Goals as goal
 
 pub returns-in_default : goal.returns-in_default

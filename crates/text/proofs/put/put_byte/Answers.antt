@@ -2,7 +2,6 @@
 use mathlib.Core.List.{[], ◌∷◌}
 use native.Mathlib.Omega.{arith}
 use Rattle.text.proofs.Overlay.{put_in, put_past}
-use borrow.Author.Rules.{rules}
 use Rattle.text.proofs.put.put_byte.Goals as goal
 
 pub returns-then-at-out : goal.returns-then-at-out

@@ -1,9 +1,6 @@
-use Prim.Native.Nat.{◌≤◌, ◌-◌}
-use mathlib.Core.Path.{◌≡◌, refl, ◌∙◌}
+use mathlib.Core.Path.{refl, ◌∙◌}
 use native.Mathlib.Omega.{arith}
-use lib.ListN.{length, take}
 use lib.Seq.{take_all}
-use Rattle.text.specs.Put.{Put}
 use Rattle.text.proofs.Overlay.{put_none, put_more, put_as}
 use borrow.Author.Rules.{rules}
 use Rattle.text.proofs.put.put_bytes.Goals as goal

@@ -1,12 +1,8 @@
 -- `put_bytes` meets its contract. The invariant: the bytes before i are put.
 use Prim.Native.Nat.{◌≤◌, ◌-◌}
-use mathlib.Core.Path.{◌≡◌, refl, ◌∙◌}
-use native.Mathlib.Omega.{arith}
+use mathlib.Core.Path.{◌≡◌}
 use lib.ListN.{length, take}
-use lib.Seq.{take_all}
 use Rattle.text.specs.Put.{Put}
-use Rattle.text.proofs.Overlay.{put_none, put_more, put_as}
-use borrow.Author.Rules.{rules}
 use Rattle.text.proofs.put.put_bytes.Given as goal
 
 abbrev pub invariant-loop-i : goal.invariant-loop-i

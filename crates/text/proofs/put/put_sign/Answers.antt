@@ -2,7 +2,6 @@
 use mathlib.Core.List.{◌∷◌, []}
 use mathlib.Core.Path.{ap}
 use Rattle.text.proofs.Overlay.{put_as}
-use borrow.Author.Rules.{rules}
 use Rattle.text.proofs.put.put_sign.Goals as goal
 
 pub returns : goal.returns

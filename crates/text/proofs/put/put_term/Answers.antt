@@ -1,12 +1,7 @@
-use Prim.Native.Nat.{◌≤◌, ◌-◌}
 use Prim.Native.Char.{code}
-use mathlib.Core.Path.{◌≡◌, refl, ◌∙◌}
-use mathlib.Core.List.{map}
+use mathlib.Core.Path.{refl, ◌∙◌}
 use native.Mathlib.Omega.{arith}
-use lib.ListN.{length, take}
-use Rattle.text.specs.Bytes.{parted}
 use Rattle.text.specs.Items.{item}
-use Rattle.text.specs.Put.{Put}
 use Rattle.text.proofs.Overlay.{then}
 use Rattle.text.proofs.Items.{put_no_piece, put_piece, put_whole}
 use borrow.Author.Rules.{rules}

@@ -1,13 +1,9 @@
-use Prim.Native.Nat.{◌≤◌, ◌-◌}
 use Prim.Native.Char.{code}
-use mathlib.Core.Path.{◌≡◌, refl, ap, ◌∙◌}
-use mathlib.Core.List.{◌++◌, map}
+use mathlib.Core.Path.{refl, ap, ◌∙◌}
+use mathlib.Core.List.{◌++◌}
 use native.Mathlib.Omega.{arith}
-use lib.ListN.{length, take}
-use Rattle.text.specs.Bytes.{parted}
 use Rattle.text.specs.TermText.{write_letter}
 use Rattle.text.specs.Items.{gap}
-use Rattle.text.specs.Put.{Put}
 use Rattle.text.proofs.Overlay.{put_as}
 use Rattle.text.proofs.Items.{put_no_piece, put_piece}
 use Rattle.text.proofs.WordTexts.{letter_text, put_empty_word, put_whole_word}

@@ -1,12 +1,6 @@
-use Prim.Native.Nat.{◌-◌}
-use mathlib.Core.Path.{◌≡◌, refl, ◌∙◌}
-use mathlib.Core.List.{List}
+use mathlib.Core.Path.{refl, ◌∙◌}
 use native.Mathlib.Omega.{arith}
-use lib.ListN.{length}
-use Rattle.words.specs.Words.{Word}
-use Rattle.words.specs.Spelled.{spelled}
-use Rattle.text.proofs.WordTexts.{Before, none_before, one_more, end_within, put_no_words, put_all_words}
-use borrow.Author.Rules.{rules}
+use Rattle.text.proofs.WordTexts.{none_before, one_more, end_within, put_no_words, put_all_words}
 use Rattle.text.proofs.put.put_words.Goals as goal
 
 pub returns-then-list-eq0 : goal.returns-then-list-eq0

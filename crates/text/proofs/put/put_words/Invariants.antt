@@ -1,13 +1,11 @@
 -- `put_words` meets its contract. The invariant: the words before i are put.
 use Prim.Native.Nat.{◌-◌}
-use mathlib.Core.Path.{◌≡◌, refl, ◌∙◌}
+use mathlib.Core.Path.{◌≡◌}
 use mathlib.Core.List.{List}
-use native.Mathlib.Omega.{arith}
 use lib.ListN.{length}
 use Rattle.words.specs.Words.{Word}
 use Rattle.words.specs.Spelled.{spelled}
-use Rattle.text.proofs.WordTexts.{Before, none_before, one_more, end_within, put_no_words, put_all_words}
-use borrow.Author.Rules.{rules}
+use Rattle.text.proofs.WordTexts.{Before}
 use Rattle.text.proofs.put.put_words.Given as goal
 
 abbrev pub invariant-loop-i : goal.invariant-loop-i

@@ -1,9 +1,5 @@
-use Prim.Native.Nat.{◌+◌, ◌-◌}
-use mathlib.Core.Path.{◌≡◌, sym, ◌∙◌}
-use lib.ListN.{length, drop}
-use Rattle.text.specs.Spelled.{word_size}
+use mathlib.Core.Path.{sym, ◌∙◌}
 use Rattle.text.proofs.WordTexts.{size_past, size_end, size_more}
-use borrow.Author.Rules.{rules}
 use Rattle.text.proofs.put.word_end.Goals as goal
 
 pub returns-then-list-i-eq0 : goal.returns-then-list-i-eq0

@@ -1,10 +1,8 @@
 -- `word_end` meets its contract. The invariant: the word from i on ends where the word at `at` does.
 use Prim.Native.Nat.{◌+◌, ◌-◌}
-use mathlib.Core.Path.{◌≡◌, sym, ◌∙◌}
+use mathlib.Core.Path.{◌≡◌}
 use lib.ListN.{length, drop}
 use Rattle.text.specs.Spelled.{word_size}
-use Rattle.text.proofs.WordTexts.{size_past, size_end, size_more}
-use borrow.Author.Rules.{rules}
 use Rattle.text.proofs.put.word_end.Given as goal
 
 abbrev pub invariant-loop-i : goal.invariant-loop-i

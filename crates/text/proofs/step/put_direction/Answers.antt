@@ -2,7 +2,6 @@
 use Rattle.text.specs.Bytes.{ascii}
 use Rattle.text.specs.StepText.{direction}
 use Rattle.text.proofs.StepTexts.{put_directed}
-use borrow.Author.Rules.{rules}
 use Rattle.text.proofs.step.put_direction.Goals as goal
 
 pub returns-in-Forward : goal.returns-in-Forward

@@ -2,7 +2,6 @@
 use Rattle.text.specs.Bytes.{ascii}
 use Rattle.text.specs.StepText.{law_name}
 use Rattle.text.proofs.StepTexts.{put_named}
-use borrow.Author.Rules.{rules}
 use Rattle.text.proofs.step.put_law.Goals as goal
 
 pub returns-in-AddAssoc : goal.returns-in-AddAssoc

@@ -2,7 +2,6 @@
 use Rattle.text.specs.Bytes.{ascii}
 use Rattle.text.proofs.Overlay.{then}
 use Rattle.text.proofs.StepTexts.{put_value}
-use borrow.Author.Rules.{rules}
 use Rattle.text.proofs.step.put_line.Goals as goal
 
 pub returns : goal.returns

@@ -1,6 +1,5 @@
 -- `put_place` meets its contract: `.` for the root, and elsewhere the sides.
 use Rattle.text.proofs.StepTexts.{put_root, put_below}
-use borrow.Author.Rules.{rules}
 use Rattle.text.proofs.step.put_place.Goals as goal
 
 pub returns-then-place-eq0 : goal.returns-then-place-eq0

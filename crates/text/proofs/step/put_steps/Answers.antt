@@ -1,8 +1,6 @@
-use Prim.Native.Nat.{◌≤◌, ◌-◌}
-use mathlib.Core.Path.{◌≡◌, refl}
+use mathlib.Core.Path.{refl}
 use native.Mathlib.Omega.{arith}
-use lib.ListN.{length}
-use Rattle.text.proofs.Walks.{PutsSteps, steps_start, steps_more, steps_all}
+use Rattle.text.proofs.Walks.{steps_start, steps_more, steps_all}
 use borrow.Author.Rules.{rules}
 use Rattle.text.proofs.step.put_steps.Goals as goal
 

@@ -1,10 +1,8 @@
 -- `put_steps` meets its contract. The invariant: the lines before i are put.
 use Prim.Native.Nat.{◌≤◌, ◌-◌}
-use mathlib.Core.Path.{◌≡◌, refl}
-use native.Mathlib.Omega.{arith}
+use mathlib.Core.Path.{◌≡◌}
 use lib.ListN.{length}
-use Rattle.text.proofs.Walks.{PutsSteps, steps_start, steps_more, steps_all}
-use borrow.Author.Rules.{rules}
+use Rattle.text.proofs.Walks.{PutsSteps}
 use Rattle.text.proofs.step.put_steps.Given as goal
 
 abbrev pub invariant-loop-i : goal.invariant-loop-i

@@ -1,8 +1,6 @@
-use Prim.Native.Nat.{◌≤◌, ◌-◌}
-use mathlib.Core.Path.{◌≡◌, refl, ◌∙◌}
+use mathlib.Core.Path.{refl, ◌∙◌}
 use native.Mathlib.Omega.{arith}
-use lib.ListN.{length}
-use Rattle.text.proofs.Walks.{PutsUses, uses_start, uses_skip, uses_more, uses_all}
+use Rattle.text.proofs.Walks.{uses_start, uses_skip, uses_more, uses_all}
 use borrow.Author.Rules.{rules}
 use Rattle.text.proofs.step.put_uses.Goals as goal
 

@@ -1,10 +1,8 @@
 -- `put_uses` meets its contract. The invariant: those of the first n laws that the path uses are put, and counted.
 use Prim.Native.Nat.{◌≤◌, ◌-◌}
-use mathlib.Core.Path.{◌≡◌, refl, ◌∙◌}
-use native.Mathlib.Omega.{arith}
+use mathlib.Core.Path.{◌≡◌}
 use lib.ListN.{length}
-use Rattle.text.proofs.Walks.{PutsUses, uses_start, uses_skip, uses_more, uses_all}
-use borrow.Author.Rules.{rules}
+use Rattle.text.proofs.Walks.{PutsUses}
 use Rattle.text.proofs.step.put_uses.Given as goal
 
 abbrev pub invariant-loop-n : goal.invariant-loop-n

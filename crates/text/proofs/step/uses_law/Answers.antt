@@ -1,6 +1,4 @@
-use Prim.Native.Nat.{◌≤◌, ◌-◌}
-use lib.ListN.{length}
-use Rattle.text.proofs.Walks.{Unused, unused_start, used_found, unused_more, unused_all}
+use Rattle.text.proofs.Walks.{unused_start, used_found, unused_more, unused_all}
 use borrow.Author.Rules.{rules}
 use Rattle.text.proofs.step.uses_law.Goals as goal
 

@@ -1,8 +1,7 @@
 -- `uses_law` meets its contract. The invariant: no line before i is by the law.
 use Prim.Native.Nat.{◌≤◌, ◌-◌}
 use lib.ListN.{length}
-use Rattle.text.proofs.Walks.{Unused, unused_start, used_found, unused_more, unused_all}
-use borrow.Author.Rules.{rules}
+use Rattle.text.proofs.Walks.{Unused}
 use Rattle.text.proofs.step.uses_law.Given as goal
 
 abbrev pub invariant-loop-i : goal.invariant-loop-i

@@ -1,10 +1,7 @@
-use Prim.Native.Nat.{◌≤◌, ◌-◌}
 use mathlib.Core.Path.{◌≡◌, refl, ap, ◌∙◌}
 use native.Mathlib.Omega.{arith}
 use native.Mathlib.Numerals.{add-one}
-use lib.ListN.{length}
 use Rattle.text.specs.Bytes.{ascii}
-use Rattle.text.specs.Put.{Put}
 use Rattle.text.specs.Framed.{closes}
 use Rattle.text.proofs.Overlay.{then, put_as, put_none}
 use borrow.Author.Rules.{rules}

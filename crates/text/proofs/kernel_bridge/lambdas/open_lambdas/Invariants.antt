@@ -1,14 +1,9 @@
 -- `open_lambdas` meets its contract. The invariant: the binders before i are put.
 use Prim.Native.Nat.{◌≤◌, ◌-◌}
-use mathlib.Core.Path.{◌≡◌, refl, ap, ◌∙◌}
-use native.Mathlib.Omega.{arith}
-use native.Mathlib.Numerals.{add-one}
+use mathlib.Core.Path.{◌≡◌}
 use lib.ListN.{length}
-use Rattle.text.specs.Bytes.{ascii}
 use Rattle.text.specs.Put.{Put}
 use Rattle.text.specs.Framed.{opens}
-use Rattle.text.proofs.Overlay.{then, put_as, put_none}
-use borrow.Author.Rules.{rules}
 use Rattle.text.proofs.kernel_bridge.lambdas.open_lambdas.Given as goal
 
 abbrev pub invariant-loop-i : goal.invariant-loop-i

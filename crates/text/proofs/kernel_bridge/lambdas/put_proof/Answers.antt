@@ -1,6 +1,5 @@
 -- `put_proof` meets its contract: the path inside the binders.
 use Rattle.text.proofs.Joining.{proof_put}
-use borrow.Author.Rules.{rules}
 use Rattle.text.proofs.kernel_bridge.lambdas.put_proof.Goals as goal
 
 pub returns : goal.returns

@@ -1,6 +1,5 @@
 -- `part_at` meets its contract: a part starts behind its operator, or where the part on the left ends.
 use Rattle.text.proofs.Framing.{part_past, part_atom, part_left, part_right}
-use borrow.Author.Rules.{rules}
 use Rattle.text.proofs.kernel_bridge.path.part_at.Goals as goal
 
 pub returns-then-run-from : goal.returns-then-run-from

@@ -3,7 +3,6 @@ use Rattle.text.specs.Bytes.{ascii}
 use Rattle.text.specs.Proof.{part}
 use Rattle.text.specs.Framed.{side_of, frame}
 use Rattle.text.proofs.Overlay.{then}
-use borrow.Author.Rules.{rules}
 use Rattle.text.proofs.kernel_bridge.path.render_congruence.Goals as goal
 
 pub returns : goal.returns

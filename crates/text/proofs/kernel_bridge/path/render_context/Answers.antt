@@ -8,7 +8,6 @@ use Rattle.text.specs.Framed.{side_of}
 use Rattle.text.proofs.Overlay.{then, put_as, put_none}
 use Rattle.text.proofs.Rendered.{held_past}
 use Rattle.text.proofs.Framing.{atom, node, context_right, context_left}
-use borrow.Author.Rules.{rules}
 use Rattle.text.proofs.kernel_bridge.path.render_context.Goals as goal
 
 pub returns-then-run-from : goal.returns-then-run-from

@@ -1,6 +1,5 @@
 -- `render_law` meets its contract.
 use Rattle.text.specs.Proof.{at_place}
-use borrow.Author.Rules.{rules}
 use Rattle.text.proofs.kernel_bridge.path.render_law.Goals as goal
 
 pub returns-in-Forward : goal.returns-in-Forward

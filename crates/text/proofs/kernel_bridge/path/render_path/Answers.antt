@@ -1,6 +1,5 @@
 -- `render_path` meets its contract.
 use Rattle.text.proofs.Joining.{lines_all}
-use borrow.Author.Rules.{rules}
 use Rattle.text.proofs.kernel_bridge.path.render_path.Goals as goal
 
 pub returns : goal.returns

@@ -1,7 +1,6 @@
 -- `render_slot` meets its contract: the line by the step in slot k, from the term in the slot that it names.
 use Rattle.text.proofs.Walks.{no_start}
 use Rattle.text.proofs.Joining.{step_put}
-use borrow.Author.Rules.{rules}
 use Rattle.text.proofs.kernel_bridge.path.render_slot.Goals as goal
 
 pub returns-in_default : goal.returns-in_default

@@ -4,7 +4,6 @@ use Rattle.search.specs.Coded.{name_of}
 use Rattle.text.specs.Bytes.{ascii}
 use Rattle.text.proofs.Overlay.{then, put_as}
 use Rattle.text.proofs.Framing.{symmetry_text}
-use borrow.Author.Rules.{rules}
 use Rattle.text.proofs.kernel_bridge.path.render_symmetry.Goals as goal
 
 pub returns : goal.returns

@@ -4,7 +4,6 @@ use Rattle.text.specs.Bytes.{ascii}
 use Rattle.text.specs.Framed.{ends}
 use Rattle.text.proofs.Overlay.{then}
 use Rattle.text.proofs.Joining.{holds_shown}
-use borrow.Author.Rules.{rules}
 use Rattle.text.proofs.kernel_bridge.path.render_transitivity.Goals as goal
 
 pub shape_of-out : goal.shape_of-out
