@@ -1,5 +1,5 @@
-// What hosts call as C functions, each over the function below with the same contract. The archive for hosts has the entries of one
-// crate alone, so that all stand here.
+// The six entries, each over the function below with the same contract. Hosts call them as C functions, which are in the crate
+// puvainy_c.
 #![tactic(auto)]
 
 ghost use Rattle.std.specs.Prelude.{length};

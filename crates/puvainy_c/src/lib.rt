@@ -1,5 +1,5 @@
-// What hosts call as C functions, each over the function below with the same contract. The archive for hosts has the entries of one
-// crate alone, so that all stand here.
+// What hosts call as C functions, each over the function of puvainy that has its name, with the same contract. The archive for hosts
+// is built of this crate, and no crate can call its functions.
 #![tactic(auto)]
 
 ghost use Rattle.std.specs.Prelude.{length};
