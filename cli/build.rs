@@ -1,4 +1,4 @@
-//! Links the static library, which `rt staticlib puvainy` writes.
+//! Links the static library, which `.ci/archive` writes.
 
 use std::path::PathBuf;
 
@@ -10,7 +10,7 @@ fn main() {
     println!("cargo::rerun-if-changed={}", library.display());
     if !library.exists() {
         let library = library.display();
-        println!("cargo::error=no {library}: run `rt staticlib puvainy` first");
+        println!("cargo::error=no {library}: run `.ci/archive` first");
         return;
     }
     println!("cargo::rustc-link-search=native={}", folder.display());

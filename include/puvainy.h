@@ -1,5 +1,5 @@
 /* Puvainy's six entries. The library is target/staticlib/libpuvainy.a, written by
- * `rt staticlib puvainy`.
+ * `.ci/archive`.
  *
  * Each entry is proved for every text and for buffers of any length and contents. It keeps no pointer
  * and no state from call to call, allocates nothing, and makes no call to the system. Calls on

@@ -6,7 +6,7 @@ ghost use Rattle.text.specs.Prints.{Prints};
 ghost use Rattle.checking.specs.Check.{program};
 
 use checking::entry;
-use libc::{STDERR_FILENO, STDIN_FILENO, STDOUT_FILENO};
+use std::io::{self, Read, Write};
 use text::answer::outcome;
 
 // What the program prints, at the front of the output: the answer, or two lines with the refusal's number.
@@ -22,13 +22,10 @@ fn respond(input: &[u8], output: &mut [u8]) -> usize
 }
 
 // One byte more than a derivation may have is read, so that a longer input is seen to be too long.
-fn main() {
-    let mut input = [0u8; 8193];
-    let n = io::read_full(STDIN_FILENO, &mut input);
+fn main(rt: HostRuntime) -> io::Result<()> {
+    let mut input = Vec::new(rt.alloc());
+    rt.stdin().take(8193).read_to_end(&mut input)?;
     let mut output = [0u8; 64];
-    let length = respond(&input[..n], &mut output);
-    if io::write_all(STDOUT_FILENO, &output[..length]) {
-        return;
-    }
-    io::write_all(STDERR_FILENO, b"checker: the answer could not be written\n");
+    let length = respond(&input, &mut output);
+    rt.stdout().write_all(&output[..length])
 }

@@ -5,7 +5,7 @@ ghost use Rattle.std.specs.Prelude.{◌≡◌, length};
 ghost use Rattle.text.specs.Entry.{program};
 ghost use Rattle.text.specs.Prints.{Prints};
 
-use libc::{STDERR_FILENO, STDIN_FILENO, STDOUT_FILENO};
+use std::io::{self, Read, Write};
 use text::answer::outcome;
 use text::entry;
 
@@ -22,14 +22,11 @@ fn respond(input: &[u8], output: &mut [u8], workspace: &mut [u32]) -> usize
 }
 
 // One byte more than a job may have is read, so that a longer input is seen to be too long.
-fn main() {
-    let mut input = [0u8; 4097];
-    let n = io::read_full(STDIN_FILENO, &mut input);
+fn main(rt: HostRuntime) -> io::Result<()> {
+    let mut input = Vec::new(rt.alloc());
+    rt.stdin().take(4097).read_to_end(&mut input)?;
     let mut output = [0u8; 32768];
     let mut workspace = [0u32; 16000];
-    let length = respond(&input[..n], &mut output, &mut workspace);
-    if io::write_all(STDOUT_FILENO, &output[..length]) {
-        return;
-    }
-    io::write_all(STDERR_FILENO, b"find: the answer could not be written\n");
+    let length = respond(&input, &mut output, &mut workspace);
+    rt.stdout().write_all(&output[..length])
 }

@@ -1,5 +1,5 @@
-// What hosts call as C functions, each over the function below with the same contract. The archive for hosts has the entries of one
-// crate alone, so that all stand here.
+// The six entries, each over the function below with the same contract. Hosts call them as C functions, which are in the crate
+// puvainy_c.
 #![tactic(auto)]
 
 ghost use Rattle.std.specs.Prelude.{length};
@@ -15,48 +15,42 @@ use checking::entry::check;
 use text::entry;
 
 // FIND. The workspace holds the noted terms, 40 numbers to a slot.
-#[unsafe(no_mangle)]
-pub extern "C" fn puvainy_find(job: &[u8], output: &mut [u8], workspace: &mut [u32]) -> usize
+pub fn puvainy_find(job: &[u8], output: &mut [u8], workspace: &mut [u32]) -> usize
     ensures { FindCall job.now output.old workspace.old result output.new workspace.new }
 {
     entry::find(job, output, workspace)
 }
 
 // WORDS.
-#[unsafe(no_mangle)]
-pub extern "C" fn puvainy_words(job: &[u8], output: &mut [u8]) -> usize
+pub fn puvainy_words(job: &[u8], output: &mut [u8]) -> usize
     ensures { Call (words_entry job.now (length output.old)) output.old result output.new }
 {
     entry::words(job, output)
 }
 
 // RENAME.
-#[unsafe(no_mangle)]
-pub extern "C" fn puvainy_rename(job: &[u8], output: &mut [u8]) -> usize
+pub fn puvainy_rename(job: &[u8], output: &mut [u8]) -> usize
     ensures { Call (rename_entry job.now (length output.old)) output.old result output.new }
 {
     entry::rename(job, output)
 }
 
 // CHECK.
-#[unsafe(no_mangle)]
-pub extern "C" fn puvainy_check(text: &[u8], output: &mut [u8]) -> usize
+pub fn puvainy_check(text: &[u8], output: &mut [u8]) -> usize
     ensures { CheckCall text.now output.old result output.new }
 {
     check(text, output)
 }
 
 // PUT. The catalogue is a buffer of 346,113 numbers, of which zeros are an empty one.
-#[unsafe(no_mangle)]
-pub extern "C" fn puvainy_put(text: &[u8], catalogue: &mut [u32]) -> usize
+pub fn puvainy_put(text: &[u8], catalogue: &mut [u32]) -> usize
     ensures { SentCall (put_text text.now) catalogue.old result catalogue.new }
 {
     put(text, catalogue)
 }
 
 // WITHDRAW.
-#[unsafe(no_mangle)]
-pub extern "C" fn puvainy_withdraw(text: &[u8], catalogue: &mut [u32]) -> usize
+pub fn puvainy_withdraw(text: &[u8], catalogue: &mut [u32]) -> usize
     ensures { SentCall (withdraw_text text.now) catalogue.old result catalogue.new }
 {
     withdraw(text, catalogue)

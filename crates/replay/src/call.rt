@@ -9,7 +9,7 @@ use crate::dirt;
 use crate::record::Record;
 
 // What is not as it is stored.
-#[derive(Drop)]
+#[derive(Clone, Copy)]
 pub enum Fault {
     Nothing,
     // The buffers are too small for this call.

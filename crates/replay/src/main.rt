@@ -4,16 +4,19 @@
 mod call;
 mod dirt;
 mod record;
+mod report;
 mod tally;
 
-ghost use Rattle.std.specs.Prelude.{◌<◌, ◌≤◌, length};
+ghost use Rattle.std.specs.Prelude.{◌<◌, ◌≤◌, IfOk, length};
 
 use crate::record::Reading;
+use crate::report::Report;
 use catalogue::places::LENGTH;
-use libc::{STDIN_FILENO, STDOUT_FILENO};
+use std::io::{self, Read};
 
 // Makes the call that starts here, and answers where the next one does.
 fn replay_one(
+    report: &mut Report,
     s: &[u8],
     at: usize,
     first: u8,
@@ -29,17 +32,18 @@ fn replay_one(
 {
     let reading = record::record_at(s, at);
     let Reading::Whole(call) = reading else {
-        io::write_all(STDOUT_FILENO, b"the list breaks off\n");
+        report.print("the list breaks off\n");
         return s.len();
     };
     let fault = call::fault_of(s, call, first, output, workspace, former, catalogue, before);
-    tally::count(counts, call, fault);
+    tally::count(report, counts, call, fault);
     call.next
 }
 
 // Makes the calls that start before a position, and answers where the next one does. Each finds the workspace
 // and the catalogue as former calls left them, and an output full of other bytes.
 fn replay(
+    report: &mut Report,
     s: &[u8],
     upto: usize,
     output: &mut [u8],
@@ -56,15 +60,32 @@ fn replay(
     let mut at: usize = 0;
     while at < upto {
         at = replay_one(
-            s, at, first, output, workspace, former, catalogue, before, counts,
+            report, s, at, first, output, workspace, former, catalogue, before, counts,
         );
         first = std::num::wrapping_add_u8(first, 1);
     }
     at
 }
 
+// Reads until the buffer is full or the input ends, and answers how many bytes it put at the front.
+fn read_full(input: &mut impl Read, buffer: &mut [u8]) -> io::Result<usize>
+    ensures { IfOk result (λ n. n ≤ length buffer.new) }
+{
+    let mut done: usize = 0;
+    while done < buffer.len() {
+        let n = input.read(&mut buffer[done..])?;
+        if n == 0 {
+            break;
+        }
+        done += n;
+    }
+    Ok(done)
+}
+
 // The list is read part by part; what is not replayed of a part is moved to the front of the next.
 fn replay_list(
+    list: &mut impl Read,
+    report: &mut Report,
     input: &mut [u8],
     output: &mut [u8],
     workspace: &mut [u32],
@@ -72,15 +93,16 @@ fn replay_list(
     catalogue: &mut [u32],
     before: &mut [u32],
     counts: &mut [u32],
-) {
+) -> io::Result<()> {
     dirt::fill_numbers(workspace, 7);
     let mut held: usize = 0;
     let mut part: usize = 0;
     while part < 64 {
-        let n = io::read_full(STDIN_FILENO, &mut input[held..]);
+        let n = read_full(list, &mut input[held..])?;
         let end = held + n;
         let upto = record::starts_up_to(end, input.len());
         let next = replay(
+            report,
             &input[..end],
             upto,
             output,
@@ -91,52 +113,54 @@ fn replay_list(
             counts,
         );
         if end < input.len() {
-            return;
+            return Ok(());
         }
         held = record::move_to_front(input, next);
         part += 1;
     }
-    io::write_all(STDOUT_FILENO, b"the list is too long\n");
+    report.print("the list is too long\n");
+    Ok(())
 }
 
-fn print_field(name: &[u8], n: u32) {
-    io::write_all(STDOUT_FILENO, name);
-    io::print_decimal(STDOUT_FILENO, n as u64);
+fn print_field(report: &mut Report, name: &str, n: u32) {
+    report.print(name);
+    report.print(n);
 }
 
 // The answers and the refusals 1 to 15 of an entry.
-fn print_entry(counts: &[u32], name: &[u8], entry: usize) {
-    io::write_all(STDOUT_FILENO, name);
+fn print_entry(report: &mut Report, counts: &[u32], name: &str, entry: usize) {
+    report.print(name);
     if 6 < entry {
         return;
     }
-    print_field(b" answers=", tally::count_at(counts, entry * 16));
+    print_field(report, " answers=", tally::count_at(counts, entry * 16));
     let mut n: usize = 1;
     while n < 16 {
-        io::write_all(STDOUT_FILENO, b" refused_");
-        io::print_decimal(STDOUT_FILENO, n as u64);
-        print_field(b"=", tally::count_at(counts, entry * 16 + n));
+        report.print(" refused_");
+        report.print(n);
+        print_field(report, "=", tally::count_at(counts, entry * 16 + n));
         n += 1;
     }
-    io::write_all(STDOUT_FILENO, b"\n");
+    report.print("\n");
 }
 
-fn print_counts(counts: &[u32]) {
-    print_field(b"calls=", tally::count_at(counts, tally::CALLS));
+fn print_counts(report: &mut Report, counts: &[u32]) {
+    print_field(report, "calls=", tally::count_at(counts, tally::CALLS));
     print_field(
-        b"\ndifferences=",
+        report,
+        "\ndifferences=",
         tally::count_at(counts, tally::DIFFERENCES),
     );
-    io::write_all(STDOUT_FILENO, b"\n");
-    print_entry(counts, b"find", 1);
-    print_entry(counts, b"words", 2);
-    print_entry(counts, b"rename", 3);
-    print_entry(counts, b"check", 4);
-    print_entry(counts, b"put", 5);
-    print_entry(counts, b"withdraw", 6);
+    report.print("\n");
+    print_entry(report, counts, "find", 1);
+    print_entry(report, counts, "words", 2);
+    print_entry(report, counts, "rename", 3);
+    print_entry(report, counts, "check", 4);
+    print_entry(report, counts, "put", 5);
+    print_entry(report, counts, "withdraw", 6);
 }
 
-fn main() {
+fn main(rt: HostRuntime) -> io::Result<()> {
     let mut input = [0u8; 131072];
     let mut output = [0u8; 32768];
     let mut workspace = [0u32; 16040];
@@ -144,7 +168,10 @@ fn main() {
     let mut catalogue = [0u32; LENGTH];
     let mut before = [0u32; LENGTH];
     let mut counts = [0u32; 112];
+    let mut report = Report::new(rt.stdout());
     replay_list(
+        &mut rt.stdin(),
+        &mut report,
         &mut input,
         &mut output,
         &mut workspace,
@@ -152,6 +179,7 @@ fn main() {
         &mut catalogue,
         &mut before,
         &mut counts,
-    );
-    print_counts(&counts);
+    )?;
+    print_counts(&mut report, &counts);
+    report.end()
 }

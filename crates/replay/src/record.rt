@@ -11,7 +11,7 @@ pub struct Number {
 }
 
 // A stored call. Its job ends where its answer starts, and that ends where the next record starts.
-#[derive(Drop)]
+#[derive(Clone, Copy)]
 pub struct Record {
     pub entry: usize,
     pub slots: usize,

@@ -4,7 +4,7 @@ ghost use Rattle.replay.specs.Tally.{one_more, refusal, place, is_fault, counted
 
 use crate::call::Fault;
 use crate::record::Record;
-use libc::STDOUT_FILENO;
+use crate::report::Report;
 
 // Where the calls and the differences are counted; entry e has its answers at 16 e, refusal n at 16 e + n.
 pub const CALLS: usize = 0;
@@ -70,54 +70,46 @@ fn is_fault(fault: Fault) -> bool
 }
 
 // The first call that differs is printed.
-fn count_difference(counts: &mut [u32], call: Record, fault: Fault)
+fn count_difference(report: &mut Report, counts: &mut [u32], call: Record, fault: Fault)
     ensures { counts.new ≡ one_more 1 counts.old }
 {
     if count_at(counts, DIFFERENCES) == 0 {
-        print_fault(count_at(counts, CALLS), call, fault);
+        print_fault(report, count_at(counts, CALLS), call, fault);
     }
     add_one(counts, DIFFERENCES);
 }
 
-pub fn count(counts: &mut [u32], call: Record, fault: Fault)
+pub fn count(report: &mut Report, counts: &mut [u32], call: Record, fault: Fault)
     ensures { counts.new ≡ counted call fault counts.old }
 {
     add_one(counts, CALLS);
     add_one(counts, place_of(call.entry, call.number));
     if is_fault(fault) {
-        count_difference(counts, call, fault);
+        count_difference(report, counts, call, fault);
     }
 }
 
-fn print_number(n: usize) {
-    io::print_decimal(STDOUT_FILENO, n as u64);
+fn print_number(report: &mut Report, n: usize) {
+    report.print(n);
 }
 
-fn print_fault(at: u32, call: Record, fault: Fault) {
-    io::write_all(STDOUT_FILENO, b"difference: call ");
-    io::print_decimal(STDOUT_FILENO, at as u64);
-    io::write_all(STDOUT_FILENO, b" of entry ");
-    print_number(call.entry);
+fn print_fault(report: &mut Report, at: u32, call: Record, fault: Fault) {
+    report.print("difference: call ");
+    report.print(at);
+    report.print(" of entry ");
+    print_number(report, call.entry);
     match fault {
         Fault::Nothing => {}
-        Fault::Buffers => {
-            io::write_all(STDOUT_FILENO, b" needs larger buffers");
-        }
+        Fault::Buffers => report.print(" needs larger buffers"),
         Fault::Number(n, due) => {
-            io::write_all(STDOUT_FILENO, b" returned ");
-            print_number(n);
-            io::write_all(STDOUT_FILENO, b", due ");
-            print_number(due);
+            report.print(" returned ");
+            print_number(report, n);
+            report.print(", due ");
+            print_number(report, due);
         }
-        Fault::Output => {
-            io::write_all(STDOUT_FILENO, b" left other bytes in the output");
-        }
-        Fault::Workspace => {
-            io::write_all(STDOUT_FILENO, b" changed the workspace");
-        }
-        Fault::Catalogue => {
-            io::write_all(STDOUT_FILENO, b" changed the catalogue");
-        }
+        Fault::Output => report.print(" left other bytes in the output"),
+        Fault::Workspace => report.print(" changed the workspace"),
+        Fault::Catalogue => report.print(" changed the catalogue"),
     }
-    io::write_all(STDOUT_FILENO, b"\n");
+    report.print("\n");
 }
