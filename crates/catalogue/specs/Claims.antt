@@ -93,7 +93,7 @@ pub record PutFor (bs : List ℕ) (e : Entry Kind) (s t : Term) : Type 0 where
   pub text : bs ≡ field "number=" (number e.number) ++ (field "key=" (key_name e.kind.key) ++ job)
   pub read : read_put bs ≡ accepted e
 
--- by `key=raw`, a one_to_one renaming of letters, with or without exchanging sides, turns one equation into the other; by `key=words`, the
+-- by `key=raw`, a one-to-one renaming of letters, with or without exchanging sides, turns one equation into the other; by `key=words`, the
 -- words of the sides agree in each, or such a renaming turns the lists of words of the one into those of the other
 abbrev pub AlikeBy : Key → (s t u v : Term) → Type 0
 AlikeBy raw s t u v = Alike s t u v

@@ -1,4 +1,4 @@
--- What it means that two equations share a name: a one_to_one renaming of letters turns one into the other, with or without exchanging
+-- What it means that two equations share a name: a one-to-one renaming of letters turns one into the other, with or without exchanging
 -- sides. The same of two pairs of word lists.
 use Rattle.std.specs.Prelude.{◌≡◌, ℕ, ◌⊎◌, List, ◌++◌}
 use mathlib.Core.List.{flatten}
@@ -12,7 +12,7 @@ use Rattle.words.specs.Rename.{rename_term, rename_words}
 abbrev pub OneToOne : List ℕ → (ℕ → ℕ) → Type 0
 OneToOne ns new = (m n : ℕ) → m ∈ ns → n ∈ ns → new m ≡ new n → m ≡ n
 
--- a one_to_one renaming of the letters that occur turns the equation of s and t into that of u and v
+-- a one-to-one renaming of the letters that occur turns the equation of s and t into that of u and v
 pub record Turns (s t u v : Term) : Type 0 where
   pub new : ℕ → ℕ
   pub one_to_one : OneToOne (letters s ++ letters t) new

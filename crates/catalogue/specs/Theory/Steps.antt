@@ -48,7 +48,7 @@ module _ {cat : List ℕ} {c : Catalogue Kind} (H : Holds cat c) (S : Sound same
   free_number j h a = subst (At cat j) a (H.places j h)
 
   pub number_entry : (j : ℕ) → j < PLACES → 0 < number_at cat j → (e : Entry Kind) × (at c.places j ≡ some e)
-  number_entry j h Some-number = go (at c.places j) refl
+  number_entry j h some-number = go (at c.places j) refl
     where
       go : (o : Option (Entry Kind)) → at c.places j ≡ o → (e : Entry Kind) × (at c.places j ≡ some e)
       go none a = absurd (omega (arith, free_number j h a))

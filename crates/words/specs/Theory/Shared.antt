@@ -1,4 +1,4 @@
--- Equations get the same canonical equation exactly when a one_to_one renaming turns one into the other; renamed again, it stays.
+-- Equations get the same canonical equation exactly when a one-to-one renaming turns one into the other; renamed again, it stays.
 use Rattle.std.specs.Prelude.{◌≡◌, ℕ, ◌<◌, ◌≤◌, Bool, true, ◌⊎◌, ◌↔◌, List, ◌++◌, length, ◌≢◌}
 use Rattle.std.proofs.Common.{arith, sym, ◌∙◌, ap, inl, inr, ⊎_elim}
 use mathlib.Core.List.{flatten}
@@ -62,7 +62,7 @@ turned_words h = record { new = h.new; renaming = renaming h.one_to_one; left = 
 turns_words : {us vs ps qs : List Word} → Turned rename_words flatten all_free us vs ps qs → TurnsWords us vs ps qs
 turns_words h = record { new = h.new; one_to_one = h.renaming.one_to_one; left = h.left; right = h.right }
 
--- two equations share a name exactly when a one_to_one renaming of letters turns one into the other, with or without exchanging sides
+-- two equations share a name exactly when a one-to-one renaming of letters turns one into the other, with or without exchanging sides
 pub shared_name : (s t u v : Term) → canonical_terms s t ≡ canonical_terms u v ↔ Alike s t u v
 shared_name s t u v =
     let (only, all) = alike_exactly terms_rename all_free term_order listing terms_canonical {s = s} {t = t} {u = u} {v = v} tt tt tt tt in
