@@ -68,7 +68,8 @@ fn answer_renamed(out: &mut [u8], a: &[u32], b: &[u32], same: bool, u: &[u32], v
     100 + n
 }
 
-// Whether the words of two terms agree.
+// Whether the words of two terms agree. Not inlined, so that its lists do not lie beside the caller's on the stack.
+#[inline(never)]
 pub fn same_words(left: &[u32], right: &[u32]) -> bool
     ensures { (s t : Term) → IsRun left.now s → IsRun right.now t → size s ≤ 31 → size t ≤ 31 → result ≡ compare_is_eq (order_lists (words s) (words t)) }
 {
