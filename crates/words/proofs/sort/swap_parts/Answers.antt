@@ -5,13 +5,12 @@ use Rattle.words.proofs.Parts.{swapped}
 use Rattle.words.proofs.sort.swap_parts.Goals as goal
 
 pub slice_bounds-copy-end-2 : goal.slice_bounds-copy-end-2
-slice_bounds-copy-end-2 c = sym (length-take-le _ _ c.before.before.before.before.before.before.before.before.before.requires.0)
+slice_bounds-copy-end-2 c = sym (length-take-le _ _ c.requires.0)
 
 pub returns : goal.returns
 returns c =
-    let s = c.before.before.before.before.before.before.before.before.before.before.before.before in
-    let xs = s.args.parts.now in
-    let mid = s.args.mid in
+    let xs = c.args.parts.now in
+    let mid = c.args.mid in
     c.copy-2.ensures
     ∙ ap (λ l. sets l (length xs - mid) (take mid xs)) c.copy.ensures
-    ∙ swapped xs s.args.out.now mid s.requires.0 s.requires.1
+    ∙ swapped xs c.args.out.now mid c.requires.0 c.requires.1
