@@ -9,6 +9,20 @@ use Rattle.search.proofs.bounded_search.explore.Goals as goal
 pub outer-init : goal.outer-init
 outer-init c = search (starts, rules)
 
+pub loop-j-init : goal.loop-j-init
+loop-j-init c =
+    let o = c.outer in (
+      omega arith,
+      omega (arith, c.outer-test.true),
+      o.invariant.1,
+      refl,
+      refl,
+      search rules,
+      refl,
+      opened o.invariant.7 c.outer-test.true c.value_of-distance.ensures (omega (arith, c.if-limits-i.false)) (omega (arith, c.if-limits-distance.false)) (omega (arith, c.requires.4))
+          (ap (λ n. n / 20) (sym (c.open_slot-count.auto.order ∙ o.invariant.4))) c.open_slot-count.ensures,
+    )
+
 pub overflow_add-noted : goal.overflow_add-noted
 overflow_add-noted c = omega (arith, c.loop-j.invariant.2, c.requires.1)
 
@@ -22,6 +36,7 @@ loop-j-preserved c =
       v.invariant.4,
       progress_noted v.invariant.1 c.loop-j-test.true c.open_slot-count.ensures.few c.take_result.ensures v.invariant.5 c.in-Noted.is (omega (arith, c.if-missing-struck.false)),
       c.take_result.auto.replies ∙ v.invariant.6,
+      v.invariant.7,
     )
 
 pub outer-preserved : goal.outer-preserved
@@ -36,8 +51,7 @@ outer-preserved c =
       e.auto.order ∙ o.invariant.4,
       v.invariant.4 ∙ o.invariant.5,
       refl,
-      all_taken v.invariant.5 (opened o.invariant.7 c.outer-test.true c.value_of-distance.ensures (omega (arith, c.if-limits-i.false)) (omega (arith, c.if-limits-distance.false)) (omega (arith, c.requires.4))
-          (ap (λ n. n / 20) (sym (c.open_slot-count.auto.order ∙ o.invariant.4))) c.open_slot-count.ensures) (omega (arith, c.loop-j-test.false)) c.open_slot-count.ensures.few,
+      all_taken v.invariant.5 v.invariant.7 (omega (arith, c.loop-j-test.false)) c.open_slot-count.ensures.few,
       v.invariant.6 ∙ o.invariant.8,
     )
 
@@ -55,13 +69,9 @@ returns-then-limits-distance c =
 pub returns-then-missing-struck : goal.returns-then-missing-struck
 returns-then-missing-struck c =
     let v = c.loop-j in
-    let o = c.outer in
-    ends_all v.invariant.1 c.loop-j-test.true c.open_slot-count.ensures.few c.take_result.ensures v.invariant.5 (opened o.invariant.7 c.outer-test.true c.value_of-distance.ensures (omega (arith, c.if-limits-i.false)) (omega (arith, c.if-limits-distance.false)) (omega (arith, c.requires.4))
-    (ap (λ n. n / 20) (sym (c.open_slot-count.auto.order ∙ o.invariant.4))) c.open_slot-count.ensures) c.in-Noted.is (omega (arith, c.if-missing-struck.true))
+    ends_all v.invariant.1 c.loop-j-test.true c.open_slot-count.ensures.few c.take_result.ensures v.invariant.5 v.invariant.7 c.in-Noted.is (omega (arith, c.if-missing-struck.true))
 
 pub returns-in-Full : goal.returns-in-Full
 returns-in-Full c =
     let v = c.loop-j in
-    let o = c.outer in
-    ends_full v.invariant.1 c.loop-j-test.true c.open_slot-count.ensures.few c.take_result.ensures v.invariant.5 (opened o.invariant.7 c.outer-test.true c.value_of-distance.ensures (omega (arith, c.if-limits-i.false)) (omega (arith, c.if-limits-distance.false)) (omega (arith, c.requires.4))
-    (ap (λ n. n / 20) (sym (c.open_slot-count.auto.order ∙ o.invariant.4))) c.open_slot-count.ensures) c.in-Full.is
+    ends_full v.invariant.1 c.loop-j-test.true c.open_slot-count.ensures.few c.take_result.ensures v.invariant.5 v.invariant.7 c.in-Full.is
