@@ -120,8 +120,5 @@ module _ (xs : List ℕ) (at : ℕ) where
       node_deep =
           rw (drop_one xs at h, depths_two (get_or xs at 0) rest q, L.deep, R.deep, second, depths_skip rest 1, get_or-drop 1 (depths rest) 0 0)
 
-      pub extends_right : l.depth < r.depth → Extends xs at (record { end = r.end; depth = r.depth + 1 })
-      extends_right p = extends _ node_ends (omega (arith, node_deep))
-
-      pub extends_left : r.depth ≤ l.depth → Extends xs at (record { end = r.end; depth = l.depth + 1 })
-      extends_left p = extends _ node_ends (omega (arith, node_deep))
+      pub extends_node : (d : ℕ) → d ≡ max l.depth r.depth → Extends xs at (record { end = r.end; depth = d + 1 })
+      extends_node d p = extends _ node_ends (omega (arith, node_deep))

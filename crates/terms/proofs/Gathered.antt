@@ -1,11 +1,11 @@
 -- The letters of lists of numbers, gathered in the front of a list.
-use Prim.Native.Nat.{ℕ, ◌+◌, ◌-◌, ◌<◌, ◌≤◌, min, compare}
+use Prim.Native.Nat.{ℕ, ◌+◌, ◌-◌, ◌<◌, ◌≤◌, compare}
 use native.Mathlib.Omega.{arith}
 use mathlib.Core.Path.{◌≡◌, refl, sym, ap, ◌∙◌}
 use mathlib.Core.Logic.{⊎_elim}
 use mathlib.Core.List.{List, [], ◌∷◌, ◌++◌, foldl-append}
-use lib.ListN.{length, take, drop, get_or, length-append, length-drop, take-append-drop, drop_of_length-le}
-use lib.Seq.{drop-drop, take_all, take-length, take_at, drop_at, length-take-le}
+use lib.ListN.{length, take, drop, get_or, length-append, length-drop, drop_of_length-le}
+use lib.Seq.{drop-drop, take_at, drop_at}
 use borrow.Author.Tests.{lt-ltb, le-ltb}
 use Rattle.terms.specs.Sort.{lost, insert_all}
 use Rattle.terms.specs.Term.{Term, letter, zero, one, add, mul}
@@ -16,8 +16,7 @@ use Rattle.terms.specs.Numbers.{letters_of}
 use Rattle.terms.specs.Promises.{Fills, Lists}
 use Rattle.terms.specs.Theory.Order.{below?}
 use Rattle.terms.specs.Theory.Insert.{insert_grows, insert_all_grows}
-use Rattle.terms.specs.declared.term.Listed.{Listed}
-use Rattle.terms.specs.declared.term.Listed.TheVariants.{All, TooMany}
+use Rattle.std.specs.Prelude.{Option, Some, None}
 use Rattle.terms.proofs.Positions.{drop_one}
 use Rattle.terms.proofs.Inserted.{inserted}
 
@@ -53,24 +52,24 @@ letters_term {t = t} h = rw h.whole (letters_run t h.fine)
 
 -- a list that fills a front
 
-pub fills_front : {n : ℕ} (l out out' : List ℕ) → Fills l out (All n) out' → take n out' ≡ l
+pub fills_front : {n : ℕ} (l out out' : List ℕ) → Fills l out (Some n) out' → take n out' ≡ l
 fills_front {n} l out out' (e, h, w) = rw w (take_at l (drop n out) n (sym e))
 
-pub fills_length : {n : ℕ} (l out out' : List ℕ) → Fills l out (All n) out' → length out' ≡ length out
+pub fills_length : {n : ℕ} (l out out' : List ℕ) → Fills l out (Some n) out' → length out' ≡ length out
 fills_length {n} l out out' (e, h, w) = omega (arith, ap length w ∙ length-append l (drop n out), length-drop n out)
 
 -- and what lies behind it
-fills_drop : {n : ℕ} (l out out' : List ℕ) (m : ℕ) → Fills l out (All n) out' → n ≤ m → drop m out' ≡ drop m out
+fills_drop : {n : ℕ} (l out out' : List ℕ) (m : ℕ) → Fills l out (Some n) out' → n ≤ m → drop m out' ≡ drop m out
 fills_drop {n} l out out' m (e, h, w) g =
     let k : n + (m - n) ≡ m = omega arith in
     rw (← k, ← (drop-drop (m - n) n out'), ← (drop-drop (m - n) n out), w) (ap (drop (m - n)) (drop_at l (drop n out) n (sym e)))
 
 -- one list and then a longer one in its place
-pub fills_then : {n : ℕ} (l l' out mid out' : List ℕ) (r : Listed) → Fills l out (All n) mid → length l ≤ length l' → Fills l' mid r out' → Fills l' out r out'
-fills_then l l' out mid out' (All m) f g (e, h, w) = (e, omega (arith, fills_length l out mid f), w ∙ ap (λ d. l' ++ d) (fills_drop l out mid m f (omega (arith, f.0))))
-fills_then l l' out mid out' TooMany f g (h, w) = (omega (arith, fills_length l out mid f), w ∙ fills_length l out mid f)
+pub fills_then : {n : ℕ} (l l' out mid out' : List ℕ) (r : Option ℕ) → Fills l out (Some n) mid → length l ≤ length l' → Fills l' mid r out' → Fills l' out r out'
+fills_then l l' out mid out' (Some m) f g (e, h, w) = (e, omega (arith, fills_length l out mid f), w ∙ ap (λ d. l' ++ d) (fills_drop l out mid m f (omega (arith, f.0))))
+fills_then l l' out mid out' None f g (h, w) = (omega (arith, fills_length l out mid f), w ∙ fills_length l out mid f)
 
-pub fills_none : (l l' out out' : List ℕ) → length l ≤ length l' → Fills l out TooMany out' → Fills l' out TooMany out'
+pub fills_none : (l l' out out' : List ℕ) → length l ≤ length l' → Fills l out None out' → Fills l' out None out'
 fills_none l l' out out' g (h, w) = (omega arith, w)
 
 -- the loop of `gather`
@@ -80,29 +79,11 @@ gathered front s = insert_all lost compare front (letters_of s)
 
 -- the first `count` numbers are what was gathered, and the letters from i on are still to come
 pub record Gathering (s out₀ : List ℕ) (n : ℕ) (out : List ℕ) (count i : ℕ) : Type 0 where
-  pub filled : Fills (take count out) out₀ (All count) out
+  pub filled : Fills (take count out) out₀ (Some count) out
   pub left : gathered (take n out₀) s ≡ gathered (take count out) (drop i s)
 
-take_min : (n : ℕ) (xs : List ℕ) → take (min n (length xs)) xs ≡ take n xs
-take_min n xs =
-    ⊎_elim
-    (λ h. let e : min n (length xs) ≡ n = omega arith in rw e)
-    (λ h. let e : min n (length xs) ≡ length xs = omega arith in rw (e, take-length, take_all n xs h))
-    (below? n (length xs))
-
-pub gathering_starts : (s out : List ℕ) (n count : ℕ) → count ≡ min n (length out) → Gathering s out n out count 0
-gathering_starts s out n count e =
-    let f : take count out ≡ take n out = rw e (take_min n out) in
-    record {
-      filled = (sym (length-take-le count out (omega arith)), omega arith, sym (take-append-drop count out));
-      left = rw f;
-    }
-
 module _ (s out₀ : List ℕ) (n : ℕ) (out : List ℕ) (count i : ℕ) (G : Gathering s out₀ n out count i) where
-  pub gathering_length : length out ≡ length out₀
-  gathering_length = fills_length (take count out) out₀ out G.filled
-
-  pub gathering_ends : length s ≤ i → Fills (gathered (take n out₀) s) out₀ (All count) out
+  pub gathering_ends : length s ≤ i → Fills (gathered (take n out₀) s) out₀ (Some count) out
   unfolding letters_of
   gathering_ends h = let e : gathered (take n out₀) s ≡ take count out = G.left ∙ rw (drop_of_length-le s h) in rw e G.filled
 
@@ -117,22 +98,22 @@ module _ (s out₀ : List ℕ) (n : ℕ) (out : List ℕ) (count i : ℕ) (G : G
       left_over : gathered (take n out₀) s ≡ gathered longer (drop (i + 1) s)
       left_over = G.left ∙ rw (drop_one s i h, letters_small (get_or s i 0) (drop (i + 1) s) g)
 
-      filled_over : (r : Listed) → Fills longer out r out' → Fills longer out₀ r out'
+      filled_over : (r : Option ℕ) → Fills longer out r out' → Fills longer out₀ r out'
       filled_over r = fills_then (take count out) longer out₀ out out' r G.filled (insert_grows lost compare (get_or s i 0) (take count out))
 
       -- by the answer of `insert`
-      module _ (r : Listed) (f : Fills longer out r out') where
-        pub gathering_takes : (m : ℕ) → r ≡ All m → Gathering s out₀ n out' m (i + 1)
+      module _ (r : Option ℕ) (f : Fills longer out r out') where
+        pub gathering_takes : (m : ℕ) → r ≡ Some m → Gathering s out₀ n out' m (i + 1)
         gathering_takes m d =
-            let f' : Fills longer out (All m) out' = rw d at f in
+            let f' : Fills longer out (Some m) out' = rw d at f in
             let e : take m out' ≡ longer = fills_front longer out out' f' in
-            record { filled = rw e (filled_over (All m) f'); left = rw e left_over }
+            record { filled = rw e (filled_over (Some m) f'); left = rw e left_over }
 
-        pub gathering_overflows : r ≡ TooMany → Fills (gathered (take n out₀) s) out₀ TooMany out'
+        pub gathering_overflows : r ≡ None → Fills (gathered (take n out₀) s) out₀ None out'
         gathering_overflows d =
             rw left_over
             (fills_none longer (gathered longer (drop (i + 1) s)) out₀ out' (insert_all_grows lost compare longer (letters_of (drop (i + 1) s)))
-            (filled_over TooMany (rw d at f)))
+            (filled_over None (rw d at f)))
 
 -- the promise of `letters`
 
@@ -140,22 +121,22 @@ rising_both : (xs ys : List ℕ) → rising (letters_of xs ++ letters_of ys) ≡
 unfolding rising
 rising_both xs ys = foldl-append _ [] (letters_of xs) (letters_of ys)
 
-lists : {xs ys out out' : List ℕ} (r : Listed) → Fills (gathered (gathered [] xs) ys) out r out' → Lists xs ys out r out'
+lists : {xs ys out out' : List ℕ} (r : Option ℕ) → Fills (gathered (gathered [] xs) ys) out r out' → Lists xs ys out r out'
 lists {xs} {ys} {out} {out'} r f =
     record {
       numbers = rw (rising_both xs ys) f;
       terms = λ s t p q. rw (← (letters_term p), ← (letters_term q), rising_both xs ys) f;
     }
 
-module _ (xs ys out mid : List ℕ) (r : Listed) (f : Fills (gathered [] xs) out r mid) where
-  pub lists_none : r ≡ TooMany → Lists xs ys out TooMany mid
+module _ (xs ys out mid : List ℕ) (r : Option ℕ) (f : Fills (gathered [] xs) out r mid) where
+  pub lists_none : r ≡ None → Lists xs ys out None mid
   lists_none d =
-      lists TooMany
+      lists None
       (fills_none (gathered [] xs) (gathered (gathered [] xs) ys) out mid (insert_all_grows lost compare (gathered [] xs) (letters_of ys)) (rw d at f))
 
-  pub lists_all : (n : ℕ) → r ≡ All n → (out' : List ℕ) (q : Listed) → Fills (gathered (take n mid) ys) mid q out' → Lists xs ys out q out'
+  pub lists_all : (n : ℕ) → r ≡ Some n → (out' : List ℕ) (q : Option ℕ) → Fills (gathered (take n mid) ys) mid q out' → Lists xs ys out q out'
   lists_all n d out' q g =
-      let f' : Fills (gathered [] xs) out (All n) mid = rw d at f in
+      let f' : Fills (gathered [] xs) out (Some n) mid = rw d at f in
       let e : take n mid ≡ gathered [] xs = fills_front (gathered [] xs) out mid f' in
       lists q
       (fills_then (gathered [] xs) (gathered (gathered [] xs) ys) out mid out' q f' (insert_all_grows lost compare (gathered [] xs) (letters_of ys)) (rw e at g))

@@ -1,78 +1,86 @@
 -- A number put into a list: what moves on, and the place that `insert` gives it.
-use Prim.Native.Nat.{ℕ, zero, suc, ◌+◌, ◌<◌, ◌≤◌, compare}
+use Prim.Native.Nat.{ℕ, ◌+◌, ◌-◌, ◌<◌, ◌≤◌, min, compare}
 use native.Mathlib.Omega.{arith}
-use native.Mathlib.Numerals.{add-one}
+use native.Mathlib.Numerals.{add-one, one-add}
 use mathlib.Core.Path.{◌≡◌, refl, sym, ap, ◌∙◌}
-use mathlib.Core.List.{List, [], ◌∷◌, ◌++◌, append_assoc}
-use lib.ListN.{length, take, drop, set, get_or, length-append, length-take, length-set, take-append-drop, drop_of_length-le}
-use lib.Seq.{take_all, take-append_seam, take-suc, take-suc-set, drop-set-lt, take-append-le, drop-append-le, take_at, append_snoc, drop-cons, get_or-take}
+use mathlib.Core.Logic.{⊎_elim}
+use mathlib.Core.List.{List, [], ◌∷◌, ◌++◌, append_assoc, append-nil}
+use lib.ListN.{length, take, drop, set, get_or, length-append, length-drop, take-append-drop, drop_of_length-le}
+use lib.Seq.{take_all, take-length, length-take-le, take-append_seam, take-suc, take-append-le, drop-append-le, take_at, set_at, append_snoc, get_or-take}
+use borrow.Author.Tests.{lt-leb, le-leb, leb-true, not-false}
+use Rattle.std.specs.Prelude.{not, Some, None, nat_le}
+use Rattle.std.specs.List.{copy_within, position_or_len}
+use Rattle.std.proofs.lemmas.List.Sums.{prefix_len_stops, prefix_len-le-length}
+use Rattle.terms.proofs.Positions.{drop_one}
 use Rattle.terms.specs.Compare.{eq}
 use Rattle.terms.specs.Sort.{lost, repeat, insert}
 use Rattle.terms.specs.Numbers.{put_in}
 use Rattle.terms.specs.Promises.{Fills}
-use Rattle.terms.specs.Theory.Order.{flip_lt, compare_order, compare_below}
+use Rattle.terms.specs.Theory.Order.{flip_lt, compare_order, compare_below, below?}
 use Rattle.terms.specs.Theory.Insert.{insert_lt, insert_eq, insert_gt}
-use Rattle.terms.specs.declared.term.Listed.TheVariants.{All, TooMany}
-use Rattle.terms.proofs.Positions.{drop_one}
 
--- x still to be put in at i, to make the list l
-module _ (s : List ℕ) (i x : ℕ) (l : List ℕ) (e : put_in i x s ≡ l) where
-  pub put_next : i < length s → put_in (i + 1) (get_or s i 0) (set s i x) ≡ l
-  unfolding put_in
-  put_next h =
-      let front : take (suc i) (set s i x) ++ drop i s ≡ take i s ++ (x ∷ drop i s) = rw (take-suc-set s i x h) (append_snoc (take i s) x (drop i s)) in
-      rw (length-set s i x, add-one i, drop-set-lt (suc i) s i x (omega arith), ← (drop-cons s i 0 h), front) e
+-- what follows a position moves on by one, and x is written there
+pub moved_on : (s : List ℕ) (at x : ℕ) → at < length s → set (copy_within s at (length s - 1) (at + 1)) at x ≡ put_in at x s
+unfolding put_in
+moved_on s at x h =
+    let k = length s - 1 - at in
+    let a = take at s in
+    let d = drop at s in
+    let n : length a ≡ at = length-take-le at s (omega arith) in
+    let copied : copy_within s at (length s - 1) (at + 1) ≡ a ++ (get_or s at 0 ∷ take k d) =
+    rw (drop_of_length-le s {i = at + 1 + k} (omega arith), append-nil, add-one, take-suc s at 0 h) (append_snoc a (get_or s at 0) (take k d)) in
+    let whole : a ++ (x ∷ d) ≡ (a ++ (x ∷ take k d)) ++ drop k d = rw (append_assoc a (x ∷ take k d) (drop k d), take-append-drop k d) in
+    let count : length (a ++ (x ∷ take k d)) ≡ length s =
+    omega (arith, n, length-append a (x ∷ take k d), length-take-le k d (omega (arith, length-drop at s))) in
+    rw (copied, whole, take_at (a ++ (x ∷ take k d)) (drop k d) (length s) count) (set_at a (get_or s at 0) (take k d) x at n)
 
-  pub put_end : length s ≤ i → s ≡ l
-  unfolding put_in
-  put_end h = rw (take_all i s h, take-append_seam s (x ∷ drop i s)) at e
+pub put_end : (s : List ℕ) (at x : ℕ) → length s ≤ at → s ≡ put_in at x s
+unfolding put_in
+put_end s at x h = rw (take_all at s h, take-append_seam s (x ∷ drop at s))
 
 -- the place that `insert` gives x
 
 abbrev pub inserted : ℕ → List ℕ → List ℕ
 inserted = insert lost compare
 
--- x goes behind the first i numbers
-abbrev pub Behind : ℕ → List ℕ → ℕ → Type 0
-Behind x ys i = inserted x ys ≡ take i ys ++ inserted x (drop i ys)
-
 -- x goes between the first i numbers and the others
 abbrev pub Between : ℕ → List ℕ → ℕ → Type 0
 Between x ys i = inserted x ys ≡ take i ys ++ (x ∷ drop i ys)
 
-module _ (xs : List ℕ) (n x i : ℕ) (e : Behind x (take n xs) i) where
-  abbrev ys : List ℕ
-  ys = take n xs
+-- the place of the first number that is not below x, or the end: x is there, or goes there
 
-  pub between_end : length ys ≤ i → Between x ys i
+abbrev pub place : ℕ → List ℕ → ℕ
+place x = position_or_len (nat_le x)
+
+behind_place : (x : ℕ) (ys : List ℕ) → inserted x ys ≡ take (place x ys) ys ++ inserted x (drop (place x ys) ys)
+behind_place x [] = refl
+behind_place x (y ∷ ys) =
+    ⊎_elim
+    (λ h. rw (lt-leb x y h, one-add (place x ys), insert_gt lost compare ys (flip_lt compare_order (compare_below y x h))) (ap (λ l. y ∷ l) (behind_place x ys)))
+    (λ h. rw (le-leb x y h))
+    (below? y x)
+
+module _ (x : ℕ) (ys : List ℕ) (i : ℕ) (e : i ≡ place x ys) where
+  behind : inserted x ys ≡ take i ys ++ inserted x (drop i ys)
+  behind = rw e (behind_place x ys)
+
+  place_met : i < length ys → get_or ys i 0 ≡ x → inserted x ys ≡ ys
+  unfolding repeat
+  place_met h g = behind ∙ rw (drop_one ys i h, insert_eq lost compare (drop (i + 1) ys) tie, ← (drop_one ys i h)) (take-append-drop i ys)
+    where
+      tie : compare x (get_or ys i 0) ≡ eq
+      tie = rw g (compare_order.reflexive x)
+
+  above : i < length ys → x ≤ get_or ys i 0
+  above h = leb-true x (get_or ys i 0) (not-false (nat_le x (get_or ys i 0)) (rw e (prefix_len_stops (λ y. not (nat_le x y)) ys 0 (rw e at h))))
+
+  place_between : (i < length ys → get_or ys i 0 ≡ x → ⊥) → Between x ys i
   unfolding insert
-  between_end h = e ∙ rw (drop_of_length-le ys h)
-
-  module _ (h : i < length ys) where
-    here : get_or ys i 0 ≡ get_or xs i 0
-    here = get_or-take n xs i 0 (omega (arith, length-take n xs))
-
-    next : drop i ys ≡ get_or xs i 0 ∷ drop (i + 1) ys
-    next = drop_one ys i h ∙ rw here
-
-    front : take (i + 1) ys ≡ take i ys ++ (get_or xs i 0 ∷ [])
-    front = rw (add-one, ← here) (take-suc ys i 0 h)
-
-    pub behind_next : get_or xs i 0 < x → Behind x ys (i + 1)
-    behind_next g =
-        e
-        ∙ rw (next, insert_gt lost compare (drop (i + 1) ys) (flip_lt compare_order (compare_below (get_or xs i 0) x g)))
-        (rw front (sym (append_snoc (take i ys) (get_or xs i 0) (inserted x (drop (i + 1) ys)))))
-
-    pub between_here : x < get_or xs i 0 → Between x ys i
-    between_here g = e ∙ rw (next, insert_lt lost compare (drop (i + 1) ys) (compare_below x (get_or xs i 0) g))
-
-    pub met_here : x ≡ get_or xs i 0 → inserted x ys ≡ ys
-    unfolding repeat
-    met_here g = e ∙ rw (next, insert_eq lost compare (drop (i + 1) ys) tie, ← next) (take-append-drop i ys)
-      where
-        tie : compare x (get_or xs i 0) ≡ eq
-        tie = rw g (compare_order.reflexive (get_or xs i 0))
+  place_between f =
+      ⊎_elim
+      (λ h. behind ∙ rw (drop_one ys i h, insert_lt lost compare (drop (i + 1) ys) (compare_below x (get_or ys i 0) (omega (arith, f h, above h)))))
+      (λ h. behind ∙ rw (drop_of_length-le ys h))
+      (below? i (length ys))
 
 split_length : (x : ℕ) (ys : List ℕ) (i : ℕ) → length (take i ys ++ (x ∷ drop i ys)) ≡ length ys + 1
 split_length x ys i =
@@ -85,24 +93,43 @@ put_in_room x ys z i h =
     rw (take-append-le i ys (z ∷ []) h, drop-append-le i ys (z ∷ []) h, ← (append_assoc (take i ys) (x ∷ drop i ys) (z ∷ [])))
     (take_at (take i ys ++ (x ∷ drop i ys)) (z ∷ []) (length (ys ++ (z ∷ []))) (split_length x ys i ∙ sym (length-append ys (z ∷ []))))
 
-front_rest : (n : ℕ) (xs : List ℕ) → take n xs ++ drop (length (take n xs)) xs ≡ xs
-front_rest zero xs = refl
-front_rest (suc n) [] = refl
-front_rest (suc n) (x ∷ xs) = ap (λ l. x ∷ l) (front_rest n xs)
+take_min : (n : ℕ) (xs : List ℕ) → take (min n (length xs)) xs ≡ take n xs
+take_min n xs =
+    ⊎_elim
+    (λ h. let e : min n (length xs) ≡ n = omega arith in rw e)
+    (λ h. let e : min n (length xs) ≡ length xs = omega arith in rw (e, take-length, take_all n xs h))
+    (below? n (length xs))
 
--- the promise of `insert`, where the first n numbers end at m
+-- the promise of `insert`, where the first n numbers end at m and `at` is the place for x among them
 
-module _ (xs : List ℕ) (n x m : ℕ) (ends : m ≡ length (take n xs)) where
-  pub fills_met : inserted x (take n xs) ≡ take n xs → Fills (inserted x (take n xs)) xs (All m) xs
-  fills_met e = (rw e ends, omega (arith, length-take n xs), rw (e, ends) (sym (front_rest n xs)))
+module _ (xs : List ℕ) (n x m at : ℕ) (ends : m ≡ min n (length xs)) (placed : at ≡ place x (take m xs)) where
+  front : take m xs ≡ take n xs
+  front = rw ends (take_min n xs)
 
-  module _ (i : ℕ) (e : Between x (take n xs) i) where
-    pub fills_many : length xs ≤ m → Fills (inserted x (take n xs)) xs TooMany xs
-    fills_many h = (omega (arith, ap length e ∙ split_length x (take n xs) i), refl)
+  front_length : length (take m xs) ≡ m
+  front_length = length-take-le m xs (omega arith)
 
-    pub fills_more : m < length xs → i ≤ m → (s : List ℕ) → s ≡ put_in i x (take (m + 1) xs) → Fills (inserted x (take n xs)) xs (All (m + 1)) (s ++ drop (m + 1) xs)
-    fills_more h g s d =
-        let w : m ≡ n = omega (arith, length-take n xs) in
-        let part : take (m + 1) xs ≡ take n xs ++ (get_or xs n 0 ∷ []) = rw (w, add-one) (take-suc xs n 0 (omega arith)) in
-        let whole : s ≡ inserted x (take n xs) = d ∙ ap (put_in i x) part ∙ put_in_room x (take n xs) (get_or xs n 0) i (omega arith) ∙ sym e in
-        (omega (arith, ap length e ∙ split_length x (take n xs) i), omega arith, rw whole)
+  pub fills_met : at < m → get_or xs at 0 ≡ x → Fills (inserted x (take n xs)) xs (Some m) xs
+  fills_met h g =
+      let e : inserted x (take m xs) ≡ take m xs =
+      place_met x (take m xs) at placed (omega (arith, front_length)) (get_or-take m xs at 0 h ∙ g) in
+      rw (← front, e) (sym front_length, omega arith, sym (take-append-drop m xs))
+
+  module _ (apart : at < m → get_or xs at 0 ≡ x → ⊥) where
+    between : Between x (take m xs) at
+    between = place_between x (take m xs) at placed (λ h g. let k : at < m = omega (arith, front_length) in apart k (sym (get_or-take m xs at 0 k) ∙ g))
+
+    longer : length (inserted x (take m xs)) ≡ m + 1
+    longer = omega (arith, ap length between ∙ split_length x (take m xs) at, front_length)
+
+    pub fills_many : length xs ≤ m → Fills (inserted x (take n xs)) xs None xs
+    fills_many h = rw (← front) (omega (arith, longer), refl)
+
+    pub fills_more : m < length xs → (s : List ℕ) → s ≡ put_in at x (take (m + 1) xs)
+        → Fills (inserted x (take n xs)) xs (Some (m + 1)) (s ++ drop (m + 1) xs)
+    fills_more h s d =
+        let g : at ≤ m = omega (arith, placed, front_length, prefix_len-le-length (λ y. not (nat_le x y)) (take m xs)) in
+        let part : take (m + 1) xs ≡ take m xs ++ (get_or xs m 0 ∷ []) = rw add-one (take-suc xs m 0 h) in
+        let whole : s ≡ inserted x (take m xs) =
+        d ∙ ap (put_in at x) part ∙ put_in_room x (take m xs) (get_or xs m 0) at (omega (arith, front_length)) ∙ sym between in
+        rw (← front) (sym longer, omega arith, rw whole)

@@ -1,10 +1,11 @@
 -- How many numbers the next terms of a list take.
-use Prim.Native.Nat.{ℕ, zero, suc, ◌+◌, ◌-◌, ◌<◌, ◌≤◌}
+use Prim.Native.Nat.{ℕ, zero, suc, ◌+◌, ◌-◌, ◌<◌, ◌≤◌, max}
 use native.Mathlib.Omega.{arith}
 use native.Mathlib.Nat.{zero-add, suc-add}
 use native.Mathlib.Numerals.{add-one, sub-one}
 use mathlib.Core.Path.{◌≡◌, refl, ap, ◌∙◌}
 use mathlib.Core.Bool.{Bool, true, false}
+use mathlib.Core.Logic.{⊎_elim}
 use mathlib.Core.List.{List, [], ◌∷◌, ◌++◌, append_assoc}
 use lib.Dec.{ltb}
 use lib.ListN.{length, drop, get_or, length-drop, drop_of_length-le}
@@ -15,6 +16,7 @@ use Rattle.terms.specs.Run.{ADD, run}
 use Rattle.terms.specs.Held.{Fine, Holds}
 use Rattle.terms.specs.Numbers.{more, skip, end_at}
 use Rattle.terms.specs.Promises.{Ends}
+use Rattle.terms.specs.Theory.Order.{below?}
 use Rattle.terms.proofs.Positions.{drop_one}
 
 pub skip_none : (xs : List ℕ) → skip xs 0 ≡ 0
@@ -70,12 +72,22 @@ module _ (xs : List ℕ) (i k n : ℕ) (e : i + skip (drop i xs) k ≡ n) where
       go zero p e = absurd (omega arith)
       go (suc k) p e = rw (add-one (suc k)) (omega (arith, rw (le-ltb (get_or xs i 0) ADD q) at e))
 
-  pub skip_past : length xs ≤ i → i ≡ n
+  skip_past : length xs ≤ i → i ≡ n
   unfolding skip
   skip_past h = omega (arith, rw (drop_of_length-le xs h) at e)
 
   pub skip_all : k ≤ 0 → i ≡ n
   skip_all h = let z : k ≡ 0 = omega arith in omega (arith, skip_none (drop i xs), rw z at e)
+
+-- the end of a list, or a position behind it
+pub skip_end : (xs : List ℕ) (at i k m : ℕ) → i + skip (drop i xs) k ≡ end_at xs at → length xs ≤ i → (at ≤ length xs → i ≤ length xs) → m ≡ max at (length xs)
+    → m ≡ end_at xs at
+unfolding end_at
+skip_end xs at i k m e h f g =
+    ⊎_elim
+    (λ p. omega (arith, skip_past xs at 1 (end_at xs at) refl (omega arith)))
+    (λ p. omega (arith, f p, skip_past xs i k (end_at xs at) e h))
+    (below? (length xs) at)
 
 pub ends : {xs : List ℕ} {at r : ℕ} → r ≡ end_at xs at → Ends xs at r
 unfolding end_at

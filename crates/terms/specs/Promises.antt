@@ -1,6 +1,8 @@
 -- What each function promises of its answer r, on lists of numbers and on the runs of terms.
 use Prim.Native.Nat.{ℕ, ◌+◌, ◌<◌, ◌≤◌, compare}
-use Rattle.std.specs.Prelude.{◌≡◌, Bool, true, false, List, ◌++◌, length, drop}
+use Rattle.std.specs.Prelude.{◌≡◌, Bool, true, List, ◌++◌, length, drop, Option, Some, None}
+use Rattle.std.specs.declared.cmp.Ordering as answered
+use Rattle.std.specs.declared.cmp.Ordering.TheVariants.{Less, Equal, Greater}
 use Rattle.std.proofs.Math.Dec.{compare_is_eq}
 use Rattle.terms.specs.Compare.{Ordering, lt, eq, gt, order_numbers}
 use Rattle.terms.specs.Differ.{differ_at, DifferAt}
@@ -9,44 +11,35 @@ use Rattle.terms.specs.Letters.{letters, rising}
 use Rattle.terms.specs.Run.{run}
 use Rattle.terms.specs.Held.{IsRun, Holds}
 use Rattle.terms.specs.Numbers.{read_run, is_some, end_at, depth_of, letters_of}
-use Rattle.terms.specs.declared.difference.Difference.{Difference}
-use Rattle.terms.specs.declared.difference.Difference.TheVariants.{At, Same}
-use Rattle.terms.specs.declared.term.Comparison.{Comparison}
-use Rattle.terms.specs.declared.term.Comparison.TheVariants.{Less, Equal, Greater}
-use Rattle.terms.specs.declared.term.Listed.{Listed}
-use Rattle.terms.specs.declared.term.Listed.TheVariants.{All, TooMany}
 use Rattle.terms.specs.declared.term.Extent.{Extent}
 
 -- how two lists of numbers differ: first at a place, or not at all; a list that is a beginning of the other differs from it at its end
-abbrev pub ListsDiffer : List ℕ → List ℕ → Difference → Type 0
-ListsDiffer xs ys (At k) = (xs ≡ ys → ⊥) × (k ≡ differ_at compare xs ys)
-ListsDiffer xs ys Same = xs ≡ ys
+abbrev pub ListsDiffer : List ℕ → List ℕ → Option ℕ → Type 0
+ListsDiffer xs ys (Some k) = (xs ≡ ys → ⊥) × (k ≡ differ_at compare xs ys)
+ListsDiffer xs ys None = xs ≡ ys
 
 -- how two terms differ: first at a place of both their runs, or they are the same term
-abbrev pub TermsDiffer : Term → Term → Difference → Type 0
-TermsDiffer s t (At k) = DifferAt (run s) (run t) k × (k < size s) × (k < size t)
-TermsDiffer s t Same = s ≡ t
+abbrev pub TermsDiffer : Term → Term → Option ℕ → Type 0
+TermsDiffer s t (Some k) = DifferAt (run s) (run t) k × (k < size s) × (k < size t)
+TermsDiffer s t None = s ≡ t
 
--- of `first_difference` and `difference_by_fours`
-pub record Differs (xs ys : List ℕ) (r : Difference) : Type 0 where
+-- of `first_difference`
+pub record Differs (xs ys : List ℕ) (r : Option ℕ) : Type 0 where
   pub numbers : ListsDiffer xs ys r
   pub terms : (s t : Term) → IsRun xs s → IsRun ys t → TermsDiffer s t r
 
-abbrev pub is_same : Difference → Bool
-is_same (At k) = false
-is_same Same = true
-
-abbrev pub ordering_of : Comparison → Ordering
+-- what the code answers of two items, as the comparison of the definitions
+abbrev pub ordering_of : answered.Ordering → Ordering
 ordering_of Less = lt
 ordering_of Equal = eq
 ordering_of Greater = gt
 
 -- of `compare`
-pub record Compares (xs ys : List ℕ) (r : Comparison) : Type 0 where
+pub record Compares (xs ys : List ℕ) (r : answered.Ordering) : Type 0 where
   pub numbers : ordering_of r ≡ order_numbers xs ys
   pub terms : (s t : Term) → IsRun xs s → IsRun ys t → ordering_of r ≡ order s t
 
--- of `equal` and `equal_by_fours`
+-- of `equal`
 pub record Equals (xs ys : List ℕ) (r : Bool) : Type 0 where
   pub numbers : r ≡ compare_is_eq (order_numbers xs ys)
   pub terms : (s t : Term) → IsRun xs s → IsRun ys t → r ≡ same s t
@@ -93,11 +86,11 @@ pub record Reads (xs : List ℕ) (r : Bool) : Type 0 where
   pub complete : (t : Term) → IsRun xs t → r ≡ true
 
 -- of `insert` and `gather`: the list fills the front of out, whose rest is kept; or it is longer than out
-abbrev pub Fills : List ℕ → List ℕ → Listed → List ℕ → Type 0
-Fills xs out (All n) out' = (n ≡ length xs) × (n ≤ length out) × (out' ≡ xs ++ drop n out)
-Fills xs out TooMany out' = (length out < length xs) × (length out' ≡ length out)
+abbrev pub Fills : List ℕ → List ℕ → Option ℕ → List ℕ → Type 0
+Fills xs out (Some n) out' = (n ≡ length xs) × (n ≤ length out) × (out' ≡ xs ++ drop n out)
+Fills xs out None out' = (length out < length xs) × (length out' ≡ length out)
 
 -- of `letters`
-pub record Lists (xs ys out : List ℕ) (r : Listed) (out' : List ℕ) : Type 0 where
+pub record Lists (xs ys out : List ℕ) (r : Option ℕ) (out' : List ℕ) : Type 0 where
   pub numbers : Fills (rising (letters_of xs ++ letters_of ys)) out r out'
   pub terms : (s t : Term) → IsRun xs s → IsRun ys t → Fills (rising (letters s ++ letters t)) out r out'

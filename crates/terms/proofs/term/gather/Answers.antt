@@ -1,24 +1,16 @@
-use borrow.Author.Rules.{rules}
-use Rattle.terms.proofs.Gathered.{gathering_starts, gathering_passes, gathering_takes, gathering_overflows, gathering_ends, gathering_length}
+use Rattle.std.proofs.Common.{arith, rules}
+use Rattle.terms.proofs.Gathered.{gathering_passes, gathering_takes, gathering_overflows, gathering_ends}
 use Rattle.terms.proofs.term.gather.Goals as goal
+use Rattle.terms.proofs.term.gather.Goals.{then-x-lt-ZERO+in_ok-count, else-x-lt-ZERO}
 
-pub loop-i-init : goal.loop-i-init
-loop-i-init c = search (gathering_starts, rules)
+pub returns-in_err-count : goal.returns-in_err-count
+returns-in_err-count c = search (gathering_overflows, rules)
 
-pub returns-in_default : goal.returns-in_default
-returns-in_default c = search (gathering_overflows, rules)
-
-pub shape_of-out-in_default : goal.shape_of-out-in_default
-shape_of-out-in_default c = (returns-in_default c).1
-
-pub loop-i-preserved-then-x-lt-ZERO : goal.loop-i-preserved-then-x-lt-ZERO
-loop-i-preserved-then-x-lt-ZERO c = search (gathering_takes, rules)
-
-pub loop-i-preserved : goal.loop-i-preserved
-loop-i-preserved c = search (gathering_passes, rules)
-
-pub shape_of-out : goal.shape_of-out
-shape_of-out c = search (gathering_length, rules)
+pub loop-x-preserved : goal.loop-x-preserved
+loop-x-preserved c = elim c.if-x-lt-ZERO.branch [
+  | then-x-lt-ZERO+in_ok-count w ↦ rw (w.out-is, w.count-is) (gathering_takes _ _ _ _ _ _ c.loop-x.invariant (omega arith) w.if-x-lt-ZERO.true _ _ w.insert.ensures _ w.in_ok-count.was)
+  | else-x-lt-ZERO w ↦ rw (w.out-is, w.count-is) (search (gathering_passes, rules))
+]
 
 pub returns : goal.returns
 returns c = search (gathering_ends, rules)
