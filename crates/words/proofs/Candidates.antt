@@ -5,7 +5,7 @@ use lib.Seq.{sets}
 use Rattle.terms.specs.Compare.{order_numbers}
 use Rattle.terms.specs.Equation.{orient}
 use Rattle.words.specs.Rename.{by_renaming, least}
-use Rattle.words.specs.Decoded.{renaming, factorial, least_to}
+use Rattle.words.specs.Decoded.{factorial, least_to}
 use Rattle.words.specs.RenameRun.{rename_number, rename_run}
 use Rattle.words.specs.Candidate.{Room, candidate}
 use Rattle.words.proofs.Decoded.{least_numbered}
@@ -23,30 +23,18 @@ module _ (f : ℕ → ℕ) (xs buffer : List ℕ) {x u : List ℕ} {n : ℕ} (b 
   renamed_short = omega (arith, ap length renamed_front, length-map xs (rename_number f))
 
 -- both sides
-module _ (names xs ys bx by : List ℕ) (c : ℕ) {x y u v left right : List ℕ} (p : length bx ≡ 31) (q : length by ≡ 31) where
-  pub candidate_made : (x ≡ sets bx 0 (rename_run (renaming names c) xs)) × (y ≡ sets by 0 (rename_run (renaming names c) ys))
-      → u ≡ take (length xs) x → v ≡ take (length ys) y → Room 31 xs ys left right → Made 31 (candidate names xs ys) c u v left right
-  candidate_made e d₁ d₂ h =
-      let f = renaming names c in
-      record {
-        room =
-            record {
-              first = renamed_short f xs bx p e.0 d₁ h.first;
-              second = renamed_short f ys by q e.1 d₂ h.second;
-              left_room = h.left_room;
-              right_room = h.right_room;
-            };
-        equation = ap₂ (orient order_numbers) (renamed_front f xs bx p e.0 d₁ h.first) (renamed_front f ys by q e.1 d₂ h.second);
-      }
-
-pub room_as_long : {n : ℕ} {xs ys left right left₀ right₀ : List ℕ} → length left ≡ length left₀ → length right ≡ length right₀
-    → Room n xs ys left₀ right₀ → Room n xs ys left right
-room_as_long p q h =
+pub terms_made : (new : ℕ → ℕ) (xs ys bx by : List ℕ) {x y u v : List ℕ} {room : ℕ} → length bx ≡ 31 → length by ≡ 31
+    → x ≡ sets bx 0 (rename_run new xs) → y ≡ sets by 0 (rename_run new ys)
+    → u ≡ take (length xs) x → v ≡ take (length ys) y → Room 31 xs ys room → Made 31 (orient order_numbers (rename_run new xs) (rename_run new ys)) u v room
+terms_made new xs ys bx by p q e e' d d' h =
     record {
-      first = h.first;
-      second = h.second;
-      left_room = omega (arith, h.left_room);
-      right_room = omega (arith, h.right_room);
+      room =
+          record {
+            first = renamed_short new xs bx p e d h.first;
+            second = renamed_short new ys by q e' d' h.second;
+            sides = h.sides;
+          };
+      equation = ap₂ (orient order_numbers) (renamed_front new xs bx p e d h.first) (renamed_front new ys by q e' d' h.second);
     }
 
 pub least_candidate : (names xs ys : List ℕ)

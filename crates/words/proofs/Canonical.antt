@@ -3,7 +3,7 @@ use Rattle.std.proofs.Common.{◌≡◌, ℕ, ◌-◌, ◌<◌, ◌≤◌, Bool,
 use mathlib.Core.List.{map-append}
 use Rattle.terms.specs.Lists.{◌∈◌, here, there}
 use Rattle.terms.specs.Compare.{order_numbers}
-use Rattle.terms.specs.Equation.{Equation, orient}
+use Rattle.terms.specs.Equation.{orient}
 use Rattle.terms.specs.Term.{Term, letter, zero, one, add, mul, size, order, subst}
 use Rattle.terms.specs.Letters.{letters, rising}
 use Rattle.terms.specs.Run.{ZERO, ONE, ADD, MUL, run}
@@ -11,16 +11,15 @@ use Rattle.terms.specs.Held.{Fine, IsRun}
 use Rattle.terms.specs.Promises.{Lists}
 use Rattle.terms.specs.Theory.Run.{run_order}
 use Rattle.terms.specs.Theory.Held.{fine_letters, size_of}
-use Rattle.terms.specs.declared.term.Listed.{Listed}
-use Rattle.terms.specs.declared.term.Listed.TheVariants.{All, TooMany}
+use Rattle.std.specs.Prelude.{Option}
+use Rattle.std.specs.Prelude.{Some, None}
 use Rattle.words.specs.Rename.{renamed, least, rename_term, rename_words, canonical_terms}
 use Rattle.words.specs.Words.{Word, order_lists}
 use Rattle.words.specs.Spelled.{spelled}
 use Rattle.words.specs.Theory.Spelled.{spelled_order}
 use Rattle.words.specs.Decoded.{decoded, renaming, factorial, least_to, both}
 use Rattle.words.specs.RenameRun.{rename_number, rename_run}
-use Rattle.words.specs.Candidate.{sides, Room, candidate, Finds, CanonicalTerms}
-use Rattle.words.specs.declared.candidate.Lengths.{Lengths}
+use Rattle.words.specs.Candidate.{Sides, Room, candidate, Finds, CanonicalTerms}
 use Rattle.words.proofs.Decoded.{decoded_below}
 use Rattle.words.proofs.Coded.{code_least}
 use Rattle.words.proofs.Candidates.{least_candidate}
@@ -83,33 +82,26 @@ module _ (names : List ℕ) (few : length names ≤ 6) (s t : Term) (f : Fine s)
 
 -- the promise, by what became of the letters
 
-module _ (xs ys left right : List ℕ) where
-  pub too_many : {names names' : List ℕ} {l : Listed} → length names ≡ 6 → Lists xs ys names l names' → l ≡ TooMany
-      → CanonicalTerms xs ys left right (record { left = 0; right = 0 }) left right
-  too_many {names} {names'} e h p =
-      record {
-        within = record { left_side = omega arith; right_side = omega arith };
-        exact = λ s t u v a b few c d. absurd (omega (arith, (rw p at (h.terms s t u v)).0));
-      }
+module _ (xs ys : List ℕ) {room : ℕ} {names names' : List ℕ} {l : Option ℕ} (listed : Lists xs ys names l names') where
+  pub too_many : {e : Sides} → length names ≡ 6 → l ≡ None → CanonicalTerms xs ys room e
+  too_many n p = record { exact = λ s t u v a b few c. absurd (omega (arith, (rw p at (listed.terms s t u v)).0)) }
 
-  pub all_listed : {names names' used left' right' : List ℕ} {l : Listed} {k : ℕ} {r : Lengths}
-      → Lists xs ys names l names' → l ≡ All k → used ≡ take k names'
-      → Finds (Room 31 xs ys left right) (least order_numbers rename_run used xs ys) left right r left' right'
-      → CanonicalTerms xs ys left right r left' right'
+  pub all_listed : {used : List ℕ} {k : ℕ} {e : Sides} → l ≡ Some k → used ≡ take k names'
+      → Finds (Room 31 xs ys room) (least_to order_numbers (candidate used xs ys) (factorial (length used) - 1)) e → CanonicalTerms xs ys room e
   unfolding canonical_terms
-  all_listed {names} {names'} {used} {left'} {right'} {l} {k} {r} h p q found = record { within = found.within; exact = exact }
+  all_listed {used} {k} {e} p q found = record { exact = exact }
     where
       exact : (s t : Term) → IsRun xs s → IsRun ys t → size s ≤ 31 → size t ≤ 31
-          → length (rising (letters s ++ letters t)) ≤ 6 → 31 ≤ length left → 31 ≤ length right
-          → (take r.left left' ≡ run (canonical_terms s t).left) × (take r.right right' ≡ run (canonical_terms s t).right)
-      exact s t u v a b few c d =
+          → length (rising (letters s ++ letters t)) ≤ 6 → 31 ≤ room
+          → (e.left ≡ run (canonical_terms s t).left) × (e.right ≡ run (canonical_terms s t).right)
+      exact s t u v a b few c =
           let rs = rising (letters s ++ letters t) in
-          let fills = rw p at (h.terms s t u v) in
+          let fills = rw p at (listed.terms s t u v) in
           let letters_used : used ≡ rs = q ∙ ap (take k) fills.2 ∙ take_at rs (drop k names) k (sym fills.0) in
-          let room : Room 31 xs ys left right = record { first = omega (arith, size_of u); second = omega (arith, size_of v); left_room = c; right_room = d } in
-          let e : sides r left' right' ≡ both run (canonical_terms s t) =
-          found.exact room ∙ rw (letters_used, u.whole, v.whole) (sym (run_least rs few s t u.fine v.fine)) in
-          (ap (λ (z : Equation (List ℕ)). z.left) e, ap (λ (z : Equation (List ℕ)). z.right) e)
+          let roomy : Room 31 xs ys room = record { first = omega (arith, size_of u); second = omega (arith, size_of v); sides = c } in
+          let d : e ≡ both run (canonical_terms s t) =
+          found.exact roomy ∙ least_candidate used xs ys ∙ rw (letters_used, u.whole, v.whole) (sym (run_least rs few s t u.fine v.fine)) in
+          (ap (λ (z : Sides). z.left) d, ap (λ (z : Sides). z.right) d)
 
 -- the least over all renamings of two lists of words, by their runs
 pub spelled_least : (names : List ℕ) (u v : List Word) → both spelled (least order_lists rename_words names u v)

@@ -2,24 +2,23 @@
 use Rattle.std.proofs.Common.{◌≡◌, ℕ, ◌-◌, ◌*◌, ◌≤◌, List, ◌++◌, length, take, drop, sym, ap, ◌∙◌, arith, take_at}
 use mathlib.Core.List.{flatten}
 use Rattle.terms.specs.Compare.{order_numbers}
-use Rattle.terms.specs.Equation.{Equation, orient}
+use Rattle.terms.specs.Equation.{orient}
 use Rattle.terms.specs.Sort.{kept}
 use Rattle.terms.specs.Term.{Term, size}
 use Rattle.terms.specs.Letters.{letters, rising}
 use Rattle.terms.specs.Numbers.{letters_of}
 use Rattle.terms.specs.Held.{IsRun}
 use Rattle.terms.specs.Promises.{Lists}
-use Rattle.terms.specs.declared.term.Listed.{Listed}
-use Rattle.terms.specs.declared.term.Listed.TheVariants.{All, TooMany}
+use Rattle.std.specs.Prelude.{Option}
+use Rattle.std.specs.Prelude.{Some, None}
 use Rattle.words.specs.Words.{Word, order_lists, normal, words, expand}
 use Rattle.words.specs.Spelled.{SLOT, spelled}
 use Rattle.words.specs.Rename.{rename_words, least, canonical_words}
 use Rattle.words.specs.Decoded.{renaming, factorial, least_to, both}
 use Rattle.words.specs.Multiply.{MOST}
-use Rattle.words.specs.Candidate.{sides, Finds}
+use Rattle.words.specs.Candidate.{Sides, Finds}
 use Rattle.words.specs.Theory.Expand.{words_expand}
-use Rattle.words.specs.declared.candidate.Lengths.{Lengths}
-use Rattle.words.specs.WordLists.{slot_words, WordRoom, CanonicalWords}
+use Rattle.words.specs.WordLists.{slot_words, word_candidate, WordRoom, CanonicalWords}
 use Rattle.words.specs.Theory.WordLetters.{fewer_letters, rising_sorted_words, rename_sorted_words}
 use Rattle.words.proofs.Canonical.{spelled_least}
 use Rattle.words.proofs.BoundedWords.{expand_bounded, Multiplied}
@@ -49,43 +48,39 @@ canonical_expanded s t =
 abbrev slot_letters : (us vs : List ℕ) → List ℕ
 slot_letters us vs = rising (letters_of (flatten (slot_words us)) ++ letters_of (flatten (slot_words vs)))
 
-module _ (xs ys us vs left right : List ℕ) (p : Multiplied xs us) (q : Multiplied ys vs) where
+module _ (xs ys us vs : List ℕ) (p : Multiplied xs us) (q : Multiplied ys vs) where
   names_listed : (s t : Term) → IsRun xs s → IsRun ys t → size s ≤ 31 → size t ≤ 31
       → slot_letters us vs ≡ rising (flatten (expand s) ++ flatten (expand t))
   names_listed s t u v a b =
       rw (p.words s u a, q.words t v b, word_letters (expand_bounded s u.fine a), word_letters (expand_bounded t v.fine b))
 
   -- the promise, by what became of the letters
-  pub too_many : {names names' : List ℕ} {l : Listed} → length names ≡ 6
-      → Lists (flatten (slot_words us)) (flatten (slot_words vs)) names l names' → l ≡ TooMany
-      → CanonicalWords xs ys left right (record { left = 0; right = 0 }) left right
-  too_many e f d =
-      record {
-        within = record { left_side = omega arith; right_side = omega arith };
-        exact = λ s t u v a b few c r. absurd (omega (arith, (rw d at f.numbers).0, ap length (names_listed s t u v a b), fewer_letters s t));
-      }
 
-  pub all_listed : {names names' used left' right' : List ℕ} {l : Listed} {k : ℕ} {r : Lengths}
-      → Lists (flatten (slot_words us)) (flatten (slot_words vs)) names l names' → l ≡ All k → used ≡ take k names'
-      → Finds (WordRoom us vs left right) (both spelled (least order_lists rename_words used (slot_words us) (slot_words vs))) left right r left' right'
-      → CanonicalWords xs ys left right r left' right'
-  all_listed {names} {names'} {used} {left'} {right'} {l} {k} {r} f d e found = record { within = found.within; exact = exact }
-    where
-      exact : (s t : Term) → IsRun xs s → IsRun ys t → size s ≤ 31 → size t ≤ 31
-          → length (rising (letters s ++ letters t)) ≤ 6 → SLOT * MOST ≤ length left → SLOT * MOST ≤ length right
-          → (take r.left left' ≡ spelled (canonical_words (words s) (words t)).left)
-          × (take r.right right' ≡ spelled (canonical_words (words s) (words t)).right)
-      exact s t u v a b few left_room right_room =
-          let fills = rw d at f.numbers in
-          let names_used : used ≡ rising (flatten (expand s) ++ flatten (expand t)) =
-          e ∙ ap (take k) fills.2 ∙ take_at (slot_letters us vs) (drop k names) k (sym fills.0) ∙ names_listed s t u v a b in
-          let room : WordRoom us vs left right =
-          record {
-            first = rw (p.words s u a) (expand_bounded s u.fine a);
-            second = rw (q.words t v b) (expand_bounded t v.fine b);
-            left_room = left_room;
-            right_room = right_room;
-          } in
-          let all : sides r left' right' ≡ both spelled (canonical_words (words s) (words t)) =
-          found.exact room ∙ rw (names_used, p.words s u a, q.words t v b) (sym (canonical_expanded s t)) in
-          (ap (λ (z : Equation (List ℕ)). z.left) all, ap (λ (z : Equation (List ℕ)). z.right) all)
+  module _ {room : ℕ} {names names' : List ℕ} {l : Option ℕ} (f : Lists (flatten (slot_words us)) (flatten (slot_words vs)) names l names') where
+    pub too_many : {e : Sides} → length names ≡ 6 → l ≡ None → CanonicalWords xs ys room e
+    too_many n d =
+        record {
+          exact = λ s t u v a b few c. absurd (omega (arith, (rw d at f.numbers).0, ap length (names_listed s t u v a b), fewer_letters s t));
+        }
+
+    pub all_listed : {used : List ℕ} {k : ℕ} {e : Sides} → l ≡ Some k → used ≡ take k names'
+        → Finds (WordRoom us vs room) (least_to order_numbers (word_candidate used us vs) (factorial (length used) - 1)) e
+        → CanonicalWords xs ys room e
+    all_listed {used} {k} {e} d n found = record { exact = exact }
+      where
+        exact : (s t : Term) → IsRun xs s → IsRun ys t → size s ≤ 31 → size t ≤ 31
+            → length (rising (letters s ++ letters t)) ≤ 6 → SLOT * MOST ≤ room
+            → (e.left ≡ spelled (canonical_words (words s) (words t)).left) × (e.right ≡ spelled (canonical_words (words s) (words t)).right)
+        exact s t u v a b few long =
+            let fills = rw d at f.numbers in
+            let names_used : used ≡ rising (flatten (expand s) ++ flatten (expand t)) =
+            n ∙ ap (take k) fills.2 ∙ take_at (slot_letters us vs) (drop k names) k (sym fills.0) ∙ names_listed s t u v a b in
+            let roomy : WordRoom us vs room =
+            record {
+              first = rw (p.words s u a) (expand_bounded s u.fine a);
+              second = rw (q.words t v b) (expand_bounded t v.fine b);
+              sides = long;
+            } in
+            let all : e ≡ both spelled (canonical_words (words s) (words t)) =
+            found.exact roomy ∙ sym (spelled_least used (slot_words us) (slot_words vs)) ∙ rw (names_used, p.words s u a, q.words t v b) (sym (canonical_expanded s t)) in
+            (ap (λ (z : Sides). z.left) all, ap (λ (z : Sides). z.right) all)

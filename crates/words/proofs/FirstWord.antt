@@ -1,17 +1,21 @@
 -- A word set against the first word that a run spells, letter by letter.
-use Rattle.std.proofs.Common.{◌≡◌, ℕ, zero, suc, ◌+◌, ◌-◌, ◌<◌, ◌≤◌, List, ◌∷◌, map, length, get_or, drop, sym, refl, ap, ◌∙◌, add-zero, zero-add, arith, drop_of_length-le, take_all}
+use Rattle.std.proofs.Common.{◌≡◌, ℕ, zero, suc, ◌+◌, ◌-◌, ◌<◌, ◌≤◌, true, false, not, cond, eqb, Some, List, ◌∷◌, map, length, get_or, drop, sym, refl, ap, ◌∙◌, ne_eqb, arith, drop_of_length-le}
 use Prim.Native.Nat.{compare}
-use lib.ListN.{length-map}
-use lib.Seq.{sets, length-sets}
+use Rattle.std.proofs.lemmas.Bool.{true≢false, false≢true}
+use Rattle.std.proofs.lemmas.List.Quantifiers.{position-Some}
+use Rattle.std.proofs.lemmas.List.Sums.{prefix_len_is}
+use Rattle.std.proofs.lemmas.List.Recursion.{is_position_or_len}
+use Rattle.std.specs.List.{position}
+use Rattle.std.proofs.lemmas.Cmp.{ranked}
+use Rattle.std.specs.Ordering.{nat_cmp, is_ne, MatchOrdering}
+use Rattle.std.specs.declared.cmp.Ordering as answered
+use Rattle.std.specs.declared.cmp.Ordering.TheVariants.{Less, Equal, Greater}
+use Rattle.terms.specs.Promises.{ordering_of}
 use Rattle.terms.specs.Compare.{Ordering, lt, eq, gt, then, lexicographic}
 use Rattle.terms.specs.Theory.Order.{flip_lt, compare_order, compare_below}
 use Rattle.terms.proofs.Positions.{drop_one}
 use Rattle.words.specs.Words.{order_words}
-use Rattle.words.specs.Rename.{count_from}
-use Rattle.words.specs.RenameRun.{rename_number, rename_run}
-use Rattle.words.specs.Theory.Bijections.{count_from_length}
-use Rattle.words.specs.Rank.{Tabled, first_word}
-use Rattle.words.proofs.Parts.{front_stored}
+use Rattle.words.specs.Rank.{first_word}
 
 letter_first : (y : ℕ) (ys : List ℕ) → (y ≡ 0 → ⊥) → first_word (y ∷ ys) ≡ (y - 1) ∷ first_word ys
 unfolding first_word
@@ -44,49 +48,36 @@ module _ (g : ℕ → ℕ) (a b : List ℕ) (i : ℕ) (o : Ordering) (e : order_
     unfolding lexicographic
     both_here = rw (drop_one a i ha, drop_one b i hb, letter_first (get_or b i 0) (drop (i + 1) b) z, ← p) at e
 
-    pub less_here : x < get_or b i 0 - 1 → lt ≡ o
-    unfolding then
-    less_here h = rw (compare_below x (get_or b i 0 - 1) h) at both_here
+    module _ {c : answered.Ordering} (k : c ≡ nat_cmp x (get_or b i 0 - 1)) where
+      pub differs_here : is_ne c ≡ true → ordering_of c ≡ o
+      unfolding then
+      differs_here n = go c n (ranked x (get_or b i 0 - 1) c k)
+        where
+          go : (c : answered.Ordering) → is_ne c ≡ true → MatchOrdering c (x < get_or b i 0 - 1) (x ≡ get_or b i 0 - 1) (get_or b i 0 - 1 < x) → ordering_of c ≡ o
+          go Less n h = rw (compare_below x (get_or b i 0 - 1) h) at both_here
+          go Equal n h = absurd (false≢true n)
+          go Greater n h = rw (flip_lt compare_order (compare_below (get_or b i 0 - 1) x h)) at both_here
 
-    pub greater_here : get_or b i 0 ≤ x → gt ≡ o
-    unfolding then
-    greater_here h = rw (flip_lt compare_order (compare_below (get_or b i 0 - 1) x (omega arith))) at both_here
+      pub equal_here : is_ne c ≡ false → order_words (map g (drop (i + 1) a)) (first_word (drop (i + 1) b)) ≡ o
+      unfolding then
+      equal_here n = go c n (ranked x (get_or b i 0 - 1) c k)
+        where
+          go : (c : answered.Ordering) → is_ne c ≡ false → MatchOrdering c (x < get_or b i 0 - 1) (x ≡ get_or b i 0 - 1) (get_or b i 0 - 1 < x)
+              → order_words (map g (drop (i + 1) a)) (first_word (drop (i + 1) b)) ≡ o
+          go Less n h = absurd (true≢false n)
+          go Equal n h = rw (← h, compare_order.reflexive) at both_here
+          go Greater n h = absurd (true≢false n)
 
-    pub equal_here : get_or b i 0 - 1 ≤ x → x < get_or b i 0 → order_words (map g (drop (i + 1) a)) (first_word (drop (i + 1) b)) ≡ o
-    unfolding then
-    equal_here k h = let d : get_or b i 0 - 1 ≡ x = omega arith in rw (d, compare_order.reflexive) at both_here
-
--- the first word's length, from position i on
-module _ (b : List ℕ) (i n : ℕ) (e : i + length (first_word (drop i b)) ≡ n) where
-  pub length_ended : length b ≤ i → i ≡ n
-  unfolding first_word
-  length_ended h = omega (arith, rw (drop_of_length-le b h) at e)
-
-  pub length_here : i < length b → get_or b i 0 ≡ 0 → i ≡ n
-  unfolding first_word
-  length_here h z = omega (arith, rw (drop_one b i h, z) at e)
-
-  pub length_later : i < length b → (get_or b i 0 ≡ 0 → ⊥) → i + 1 + length (first_word (drop (i + 1) b)) ≡ n
-  length_later h z = omega (arith, rw (drop_one b i h, letter_first (get_or b i 0) (drop (i + 1) b) z) at e)
-
--- numbers renamed by a table of the small ones
-
-count_from_at : (g : ℕ → ℕ) (k i n : ℕ) → n < k → get_or (map g (count_from k i)) n 0 ≡ g (i + n)
-unfolding count_from
-count_from_at g zero i n h = absurd (omega arith)
-count_from_at g (suc k) i zero h = rw add-zero
-count_from_at g (suc k) i (suc n) h = let e : suc i + n ≡ i + suc n = omega arith in rw e at (count_from_at g k (suc i) n (omega arith))
-
-pub tabled_at : (f : ℕ → ℕ) (table : List ℕ) (n : ℕ) → Tabled f table → n < length table → get_or table n 0 ≡ rename_number f n
-tabled_at f table n t h = ap (λ l. get_or l n 0) t ∙ count_from_at (rename_number f) (length table) 0 n h ∙ rw zero-add
-
-pub table_made : (f : ℕ → ℕ) (buffer : List ℕ) {small table : List ℕ} → small ≡ count_from (length buffer) 0
-    → table ≡ sets buffer 0 (rename_run f small) → Tabled f table
-table_made f buffer {small} {table} e d =
-    let n = length buffer in
-    let long : length (rename_run f small) ≡ n = length-map small (rename_number f) ∙ ap length e ∙ count_from_length n 0 in
-    let all : table ≡ rename_run f small =
-    d ∙ sym (take_all (length (rename_run f small)) (sets buffer 0 (rename_run f small)) (omega (arith, length-sets buffer 0 (rename_run f small))))
-    ∙ front_stored buffer (rename_run f small) (omega arith) in
-    let m : length table ≡ n = ap length all ∙ long in
-    rw m (all ∙ ap (rename_run f) e)
+-- the place of the first 0, where the first word ends
+pub word_ends : (xs : List ℕ) (n : ℕ) → Some n ≡ position (eqb 0) xs → (n ≡ length (first_word xs)) × (n < length xs)
+unfolding first_word
+word_ends xs n e =
+    let at = position-Some (eqb 0) xs n 0 (sym e) in (
+      sym (prefix_len_is (λ y. not (eqb 0 y)) xs n 0 (omega (arith, at.0)) (λ k l. ap not (at.2 k l)) (λ l. ap not at.1))
+          ∙ sym (is_position_or_len (λ ys. length (first_word ys)) (eqb 0) refl (λ x ys. letter_counted x ys) xs),
+      at.0,
+    )
+  where
+    letter_counted : (x : ℕ) (ys : List ℕ) → length (first_word (x ∷ ys)) ≡ cond (eqb 0 x) 0 (1 + length (first_word ys))
+    letter_counted zero ys = refl
+    letter_counted (suc x) ys = rw (ne_eqb 0 (suc x) (λ e. omega arith)) (omega arith)

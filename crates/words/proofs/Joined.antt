@@ -1,5 +1,5 @@
 -- Words joined: a word to each of several, and each of several to each of others.
-use Rattle.std.proofs.Common.{◌≡◌, ℕ, ◌+◌, ◌≤◌, max, List, [], ◌∷◌, ◌++◌, map, sym, refl, ap, ◌∙◌, append-nil, add-one, arith}
+use Rattle.std.proofs.Common.{◌≡◌, ℕ, ◌+◌, ◌≤◌, List, [], ◌∷◌, ◌++◌, map, sym, refl, ap, ◌∙◌, append-nil, add-one, arith}
 use mathlib.Core.List.{map-append}
 use Rattle.words.specs.Words.{Word, products}
 use Rattle.words.specs.Spelled.{word_at}
@@ -30,8 +30,8 @@ module _ (F : List Word → List Word) (xs : List ℕ) (from : ℕ) (ws : List �
         let all : F us ≡ F z.firsts ++ g = ap F z.are ∙ ap (λ v. F (z.firsts ++ (v ∷ []))) (sym (in_slot_word z.in_slot)) ∙ e z.firsts in
         rw all (λ f. puts_both f (r z.firsts z.there) p)
 
-    each_done : (to : ℕ) → to ≤ i → i ≤ max from to → Each F xs from to ws j k ws₁
-    each_done to h g us b = let e : to ≡ i = omega (arith, between_end b) in r us (rw e at b)
+    each_done : (to : ℕ) → to ≤ i → (from ≤ to → i ≤ to) → Each F xs from to ws j k ws₁
+    each_done to h g us b = let n = between_end b in let e : to ≡ i = omega (arith, g (omega arith)) in r us (rw e at b)
 
 pub row_none : (u : Word) (xs : List ℕ) (from : ℕ) (ws : List ℕ) (j : ℕ) → JoinsRow u xs from from ws j j ws
 row_none u xs from ws j = record { few = λ h. h; exact = each_none (map (u ++◌)) xs from ws j refl }
@@ -44,7 +44,7 @@ module _ {u : Word} {xs : List ℕ} {from i : ℕ} {ws : List ℕ} {j k : ℕ} {
         exact = each_next (map (u ++◌)) xs from ws j i k ws₁ r.exact ((u ++ v) ∷ []) l ws₂ (λ us. rw (e, map-append)) p.exact h;
       }
 
-  pub row_done : (to : ℕ) → to ≤ i → i ≤ max from to → JoinsRow u xs from to ws j k ws₁
+  pub row_done : (to : ℕ) → to ≤ i → (from ≤ to → i ≤ to) → JoinsRow u xs from to ws j k ws₁
   row_done to h g = record { few = r.few; exact = each_done (map (u ++◌)) xs from ws j i k ws₁ r.exact to h g }
 
 pub join_none : (xs : List ℕ) (from right to : ℕ) (ws : List ℕ) (j : ℕ) → Joins xs from from right to ws j j ws
@@ -62,6 +62,6 @@ module _ {xs : List ℕ} {from i right to : ℕ} {ws : List ℕ} {j k : ℕ} {ws
             (λ ts. rw (e, products_append, append-nil)) (p.exact vs c) h us b;
       }
 
-  pub join_done : (middle : ℕ) → middle ≤ i → i ≤ max from middle → Joins xs from middle right to ws j k ws₁
+  pub join_done : (middle : ℕ) → middle ≤ i → (from ≤ middle → i ≤ middle) → Joins xs from middle right to ws j k ws₁
   join_done middle h g =
       record { few = r.few; exact = λ us vs b c. each_done (λ ts. products ts vs) xs from ws j i k ws₁ (λ ts d. r.exact ts vs d c) middle h g us b }

@@ -1,20 +1,14 @@
--- Equations of runs: their sides in order, which of two comes first, and the lesser kept in two buffers.
-use Rattle.std.proofs.Common.{◌≡◌, ℕ, ◌<◌, ◌≤◌, List, length, take, sym, refl, ap, ◌∙◌, arith, Bor}
-use lib.Seq.{sets}
+-- Equations of runs: their sides in order, which of two comes first, and the lesser kept.
+use Rattle.std.proofs.Common.{◌≡◌, ℕ, ◌<◌, ◌≤◌, true, false, ◌⊎◌, List, ◌++◌, length, take, take_at, sym, refl, ap, ◌∙◌, true≢false, ⊎_elim, arith}
+use Rattle.std.specs.Ordering.{is_gt, MatchOrdering}
 use Rattle.terms.specs.Compare.{Ordering, lt, eq, gt, order_numbers}
 use Rattle.terms.specs.Equation.{Equation, orient}
 use Rattle.terms.specs.Theory.Equation.{orient_either}
-use Rattle.terms.specs.Promises.{ordering_of, Compares, smaller_of, Smaller}
-use Rattle.terms.specs.declared.term.Comparison.{Comparison}
-use Rattle.terms.specs.declared.term.Comparison.TheVariants.{Less, Equal, Greater}
+use Rattle.terms.specs.Promises.{ordering_of, Compares, smaller_of}
+use Rattle.std.specs.declared.cmp.Ordering as answered
+use Rattle.std.specs.declared.cmp.Ordering.TheVariants.{Less, Equal, Greater}
 use Rattle.words.specs.Rename.{order_equations, lesser}
-use Rattle.words.specs.Candidate.{sides, Within, Room, ordered, Keeps, KeepsLesser}
-use Rattle.words.specs.declared.candidate.Lengths.{Lengths}
-use Rattle.words.proofs.Parts.{front_stored}
-
--- what was told of a comparison is the order
-told : {xs ys : List ℕ} {c r : Comparison} → Compares xs ys c → c ≡ r → order_numbers xs ys ≡ ordering_of r
-told h e = sym h.numbers ∙ ap ordering_of e
+use Rattle.words.specs.Candidate.{Sides, Room, Ordered, ordered, Stores, Keeps, KeepsLesser}
 
 -- the sides
 
@@ -36,44 +30,24 @@ oriented xs ys = go (order_numbers xs ys)
     go eq = refl
     go gt = refl
 
-pub right_side : (xs ys : List ℕ) {c r : Comparison} → Compares xs ys c → c ≡ r → larger_of (ordering_of r) xs ys ≡ (orient order_numbers xs ys).right
-right_side xs ys h e = rw (oriented xs ys, told h e)
+-- the runs in the order that `compare` tells
+pub in_order : (xs ys : List ℕ) (c : answered.Ordering) → Compares xs ys c → is_gt c ≡ false → Ordered xs ys xs ys
+in_order xs ys Less h e = record { left = rw (oriented xs ys, sym h.numbers); right = rw (oriented xs ys, sym h.numbers) }
+in_order xs ys Equal h e = record { left = rw (oriented xs ys, sym h.numbers); right = rw (oriented xs ys, sym h.numbers) }
+in_order xs ys Greater h e = absurd (true≢false e)
 
--- s and t are the sides of the equation that xs and ys make
-pub record Sides (xs ys s t : List ℕ) : Type 0 where
-  pub left : s ≡ (orient order_numbers xs ys).left
-  pub right : t ≡ (orient order_numbers xs ys).right
+pub exchanged : (xs ys : List ℕ) (c : answered.Ordering) → Compares xs ys c → is_gt c ≡ true → Ordered xs ys ys xs
+exchanged xs ys Less h e = absurd (true≢false (sym e))
+exchanged xs ys Equal h e = absurd (true≢false (sym e))
+exchanged xs ys Greater h e = record { left = rw (oriented xs ys, sym h.numbers); right = rw (oriented xs ys, sym h.numbers) }
 
-pub two_sides : {a b r : Bor (List ℕ)} {t : List ℕ} → Smaller a.now b.now a b r → t ≡ (orient order_numbers a.now b.now).right
-    → Sides a.now b.now r.now t
-two_sides {a} {b} h p =
-    record {
-      left =
-          ap (λ x. x.now) h.numbers
-          ∙ go (order_numbers a.now b.now)
-          ∙ ap (λ (e : Equation (List ℕ)). e.left) (sym (oriented a.now b.now));
-      right = p;
-    }
-  where
-    go : (c : Ordering) → (smaller_of c a b).now ≡ smaller_of c a.now b.now
-    go lt = refl
-    go eq = refl
-    go gt = refl
-
--- the order of equations
-
-module _ (xs ys us vs : List ℕ) {c : Comparison} (h : Compares xs us c) where
-  pub left_less : c ≡ Less → lt ≡ ordered xs ys us vs
-  unfolding order_equations
-  left_less e = rw (told h e)
-
-  pub left_greater : c ≡ Greater → gt ≡ ordered xs ys us vs
-  unfolding order_equations
-  left_greater e = rw (told h e)
-
-  pub left_equal : {d : Comparison} → c ≡ Equal → Compares ys vs d → ordering_of d ≡ ordered xs ys us vs
-  unfolding order_equations
-  left_equal e k = rw (told h e) k.numbers
+-- the order of equations: by left side, then right
+pub by_side : (xs ys us vs : List ℕ) (o : answered.Ordering) {r : answered.Ordering} {Right : Type 0} → Compares xs us o
+    → MatchOrdering o (r ≡ Less) Right (r ≡ Greater) → (Right → Compares ys vs r) → ordering_of r ≡ ordered xs ys us vs
+unfolding order_equations
+by_side xs ys us vs Less h m f = rw (m, sym h.numbers)
+by_side xs ys us vs Equal h m f = rw (sym h.numbers) (f m).numbers
+by_side xs ys us vs Greater h m f = rw (m, sym h.numbers)
 
 -- an equation is kept against two runs that both come after its left side
 pub both_after : (xs ys : List ℕ) (e : Equation (List ℕ)) → order_numbers e.left xs ≡ lt → order_numbers e.left ys ≡ lt
@@ -86,65 +60,48 @@ both_after xs ys e p q =
 
 -- two runs kept
 
-abbrev none : Lengths
-none = record { left = 0; right = 0 }
+-- a run copied over the front of another list
+pub front_copied : (s s' rest : List ℕ) → s' ≡ s → take (length s) (s' ++ rest) ≡ s
+front_copied s s' rest e = rw e (take_at s rest (length s) refl)
 
-none_within : (left right : List ℕ) → Within left right none
-none_within left right = record { left_side = omega arith; right_side = omega arith }
+pub stored : {s t us vs : List ℕ} {room : ℕ} → us ≡ s → vs ≡ t → Stores s t room (record { left = us; right = vs })
+stored d e = record { exact = λ h k i. record { left = d i; right = e i } }
 
-room_sides : {n : ℕ} {xs ys left right : List ℕ} → Room n xs ys left right
-    → (length (orient order_numbers xs ys).left ≤ n) × (length (orient order_numbers xs ys).right ≤ n)
-room_sides {n} {xs} {ys} h = orient_either (λ us vs. (length us ≤ n) × (length vs ≤ n)) order_numbers xs ys (h.first, h.second) (h.second, h.first)
+pub not_stored : {s t : List ℕ} {room : ℕ} {e : Sides} → (room < length s) ⊎ (room < length t) → Stores s t room e
+not_stored h = record { exact = λ l r. absurd (⊎_elim (λ k. omega arith) (λ k. omega arith) h) }
 
--- how the best so far compares with the equation of xs and ys
-pub record Against (xs ys left right : List ℕ) (best : Lengths) (c : Comparison) : Type 0 where
-  pub told : ordering_of c ≡ order_equations order_numbers (sides best left right) (orient order_numbers xs ys)
+room_sides : {n room : ℕ} {xs ys : List ℕ} → Room n xs ys room
+    → (length (orient order_numbers xs ys).left ≤ room) × (length (orient order_numbers xs ys).right ≤ room)
+room_sides {n} {room} {xs} {ys} h =
+    orient_either (λ us vs. (length us ≤ room) × (length vs ≤ room)) order_numbers xs ys
+    (omega (arith, h.first, h.sides), omega (arith, h.second, h.sides))
+    (omega (arith, h.second, h.sides), omega (arith, h.first, h.sides))
 
-module _ {xs ys s t : List ℕ} (p : Sides xs ys s t) where
-  both_sides : ◌≡◌ {A = Equation (List ℕ)} (record { left = s; right = t }) (orient order_numbers xs ys)
+module _ {xs ys s t : List ℕ} (p : Ordered xs ys s t) where
+  both_sides : ◌≡◌ {A = Sides} (record { left = s; right = t }) (orient order_numbers xs ys)
   both_sides i = record { left = p.left i; right = p.right i }
 
-  module _ {left right : List ℕ} where
-    pub no_left_room : length left < length s → Keeps xs ys left right none left right
-    no_left_room h =
-        record {
-          within = none_within left right;
-          exact = λ n r. absurd (omega (arith, (room_sides r).0, ap length p.left, r.left_room));
-        }
+  pub kept : {room : ℕ} {e : Sides} → Stores s t room e → Keeps xs ys room e
+  kept h =
+      record {
+        exact = λ n r.
+            h.exact (omega (arith, (room_sides r).0, ap length p.left)) (omega (arith, (room_sides r).1, ap length p.right)) ∙ both_sides;
+      }
 
-    pub no_right_room : length right < length t → Keeps xs ys left right none left right
-    no_right_room h =
-        record {
-          within = none_within left right;
-          exact = λ n r. absurd (omega (arith, (room_sides r).1, ap length p.right, r.right_room));
-        }
+  -- how the best so far compares with the equation of xs and ys
+  compared : (e : Sides) (c : answered.Ordering) → ordering_of c ≡ ordered e.left e.right s t
+      → order_equations order_numbers e (orient order_numbers xs ys) ≡ ordering_of c
+  compared e c h = rw (← both_sides) (sym h)
 
-    pub kept : {left' right' : List ℕ} → length s ≤ length left → length t ≤ length right → left' ≡ sets left 0 s → right' ≡ sets right 0 t
-        → Keeps xs ys left right (record { left = length s; right = length t }) left' right'
-    kept h k d e =
-        record {
-          within = record { left_side = h; right_side = k };
-          exact = λ n r. rw (d, e, front_stored left s h, front_stored right t k) both_sides;
-        }
-
-  -- u and v are the sides of the best so far
-  pub against : (left right : List ℕ) (best : Lengths) {u v : List ℕ} {c : Comparison} → u ≡ take best.left left → v ≡ take best.right right
-      → ordering_of c ≡ ordered u v s t → Against xs ys left right best c
-  against left right best a b h = record { told = rw (← both_sides, ← a, ← b) h }
-
-module _ {xs ys left right : List ℕ} {best : Lengths} {c : Comparison} (h : Against xs ys left right best c) where
-  compared : {r : Comparison} → c ≡ r → order_equations order_numbers (sides best left right) (orient order_numbers xs ys) ≡ ordering_of r
-  compared e = sym h.told ∙ ap ordering_of e
-
-  pub stays_below : c ≡ Less → KeepsLesser xs ys left right best best left right
+  pub stays : {room : ℕ} {e : Sides} (c : answered.Ordering) → ordering_of c ≡ ordered e.left e.right s t → is_gt c ≡ false → KeepsLesser xs ys room e e
   unfolding lesser
-  stays_below e = record { within = λ w. w; exact = λ n r. rw (compared e, lesser) }
+  stays {e = e} Less h d = record { exact = λ n r. rw (compared e Less h, lesser) }
+  stays {e = e} Equal h d = record { exact = λ n r. rw (compared e Equal h, lesser) }
+  stays Greater h d = absurd (true≢false d)
 
-  pub stays_equal : c ≡ Equal → KeepsLesser xs ys left right best best left right
+  pub replaced : {room : ℕ} {e e' : Sides} (c : answered.Ordering) → ordering_of c ≡ ordered e.left e.right s t → is_gt c ≡ true
+      → Stores s t room e' → KeepsLesser xs ys room e e'
   unfolding lesser
-  stays_equal e = record { within = λ w. w; exact = λ n r. rw (compared e, lesser) }
-
-  pub replaced : {r : Lengths} {left' right' : List ℕ} → c ≡ Greater → Keeps xs ys left right r left' right'
-      → KeepsLesser xs ys left right best r left' right'
-  unfolding lesser
-  replaced e k = record { within = λ w. k.within; exact = λ n r. rw (compared e, lesser) (k.exact n r) }
+  replaced Less h d k = absurd (true≢false (sym d))
+  replaced Equal h d k = absurd (true≢false (sym d))
+  replaced {e = e} Greater h d k = record { exact = λ n r. rw (compared e Greater h, lesser) ((kept k).exact n r) }

@@ -24,6 +24,7 @@ pub mod BoundedWords
 pub mod RenamedWords
 pub mod WordNames
 pub mod CanonicalWords
+pub mod Tabled
 pub mod FirstWord
 pub mod Tallied
 pub mod Ranked

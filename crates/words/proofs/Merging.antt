@@ -1,81 +1,99 @@
 -- Merging two lists of slots whose words are sorted: each turn stores the next slot of the one or the other.
-use Rattle.std.proofs.Common.{◌≡◌, ℕ, suc, ◌+◌, ◌<◌, ◌≤◌, true, false, List, ◌++◌, length, get_or, take, drop, set, sym, refl, ◌∙◌, true≢false, append-nil, add-one, arith, length-set, drop_of_length-le, take_all, drop-cons, take-suc-set}
+use Rattle.std.proofs.Common.{◌≡◌, ℕ, ◌+◌, ◌-◌, ◌<◌, ◌≤◌, Bool, true, false, List, [], ◌∷◌, ◌++◌, length, get_or, take, drop, set, sym, refl, ap, ◌∙◌, is_le, true≢false, add-one, arith, length-set, length-drop, drop-cons, take-suc-set}
 use mathlib.Core.List.{map-append}
+use borrow.Rule.Slice.PartMut.{mid_of}
 use Rattle.terms.specs.Promises.{Compares, ordering_of}
-use Rattle.terms.specs.declared.term.Comparison.{Comparison}
+use Rattle.std.specs.declared.cmp.Ordering as answered
+use Rattle.std.specs.declared.cmp.Ordering.TheVariants.{Less, Equal, Greater}
 use Rattle.terms.specs.Sort.{kept, before, Sorted}
 use Rattle.words.specs.Words.{Word, order_words, normal}
 use Rattle.words.specs.Spelled.{word_at, words_at}
-use Rattle.words.specs.Sort.{first_next, from_first, Merges}
+use Rattle.words.specs.Sort.{first_next, from_first}
 use Rattle.words.specs.Theory.Order.{word_order}
 use Rattle.words.specs.Theory.Merge.{Merging, first_taken, second_taken}
+use Rattle.words.proofs.Parts.{end_lent}
 
 -- where the next comes from
 
-module _ (ws a b : List ℕ) (i j : ℕ) where
-  pub no_first : length a ≤ i → from_first ws a b i j ≡ false
+module _ (ws : List ℕ) where
+  pub no_first : (a b : List ℕ) → length a ≡ 0 → false ≡ from_first ws a b
   unfolding first_next
-  no_first h = rw (drop_of_length-le a h)
+  no_first [] b h = refl
+  no_first (x ∷ a) b h = absurd (omega arith)
 
-  pub no_second : i < length a → length b ≤ j → from_first ws a b i j ≡ true
+  pub no_second : (a b : List ℕ) → 0 < length a → length b ≡ 0 → true ≡ from_first ws a b
   unfolding first_next
-  no_second h k = rw (drop-cons a i 0 h, drop_of_length-le b k)
+  no_second [] b h k = absurd (omega arith)
+  no_second (x ∷ a) [] h k = refl
+  no_second (x ∷ a) (y ∷ b) h k = absurd (omega arith)
 
-  pub both_there : {u v : Word} {r : Comparison} (k : Comparison) → i < length a → j < length b → u ≡ word_at ws (get_or a i 0) → v ≡ word_at ws (get_or b j 0)
-      → Compares u v r → r ≡ k → before kept (ordering_of k) ≡ from_first ws a b i j
+  before_kept : (r : answered.Ordering) → is_le r ≡ before kept (ordering_of r)
+  before_kept Less = refl
+  before_kept Equal = refl
+  before_kept Greater = refl
+
+  pub both_there : {u v : Word} {r : answered.Ordering} (a b : List ℕ) → 0 < length a → 0 < length b → u ≡ word_at ws (get_or a 0 0) → v ≡ word_at ws (get_or b 0 0)
+      → Compares u v r → is_le r ≡ from_first ws a b
   unfolding first_next
-  both_there {u} {v} k h l d e p f =
-      let o : ordering_of k ≡ order_words u v = rw f at p.numbers in rw (drop-cons a i 0 h, drop-cons b j 0 l, o, d, e)
+  both_there [] b h l d e p = absurd (omega arith)
+  both_there (x ∷ a) [] h l d e p = absurd (omega arith)
+  both_there {r = r} (x ∷ a) (y ∷ b) h l d e p = before_kept r ∙ ap (before kept) (rw (d, e) at p.numbers)
 
-  pub first_there : from_first ws a b i j ≡ true → i < length a
-  first_there e = let n : length a ≤ i → ⊥ = λ h. true≢false (sym e ∙ no_first h) in omega arith
+  pub first_there : (a b : List ℕ) → from_first ws a b ≡ true → 0 < length a
+  first_there [] b e = absurd (true≢false (sym e ∙ sym (no_first [] b refl)))
+  first_there (x ∷ a) b e = omega arith
 
-  pub second_there : from_first ws a b i j ≡ false → i + j < length a + length b → j < length b
-  second_there e h = let n : length b ≤ j → ⊥ = λ k. true≢false (sym (no_second (omega arith) k) ∙ e) in omega arith
+  pub second_there : (a b : List ℕ) → from_first ws a b ≡ false → 0 < length a + length b → 0 < length b
+  second_there [] b e h = omega arith
+  second_there (x ∷ a) [] e h = absurd (true≢false (no_second (x ∷ a) [] (omega arith) refl ∙ e))
+  second_there (x ∷ a) (y ∷ b) e h = omega arith
 
 -- one turn
 
--- of the slots in a the first i, and of those in b the first j, are merged
-pub record MergedTo (ws a b : List ℕ) (i j : ℕ) (out : List ℕ) : Type 0 where
+-- of the slots in a the first i, and of those in b the first j, are merged: k in all
+pub record MergedTo (ws a b : List ℕ) (i j k : ℕ) (out : List ℕ) : Type 0 where
+  pub all : k ≡ i + j
   pub first : i ≤ length a
   pub second : j ≤ length b
   pub room : length out ≡ length a + length b
   pub is : Sorted kept order_words (words_at ws a) → Sorted kept order_words (words_at ws b)
-      → Merging order_words (normal kept (words_at ws a ++ words_at ws b)) (words_at ws (take (i + j) out)) (words_at ws (drop i a)) (words_at ws (drop j b))
+      → Merging order_words (normal kept (words_at ws a ++ words_at ws b)) (words_at ws (take k out)) (words_at ws (drop i a)) (words_at ws (drop j b))
 
 module _ (ws a b : List ℕ) where
-  pub merge_start : (out : List ℕ) → length out ≡ length a + length b → MergedTo ws a b 0 0 out
-  merge_start out e = record { first = omega arith; second = omega arith; room = e; is = λ s t. record { first = s; second = t; is = refl } }
+  -- what is left of a list is lent
+  pub next_is : (i j : ℕ) {r v : Bool} → r ≡ from_first ws (mid_of i (length a - i) a) (mid_of j (length b - j) b) → r ≡ v
+      → from_first ws (drop i a) (drop j b) ≡ v
+  next_is i j e f = sym (rw (end_lent a i, end_lent b j) at e) ∙ f
 
-  module _ (i j : ℕ) (out : List ℕ) (m : MergedTo ws a b i j out) where
-    pub merge_first : i + j < length out → from_first ws a b i j ≡ true → MergedTo ws a b (i + 1) j (set out (i + j) (get_or a i 0))
+  module _ {i j k : ℕ} {out : List ℕ} (m : MergedTo ws a b i j k out) where
+    pub first_left : from_first ws (drop i a) (drop j b) ≡ true → i < length a
+    first_left e = omega (arith, first_there ws (drop i a) (drop j b) e, length-drop i a)
+
+    pub second_left : k < length out → from_first ws (drop i a) (drop j b) ≡ false → j < length b
+    second_left h e =
+        let l : 0 < length (drop i a) + length (drop j b) = omega (arith, m.all, m.room, length-drop i a, length-drop j b) in
+        omega (arith, length-drop j b, second_there ws (drop i a) (drop j b) e l)
+
+    pub merge_first : k < length out → from_first ws (drop i a) (drop j b) ≡ true → MergedTo ws a b (i + 1) j (k + 1) (set out k (get_or a i 0))
     merge_first h e =
-        let l = first_there ws a b i j e in
+        let l = first_left e in
         let d = drop-cons a i 0 l in
-        let k : i + 1 + j ≡ suc (i + j) = omega arith in
         record {
+          all = omega (arith, m.all);
           first = omega arith;
           second = m.second;
-          room = length-set out (i + j) (get_or a i 0) ∙ m.room;
-          is = λ s t.
-              rw (k, take-suc-set out (i + j) (get_or a i 0) h, map-append, add-one) (first_taken word_order (rw d at (m.is s t)) (rw d at e));
+          room = length-set out k (get_or a i 0) ∙ m.room;
+          is = λ s t. rw (add-one, take-suc-set out k (get_or a i 0) h, map-append, add-one) (first_taken word_order (rw d at (m.is s t)) (rw d at e));
         }
 
-    pub merge_second : i + j < length out → from_first ws a b i j ≡ false → MergedTo ws a b i (j + 1) (set out (i + j) (get_or b j 0))
+    pub merge_second : k < length out → from_first ws (drop i a) (drop j b) ≡ false → MergedTo ws a b i (j + 1) (k + 1) (set out k (get_or b j 0))
     merge_second h e =
-        let l = second_there ws a b i j e (omega arith) in
+        let l = second_left h e in
         let d = drop-cons b j 0 l in
-        let k : i + (j + 1) ≡ suc (i + j) = omega arith in
         record {
+          all = omega (arith, m.all);
           first = m.first;
           second = omega arith;
-          room = length-set out (i + j) (get_or b j 0) ∙ m.room;
-          is = λ s t.
-              rw (k, take-suc-set out (i + j) (get_or b j 0) h, map-append, add-one) (second_taken word_order (rw d at (m.is s t)) (rw d at e));
+          room = length-set out k (get_or b j 0) ∙ m.room;
+          is = λ s t. rw (add-one, take-suc-set out k (get_or b j 0) h, map-append, add-one) (second_taken word_order (rw d at (m.is s t)) (rw d at e));
         }
-
-    pub merge_end : length out ≤ i + j → Merges ws a b out
-    merge_end h s t =
-        let p : length a ≤ i = omega arith in
-        let q : length b ≤ j = omega arith in
-        sym (rw (take_all (i + j) out h, drop_of_length-le a p, drop_of_length-le b q, append-nil) at (m.is s t).is)

@@ -1,5 +1,5 @@
 -- Slots numbered one after another.
-use Rattle.std.proofs.Common.{◌≡◌, ℕ, zero, suc, ◌+◌, ◌<◌, ◌≤◌, List, [], ◌∷◌, ◌++◌, length, take, set, sym, refl, ap, ◌∙◌, add-zero, zero-add, add-one, arith, take_all, take-suc-set}
+use Rattle.std.proofs.Common.{◌≡◌, ℕ, zero, suc, ◌+◌, ◌<◌, List, [], ◌∷◌, ◌++◌, length, take, set, refl, ap, add-zero, zero-add, add-one, arith, take-suc-set}
 use Rattle.words.specs.Rename.{count_from}
 
 count_from_last : (k i : ℕ) → count_from (suc k) i ≡ count_from k i ++ ((i + k) ∷ [])
@@ -13,6 +13,3 @@ number_start order = refl
 
 pub number_next : (order : List ℕ) (i : ℕ) → i < length order → take i order ≡ count_from i 0 → take (i + 1) (set order i i) ≡ count_from (i + 1) 0
 number_next order i h e = rw (add-one, take-suc-set order i i h, count_from_last, zero-add, e)
-
-pub number_end : (order : List ℕ) (i n : ℕ) → length order ≤ i → i ≡ n → take i order ≡ count_from i 0 → order ≡ count_from n 0
-number_end order i n h k e = rw (← k) (sym (take_all i order h) ∙ e)

@@ -1,8 +1,13 @@
 -- Words passed over together: they begin with the same two letters, and these tell.
-use Rattle.std.proofs.Common.{◌≡◌, ℕ, zero, suc, ◌+◌, ◌-◌, ◌*◌, ◌/◌, ◌<◌, ◌≤◌, List, [], ◌∷◌, ◌++◌, length, get_or, take, drop, sym, refl, ap, ◌∙◌, subst, ⊎_elim, add-zero, eq-or-lt_of_le, add-one, arith, take-append-drop, drop-cons, take-take}
+use Rattle.std.proofs.Common.{◌≡◌, ℕ, zero, suc, ◌+◌, ◌-◌, ◌*◌, ◌/◌, ◌<◌, ◌≤◌, false, List, [], ◌∷◌, ◌++◌, length, get_or, take, drop, sym, refl, ap, ◌∙◌, subst, ⊎_elim, add-zero, eq-or-lt_of_le, add-one, arith, take-append-drop, drop-cons, take-take}
 use Prim.Native.Nat.{compare}
 use mathlib.Core.List.{map-append}
+use Rattle.std.proofs.lemmas.Bool.{true≢false}
+use Rattle.std.specs.Ordering.{is_le}
+use Rattle.std.specs.declared.cmp.Ordering as answered
+use Rattle.std.specs.declared.cmp.Ordering.TheVariants.{Less, Equal, Greater}
 use Rattle.terms.specs.Compare.{gt, then, lexicographic}
+use Rattle.terms.specs.Promises.{ordering_of}
 use Rattle.terms.specs.Theory.Order.{cases}
 use Rattle.words.specs.Words.{Word, order_words}
 use Rattle.words.specs.Spelled.{SLOT, word_at}
@@ -48,13 +53,15 @@ pub none_passed : (F : Word → Word) (ws : List ℕ) (w : Word) (i : ℕ) → P
 none_passed F ws w i = record { within = omega arith; after = λ j h l. absurd (omega arith) }
 
 pub pair_passed : (f : ℕ → ℕ) (ws : List ℕ) (w : Word) (i r : ℕ) (word head : List ℕ) → head ≡ take 2 word → 2 ≤ length word
-    → gt ≡ order_words (rename_run f head) w → Paired ws (get_or word 0 0) (get_or word 1 0) i r → Passes (rename_run f) ws w i r
-pair_passed f ws w i r word head e h g p =
+    → (o : answered.Ordering) → is_le o ≡ false → ordering_of o ≡ order_words (rename_run f head) w → Paired ws (get_or word 0 0) (get_or word 1 0) i r → Passes (rename_run f) ws w i r
+pair_passed f ws w i r word head e h Less l g p = absurd (true≢false l)
+pair_passed f ws w i r word head e h Equal l g p = absurd (true≢false l)
+pair_passed f ws w i r word head e h Greater l g p =
     record {
       within = p.within;
-      after = λ j k l.
+      after = λ j k m.
           let v = word_at ws j in
-          let same : take 2 v ≡ head = p.same j k l ∙ sym (two word 0 (omega arith)) ∙ sym e in
+          let same : take 2 v ≡ head = p.same j k m ∙ sym (two word 0 (omega arith)) ∙ sym e in
           let split : rename_run f v ≡ rename_run f head ++ rename_run f (drop 2 v) =
           ap (rename_run f) (sym (take-append-drop 2 v)) ∙ map-append _ (take 2 v) (drop 2 v) ∙ ap (λ u. rename_run f u ++ rename_run f (drop 2 v)) same in
           rw split (longer_greater (rename_run f head) (rename_run f (drop 2 v)) w (sym g));

@@ -42,10 +42,6 @@ module _ {us vs : List Word} {ws ws₁ ws₂ : List ℕ} {i j k : ℕ} where
 pub puts_anew : {us vs : List Word} {ws ws₁ ws₂ : List ℕ} {i j k : ℕ} → Puts us ws i j ws₁ → Puts vs ws₁ i k ws₂ → Puts vs ws i k ws₂
 puts_anew p q = record { put = q.put; front = q.front ∙ p.front; room = q.room ∙ p.room }
 
--- nothing is put where there is no room
-pub no_room : {us : List Word} {ws : List ℕ} {j : ℕ} → (Fits us ws j → ⊥) → PutsWords us ws j j ws
-no_room h = record { few = λ p. p; exact = λ f. absurd (h f) }
-
 -- a word's length, then its letters
 slot_filled : (ws : List ℕ) (k : ℕ) (u rest : List ℕ) → length u ≤ LONGEST → drop (SLOT * k) ws ≡ length u ∷ (u ++ rest) → InSlot ws k u
 slot_filled ws k u rest h e =
@@ -54,9 +50,6 @@ slot_filled ws k u rest h e =
 
 -- one word, in two parts
 module _ (ws : List ℕ) (k : ℕ) (a b : List ℕ) where
-  pub too_long : LONGEST < length a + length b → PutsWords ((a ++ b) ∷ []) ws k k ws
-  too_long h = no_room (λ f. omega (arith, f.short, length-append a b))
-
   abbrev filled : List ℕ
   filled = length (a ++ b) ∷ (a ++ b)
 

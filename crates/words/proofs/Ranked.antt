@@ -1,5 +1,6 @@
 -- The words in slots counted one after another, and what the counts say of a run and the words sorted.
-use Rattle.std.proofs.Common.{◌≡◌, ℕ, ◌+◌, ◌/◌, ◌<◌, ◌≤◌, List, map, length, drop, sym, refl, ap, ◌∙◌, arith, drop-drop}
+use Rattle.std.proofs.Common.{◌≡◌, ℕ, ◌+◌, ◌/◌, ◌<◌, ◌≤◌, eqb, Some, List, map, length, drop, sym, refl, ap, ◌∙◌, arith, drop-drop}
+use Rattle.std.specs.List.{position}
 use mathlib.Core.List.{map-append, flat_map}
 use lib.ListN.{length-map}
 use Rattle.terms.specs.Compare.{Ordering, lt, eq, gt, order_numbers}
@@ -14,6 +15,7 @@ use Rattle.words.specs.Theory.Bijections.{count_from_length}
 use Rattle.words.specs.Theory.Order.{word_order}
 use Rattle.words.specs.Rank.{first_word, if_less, if_upto, tally, Notes, Ranks, sorted_renamed}
 use Rattle.words.specs.declared.candidate.rank.Rank.{Rank}
+use Rattle.words.proofs.FirstWord.{word_ends}
 use Rattle.words.proofs.SlotWords.{words_in_next}
 use Rattle.words.proofs.Tallied.{tally_next, tally_sorted, length_sorted, greater_next, equal_next, run_before, run_same}
 
@@ -75,16 +77,17 @@ module _ (us : List Word) (run : List ℕ) (i : ℕ) {k : Rank} (r : Ranks (firs
       let t : drop (i + 1) (normal kept us) ≡ n.rest = sym (drop-drop 1 i (normal kept us)) ∙ ap (drop 1) n.is in
       rw (t, n.is) (run_same run (spelled n.rest) m)
 
--- the words in slots, renamed, set against the run from position at on
-module _ (f : ℕ → ℕ) (ws run : List ℕ) (at i : ℕ) {o : Ordering} (e : order_numbers (drop at run) (spelled (drop i (sorted_renamed f ws))) ≡ o)
-    {k : Rank} (r : Ranks (first_word (drop at run)) (map (rename_run f) (slot_words ws)) k) where
+-- the words in slots, renamed, set against the rest of a run
+module _ (f : ℕ → ℕ) (ws rest : List ℕ) (i : ℕ) {o : Ordering} (e : order_numbers rest (spelled (drop i (sorted_renamed f ws))) ≡ o)
+    {k : Rank} (r : Ranks (first_word rest) (map (rename_run f) (slot_words ws)) k) where
   pub found_greater : k.upto ≤ i → i < length ws / SLOT → o ≡ lt
   found_greater h l =
       let us = map (rename_run f) (slot_words ws) in
-      sym e ∙ greater_here us (drop at run) i r h
+      sym e ∙ greater_here us rest i r h
       (omega (arith, length-map (slot_words ws) (rename_run f), length-map (count_from (length ws / SLOT) 0) (word_at ws), count_from_length (length ws / SLOT) 0))
 
-  pub found_equal : (n : ℕ) → k.less ≤ i → i < k.upto → n ≡ length (first_word (drop at run)) → n < length (drop at run)
-      → order_numbers (drop (at + (n + 1)) run) (spelled (drop (i + 1) (sorted_renamed f ws))) ≡ o
-  found_equal n h l d m =
-      rw (← drop-drop (n + 1) at run, d) (sym (equal_here (map (rename_run f) (slot_words ws)) (drop at run) i r h l (omega arith)) ∙ e)
+  pub found_equal : (n : ℕ) → k.less ≤ i → i < k.upto → Some n ≡ position (eqb 0) rest
+      → order_numbers (drop (n + 1) rest) (spelled (drop (i + 1) (sorted_renamed f ws))) ≡ o
+  found_equal n h l p =
+      let (d, m) = word_ends rest n p in
+      rw d (sym (equal_here (map (rename_run f) (slot_words ws)) rest i r h l (omega arith)) ∙ e)

@@ -1,30 +1,44 @@
--- The new name looked up from position i on, and runs renamed.
-use Rattle.std.proofs.Common.{◌≡◌, ℕ, zero, suc, ◌+◌, ◌<◌, ◌≤◌, List, [], ◌∷◌, map, length, get_or, drop, set, refl, arith, drop_of_length-le, le-ltb, lt-ltb}
+-- The new name looked up, and runs renamed.
+use Rattle.std.proofs.Common.{◌≡◌, ℕ, zero, suc, ◌+◌, ◌<◌, ◌≤◌, Bool, true, false, cond, eqb, Option, Some, None, List, [], ◌∷◌, map, length, get_or, drop, set, sym, refl, ap, ◌∙◌, ⊎_elim, min, add-one, arith, drop-cons, drop_of_length-le, le-ltb, lt-ltb}
+use Rattle.std.specs.List.{position, position_from}
+use Rattle.std.proofs.lemmas.List.{get_or_past}
+use Rattle.std.proofs.lemmas.Bool.{cases_lt}
+use Rattle.std.proofs.lemmas.Iterator.Adapters.{position_from-zero}
 use lib.ListN.{length-map}
 use lib.Seq.{sets}
 use Rattle.terms.specs.Run.{ZERO}
-use Rattle.terms.proofs.Positions.{drop_one}
 use Rattle.words.specs.Rename.{renamed}
 use Rattle.words.specs.RenameRun.{rename_number, rename_run}
-use Rattle.words.specs.Theory.Bijections.{renamed_first, renamed_later}
-use Rattle.words.proofs.Stores.{store_next, store_done}
+use Rattle.words.proofs.Stores.{store_next, store_full, store_done}
 
-module _ (names numbers : List ℕ) (x i n : ℕ) (e : renamed (drop i names) (drop i numbers) x ≡ n) where
-  pub names_ended : length names ≤ i → x ≡ n
+-- the number at a place, or n itself
+module _ (ps : List ℕ) (n : ℕ) where
+  abbrev pub beside : Option ℕ → ℕ
+  beside None = n
+  beside (Some i) = get_or ps i n
+
+  none_beside : (ms : List ℕ) (i : ℕ) → length ps ≤ i → n ≡ beside (position_from (eqb n) i ms)
+  none_beside [] i h = refl
+  none_beside (m ∷ ms) i h = go (eqb n m) (none_beside ms (i + 1) (omega arith))
+    where
+      go : (b : Bool) → n ≡ beside (position_from (eqb n) (i + 1) ms) → n ≡ beside (cond b (Some i) (position_from (eqb n) (i + 1) ms))
+      go true later = sym (get_or_past ps i n h)
+      go false later = later
+
+  renamed_from : (ms : List ℕ) (i : ℕ) → renamed ms (drop i ps) n ≡ beside (position_from (eqb n) i ms)
   unfolding renamed
-  names_ended h = rw (drop_of_length-le names h) at e
+  renamed_from [] i = refl
+  renamed_from (m ∷ ms) i =
+      ⊎_elim (λ h. rw (drop-cons ps i n h, ← add-one i) (go (eqb n m) (renamed_from ms (i + 1))))
+      (λ h. rw (drop_of_length-le ps h) (none_beside (m ∷ ms) i h)) (cases_lt i (length ps))
+    where
+      go : (b : Bool) → renamed ms (drop (i + 1) ps) n ≡ beside (position_from (eqb n) (i + 1) ms)
+          → elim b [ true ↦ get_or ps i n | false ↦ renamed ms (drop (i + 1) ps) n ] ≡ beside (cond b (Some i) (position_from (eqb n) (i + 1) ms))
+      go true later = refl
+      go false later = later
 
-  module _ (h : i < length names) where
-    pub numbers_ended : length numbers ≤ i → x ≡ n
-    unfolding renamed
-    numbers_ended k = rw (drop_one names i h, drop_of_length-le numbers k) at e
-
-    module _ (k : i < length numbers) where
-      pub name_here : x ≡ get_or names i 0 → get_or numbers i 0 ≡ n
-      name_here p = rw (drop_one names i h, drop_one numbers i k, renamed_first (get_or names i 0) (get_or numbers i 0) (drop (i + 1) names) (drop (i + 1) numbers) x p) at e
-
-      pub name_later : (x ≡ get_or names i 0 → ⊥) → renamed (drop (i + 1) names) (drop (i + 1) numbers) x ≡ n
-      name_later p = rw (drop_one names i h, drop_one numbers i k, renamed_later (get_or names i 0) (get_or numbers i 0) (drop (i + 1) names) (drop (i + 1) numbers) x p) at e
+  pub renamed_at : (ms : List ℕ) (o : Option ℕ) → o ≡ position (eqb n) ms → beside o ≡ renamed ms ps n
+  renamed_at ms o e = ap beside (e ∙ position_from-zero (eqb n) ms) ∙ sym (renamed_from ms 0)
 
 module _ (f : ℕ → ℕ) (x : ℕ) where
   pub letter_renamed : x < ZERO → f x ≡ rename_number f x
@@ -48,5 +62,7 @@ module _ (f : ℕ → ℕ) (xs out zs : List ℕ) (i : ℕ) (e : sets out i (dro
   renaming_next h p =
       rw (p, ← get_d_map (rename_number f) xs i h) (store_next out (rename_run f xs) zs i i e (rw (length-map xs (rename_number f)) h))
 
-  pub renaming_ends : length xs ≤ i → out ≡ zs
-  renaming_ends h = store_done out (rename_run f xs) zs i i e (rw (length-map xs (rename_number f)) h)
+  pub renaming_ended : min (length xs) (length out) ≤ i → out ≡ zs
+  renaming_ended h =
+      ⊎_elim (λ l. store_full out (rename_run f xs) zs i i e (omega arith)) (λ l. store_done out (rename_run f xs) zs i i e (rw (length-map xs (rename_number f)) l))
+      (cases_lt i (length xs))

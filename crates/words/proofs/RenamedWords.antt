@@ -10,20 +10,17 @@ use Rattle.terms.specs.Sort.{kept}
 use Rattle.words.specs.Words.{Word, normal}
 use Rattle.words.specs.Rename.{count_from, rename_words}
 use Rattle.words.specs.RenameRun.{rename_number, rename_run}
-use Rattle.words.specs.Decoded.{renaming}
 use Rattle.words.specs.Spelled.{SLOT, spelled, word_at, words_in}
 use Rattle.words.specs.Multiply.{MOST, LONGEST, Fits, PutsWords}
 use Rattle.words.specs.Sort.{Spells}
 use Rattle.words.specs.Theory.Renaming.{map_words_depends}
-use Rattle.words.specs.WordLists.{slot_words, word_candidate, Bounded, RenamesWords, WordRoom, VisitRoom}
-use Rattle.words.specs.Candidate.{sides, Visits}
+use Rattle.words.specs.WordLists.{slot_words, Bounded, RenamesWords, WordRoom}
+use Rattle.words.specs.Candidate.{Sides, Offers}
 use Rattle.words.specs.Rank.{Exceeds}
-use Rattle.words.specs.declared.candidate.Lengths.{Lengths}
 use Rattle.words.specs.Theory.WordLetters.{each_flat}
 use Rattle.words.proofs.Puts.{puts_none}
 use Rattle.words.proofs.Renamed.{letter_renamed}
 use Rattle.words.proofs.Candidates.{renamed_front}
-use Rattle.words.proofs.Canonical.{renaming_below}
 use Rattle.words.proofs.Visited.{Made, passed_over}
 use Rattle.words.proofs.Kept.{both_after}
 use Rattle.words.proofs.SlotWords.{words_in_next, puts_more, puts_listed}
@@ -75,44 +72,32 @@ pub slots_as_long : {f : ℕ → ℕ} {ws ss ss₁ out out' : List ℕ} {r : ℕ
     → RenamesWords f ws ss₁ out r out' → RenamesWords f ws ss out r out'
 slots_as_long e p = record { within = p.within; exact = λ b k slots. p.exact b k (omega arith) }
 
--- both lists, as candidate number c
-pub word_candidate_made : (names us vs : List ℕ) (c : ℕ) {ss x y x' y' u v left right : List ℕ} {m n : ℕ} → length names ≤ 6
-    → RenamesWords (renaming names c) us ss x m x' → RenamesWords (renaming names c) vs ss y n y' → u ≡ take m x' → v ≡ take n y'
-    → VisitRoom us vs ss x y left right → Made (SLOT * MOST) (word_candidate names us vs) c u v left right
-word_candidate_made names us vs c {x' = x'} {y' = y'} {m = m} {n = n} few p q d e h =
+-- the equation of both lists
+abbrev both_renamed : (us vs : List ℕ) (new : ℕ → ℕ) → Sides
+both_renamed us vs new = orient order_numbers (spelled (rename_words new (slot_words us))) (spelled (rename_words new (slot_words vs)))
+
+pub words_made : (us vs : List ℕ) (new : ℕ → ℕ) {ss x y x' y' u v : List ℕ} {m n room : ℕ}
+    → SLOT * MOST ≤ length ss → length x ≡ SLOT * MOST → length y ≡ SLOT * MOST
+    → RenamesWords new us ss x m x' → RenamesWords new vs ss y n y' → u ≡ take m x' → v ≡ take n y'
+    → ((n : ℕ) → n < ZERO → new n < ZERO) → WordRoom us vs room → Made (SLOT * MOST) (both_renamed us vs new) u v room
+words_made us vs new {x' = x'} {y' = y'} {m = m} {n = n} slots long long' p q d e small h =
     record {
       room =
           record {
-            first = omega (arith, ap length d, length-take m x', p.within, h.first);
-            second = omega (arith, ap length e, length-take n y', q.within, h.second);
-            left_room = h.sides.left_room;
-            right_room = h.sides.right_room;
+            first = omega (arith, ap length d, length-take m x', p.within);
+            second = omega (arith, ap length e, length-take n y', q.within);
+            sides = h.sides;
           };
-      equation =
-          ap₂ (orient order_numbers)
-          (d ∙ p.exact h.sides.first (renaming_below names few c) h.slots (omega (arith, h.first)))
-          (e ∙ q.exact h.sides.second (renaming_below names few c) h.slots (omega (arith, h.second)));
+      equation = ap₂ (orient order_numbers) (d ∙ p.exact h.first small slots (omega arith)) (e ∙ q.exact h.second small slots (omega arith));
     }
 
--- a candidate of which both sides come after the best's left side
-pub word_candidate_passed : (names us vs : List ℕ) (c : ℕ) {ss x y left right run : List ℕ} {best : Lengths}
-    → Exceeds (renaming names c) us vs c run true → run ≡ take best.left left
-    → Visits (VisitRoom us vs ss x y left right) (word_candidate names us vs) c left right best best left right
+-- both lists come after the best's left side
+pub words_passed : (us vs : List ℕ) (new : ℕ → ℕ) (c : ℕ) {room : ℕ} {run : List ℕ} {best : Sides}
+    → Exceeds new us vs c run true → run ≡ best.left → Offers (WordRoom us vs room) (both_renamed us vs) new c best best
 unfolding rename_words
-word_candidate_passed names us vs c {left = left} {right} {run} {best} e d =
-    let f = renaming names c in
+words_passed us vs new c {best = best} e d =
     passed_over (e.later refl)
     (λ h.
-    both_after (spelled (rename_words f (slot_words us))) (spelled (rename_words f (slot_words vs))) (sides best left right)
-    (rw (d, letters_renamed f h.sides.first) at (e.first refl))
-    (rw (d, letters_renamed f h.sides.second) at (e.second refl)))
-
-pub room_as_long : {us vs ss x y left right left₀ right₀ : List ℕ} → length ss ≡ SLOT * MOST → length x ≡ SLOT * MOST → length y ≡ SLOT * MOST
-    → length left ≡ length left₀ → length right ≡ length right₀ → WordRoom us vs left₀ right₀ → VisitRoom us vs ss x y left right
-room_as_long s p q a b h =
-    record {
-      sides = record { first = h.first; second = h.second; left_room = omega (arith, h.left_room); right_room = omega (arith, h.right_room) };
-      slots = omega arith;
-      first = p;
-      second = q;
-    }
+    both_after (spelled (rename_words new (slot_words us))) (spelled (rename_words new (slot_words vs))) best
+    (rw (d, letters_renamed new h.first) at (e.first refl))
+    (rw (d, letters_renamed new h.second) at (e.second refl)))

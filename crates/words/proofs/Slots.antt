@@ -1,20 +1,21 @@
 -- The word in a slot: where the slot is past the end, and where its letters are.
-use Rattle.std.proofs.Common.{◌≡◌, ℕ, ◌+◌, ◌-◌, ◌*◌, ◌≤◌, List, [], length, get_or, take, drop, sym, ap, ◌∙◌, arith, length-drop, take_all}
+use Rattle.std.proofs.Common.{◌≡◌, ℕ, ◌-◌, ◌*◌, ◌<◌, ◌≤◌, List, [], ◌∷◌, length, take, drop, sym, ap, ◌∙◌, arith, length-drop}
 use lib.ListN.{get_or-eq_default}
+use borrow.Rule.Slice.PartMut.{mid_of}
+use Rattle.terms.proofs.Positions.{drop_head}
 use Rattle.words.specs.Spelled.{SLOT, word_at}
+use Rattle.words.proofs.Parts.{end_lent}
 
 module _ (ws : List ℕ) (k : ℕ) where
   pub no_slot : length ws ≤ SLOT * k → [] ≡ word_at ws k
   unfolding word_at
   no_slot h = rw (get_or-eq_default ws 0 h)
 
-  -- a length that goes past the end
-  pub to_end : length ws - (SLOT * k + 1) ≤ get_or ws (SLOT * k) 0 → take (length ws - (SLOT * k + 1)) (drop (SLOT * k + 1) ws) ≡ word_at ws k
+  -- its length, then its letters and what follows
+  pub slot_found : (start x : ℕ) (rest : List ℕ) → (start < length ws → start ≡ SLOT * k) → mid_of start (length ws - start) ws ≡ x ∷ rest → take x rest ≡ word_at ws k
   unfolding word_at
-  to_end h =
-      let rest : length (drop (SLOT * k + 1) ws) ≤ length ws - (SLOT * k + 1) = omega (arith, length-drop (SLOT * k + 1) ws) in
-      take_all _ (drop (SLOT * k + 1) ws) rest ∙ sym (take_all (get_or ws (SLOT * k) 0) (drop (SLOT * k + 1) ws) (omega arith))
-
-  pub letters_there : (n : ℕ) → n ≡ get_or ws (SLOT * k) 0 → take n (drop (SLOT * k + 1) ws) ≡ word_at ws k
-  unfolding word_at
-  letters_there n e = ap (λ m. take m (drop (SLOT * k + 1) ws)) e
+  slot_found start x rest h e =
+      let d : drop start ws ≡ x ∷ rest = sym (end_lent ws start) ∙ e in
+      let s : start ≡ SLOT * k = h (omega (arith, ap length d, length-drop start ws)) in
+      let p = drop_head ws (SLOT * k) x rest (rw s at d) in
+      rw (p.1, p.2)

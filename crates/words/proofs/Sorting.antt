@@ -1,5 +1,5 @@
 -- Sorting slots by their words: both halves, then merged.
-use Rattle.std.proofs.Common.{◌≡◌, ℕ, zero, suc, ◌+◌, ◌-◌, ◌<◌, ◌≤◌, true, false, List, [], ◌∷◌, ◌++◌, length, get_or, take, drop, sym, refl, ap, ◌∙◌, append_assoc, arith, take-append-drop, drop_of_length-le, length-take-le, drop-cons, take-suc, drop-drop, take_at, drop_at}
+use Rattle.std.proofs.Common.{◌≡◌, ℕ, zero, suc, ◌+◌, ◌-◌, ◌<◌, ◌≤◌, Bool, true, false, List, [], ◌∷◌, ◌++◌, length, get_or, take, drop, sym, refl, ap, ◌∙◌, append_assoc, arith, length-drop, take-append-drop, drop_of_length-le, length-take-le, drop-cons, take-suc, drop-drop, take_at, drop_at}
 use mathlib.Core.List.Permᴰ
 use mathlib.Core.List.{map-append}
 use borrow.Rule.Slice.PartMut.{mid_of, put_mid}
@@ -14,10 +14,6 @@ use Rattle.words.specs.Theory.Merge.{first_below}
 use Rattle.words.proofs.Merging.{first_there, second_there}
 use Rattle.words.proofs.Parts.{end_lent, end_back}
 
-pub parts_merged : (ws order out : List ℕ) (mid : ℕ) {parts : List ℕ} → parts ≡ order
-    → Merges ws (take mid parts) (mid_of mid (length parts - mid) parts) out → Merges ws (take mid order) (drop mid order) out
-parts_merged ws order out mid e m = rw (e, end_lent order mid) at m
-
 -- two sorted lists, of which the first's last item may stand before the second, are one
 joined_sorted : (us : List Word) (u : Word) (vs : List Word) → Sorted kept order_words (us ++ (u ∷ [])) → Below kept order_words u vs
     → Sorted kept order_words vs → Sorted kept order_words (us ++ (u ∷ vs))
@@ -28,11 +24,11 @@ joined_sorted (x ∷ y ∷ us) u vs s b t = (s.0, joined_sorted (y ∷ us) u vs 
 sorted_normal : (us : List Word) → Sorted kept order_words us → us ≡ normal kept us
 sorted_normal us s = sym (sorted_unique kept word_order (sort_sorted kept word_order us) s (sort_permutation word_order us))
 
-in_order : (ws order : List ℕ) (i : ℕ) → from_first ws order order i (suc i) ≡ true → Merges ws (take (suc i) order) (drop (suc i) order) order
+in_order : (ws order : List ℕ) (i : ℕ) → from_first ws (drop i order) (drop (suc i) order) ≡ true → Merges ws (take (suc i) order) (drop (suc i) order) order
 in_order ws order i e s t =
     let x = get_or order i 0 in
     let rest = words_at ws (drop (suc i) order) in
-    let h = first_there ws order order i (suc i) e in
+    let h : i < length order = omega (arith, length-drop i order, first_there ws (drop i order) (drop (suc i) order) e) in
     let d = drop-cons order i 0 h in
     let whole : words_at ws (take (suc i) order) ++ rest ≡ words_at ws order =
     sym (map-append _ (take (suc i) order) (drop (suc i) order)) ∙ ap (words_at ws) (take-append-drop (suc i) order) in
@@ -43,7 +39,7 @@ in_order ws order i e s t =
     let all : Sorted kept order_words (words_at ws order) = rw split (joined_sorted (words_at ws (take i order)) (word_at ws x) rest first below t) in
     rw whole (sorted_normal (words_at ws order) all)
 
-pub parts_in_order : (ws order : List ℕ) (mid : ℕ) → 0 < mid → from_first ws order order (mid - 1) mid ≡ true
+pub parts_in_order : (ws order : List ℕ) (mid : ℕ) → 0 < mid → from_first ws (drop (mid - 1) order) (drop mid order) ≡ true
     → Merges ws (take mid order) (drop mid order) order
 parts_in_order ws order zero z e = absurd (omega arith)
 parts_in_order ws order (suc i) z e = let k : suc i - 1 ≡ i = omega arith in in_order ws order i (rw k at e)
@@ -53,7 +49,7 @@ below_front u [] ws b = tt
 below_front u (v ∷ vs) ws b = b
 
 -- the second part comes before the first: its last word before the first's first
-reversed : (ws order : List ℕ) (mid : ℕ) → mid < length order → from_first ws order order (length order - 1) 0 ≡ true
+reversed : (ws order : List ℕ) (mid : ℕ) → mid < length order → from_first ws (drop (length order - 1) order) order ≡ true
     → Merges ws (take mid order) (drop mid order) (drop mid order ++ take mid order)
 reversed ws order mid h e s t =
     let k = length order - 1 in
@@ -73,12 +69,6 @@ reversed ws order mid h e s t =
     map-append _ second (take mid order)
     ∙ sorted_normal (words_at ws second ++ us) (rw both joined)
     ∙ sort_of_permutation kept word_order (Permᴰ.append_comm (words_at ws second) us)
-
-pub parts_reversed : (ws order out : List ℕ) (mid : ℕ) {parts : List ℕ} → parts ≡ order → mid ≤ length order → 0 < mid
-    → from_first ws order order (mid - 1) mid ≡ false → from_first ws parts parts (length order - 1) 0 ≡ true
-    → out ≡ drop mid parts ++ take mid parts → Merges ws (take mid order) (drop mid order) out
-parts_reversed ws order out mid d h z e f g =
-    rw (g, d) (reversed ws order mid (second_there ws order order (mid - 1) mid e (omega arith)) (rw d at f))
 
 pub short_sorted : (ws order : List ℕ) → length order < 2 → words_at ws order ≡ normal kept (words_at ws order)
 unfolding insert
@@ -108,3 +98,18 @@ module _ (order first : List ℕ) (mid : ℕ) (inside : mid ≤ length order) (s
       n (rw d (sort_sorted kept word_order us)) (rw f (sort_sorted kept word_order vs))
       ∙ rw (d, f) (sort_append_left kept word_order us (normal kept vs) ∙ sort_append_right kept word_order us vs)
       ∙ ap (normal kept) (sym (map-append _ (take mid order) (drop mid order)) ∙ ap (words_at ws) (take-append-drop mid order))
+
+-- the parts in each other's place
+module _ (ws order : List ℕ) (mid : ℕ) (inside : mid ≤ length order) (positive : 0 < mid) where
+  pub parts_reversed : (parts first second : List ℕ) {r : Bool} → parts ≡ order → from_first ws (drop (mid - 1) order) (drop mid order) ≡ false
+      → r ≡ from_first ws (mid_of (length order - 1) (length parts - (length order - 1)) parts) parts → r ≡ true
+      → first ≡ mid_of mid (length parts - mid) parts → second ≡ take mid parts
+      → (let k = length order - mid in Merges ws (take mid order) (drop mid order) (put_mid k (length (first ++ drop k order) - k) (first ++ drop k order) second))
+  parts_reversed parts first second p e f g d b =
+      let k = length order - mid in
+      let l = second_there ws (drop (mid - 1) order) (drop mid order) e (omega (arith, length-drop (mid - 1) order)) in
+      let goes : from_first ws (drop (length order - 1) order) order ≡ true = sym (rw (p, end_lent order (length order - 1)) at f) ∙ g in
+      let front : first ≡ drop mid order = rw (p, end_lent order mid) at d in
+      let rest : second ≡ take mid order = rw p at b in
+      let same : length first ≡ length (take k order) = omega (arith, ap length front, length-drop mid order, length-take-le k order (omega arith)) in
+      rw (second_back order first k (omega arith) same second, front, rest) (reversed ws order mid (omega (arith, l, length-drop mid order)) goes)

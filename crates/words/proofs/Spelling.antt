@@ -1,5 +1,5 @@
 -- Writing words as a run: one number more, one word more.
-use Rattle.std.proofs.Common.{◌≡◌, ℕ, suc, ◌+◌, ◌-◌, ◌%◌, ◌^◌, ◌<◌, ◌≤◌, List, [], ◌∷◌, ◌++◌, map, length, get_or, take, drop, set, sym, refl, ap, ◌∙◌, append_assoc, append-nil, add-one, arith, length-append, length-drop, length-take-le, take_all, take-suc, drop-drop, take-suc-set, drop-set-lt}
+use Rattle.std.proofs.Common.{◌≡◌, ℕ, suc, ◌+◌, ◌-◌, ◌%◌, ◌^◌, ◌<◌, ◌≤◌, List, [], ◌∷◌, ◌++◌, map, length, get_or, take, drop, set, sym, refl, ap, ◌∙◌, append_assoc, append-nil, add-one, arith, length-append, length-drop, length-take-le, take-suc, drop-drop, take-suc-set, drop-set-lt}
 use mathlib.Core.List.{flat_map, map-append}
 use lib.ListN.{length-map}
 use lib.Seq.{take-append-add, drop-append-add, take-length, split_at}
@@ -33,9 +33,6 @@ module _ (w : Word) (out : List ℕ) where
   pub record LettersTo (i : ℕ) (out' : List ℕ) : Type 0 where
     pub rest : drop (length w + 1) out' ≡ drop (length w + 1) out
     pub letters : Lettered (w ∷ []) → take i out' ≡ map suc (take i w)
-
-  pub letters_start : LettersTo 0 out
-  letters_start = record { rest = refl; letters = λ f. refl }
 
   module _ (i : ℕ) (out' : List ℕ) (same : length out' ≡ length out) (room : length w < length out) (l : LettersTo i out') where
     pub letter_next : (x : ℕ) → i < length w → x ≡ (get_or w i 0 + 1) % 2 ^ 32 → LettersTo (i + 1) (set out' i x)
@@ -112,6 +109,3 @@ module _ (ws order out : List ℕ) where
               rw (end_back out' n part, add-one, take-suc order i 0 h, map-append, spelled_append)
               (front_then (spelled (words_at ws (take i order))) (spelled (v ∷ [])) out out' part n r (omega (arith, s.within, s.same)) g (q.exact small room));
         }
-
-    pub spell_end : length order ≤ i → Spells (words_at ws order) out n out'
-    spell_end h = record { within = s.within; exact = λ f fits. rw take_all at (s.front f fits) }

@@ -1,11 +1,20 @@
 -- Numbers stored one after the other.
-use Rattle.std.proofs.Common.{◌≡◌, ℕ, suc, ◌+◌, ◌<◌, ◌≤◌, List, [], ◌∷◌, ◌++◌, length, get_or, take, drop, set, sym, refl, ap, ◌∙◌, append_assoc, add-zero, add-one, arith, length-append, drop_of_length-le, length-take-le, drop-cons, take_at, drop_at}
+use Rattle.std.proofs.Common.{◌≡◌, ℕ, suc, ◌+◌, ◌-◌, ◌<◌, ◌≤◌, List, [], ◌∷◌, ◌++◌, length, get_or, take, drop, set, sym, refl, ap, ◌∙◌, append_assoc, add-zero, add-one, arith, length-append, ⊎_elim, min, drop_of_length-le, length-take-le, drop-cons, take_at, drop_at}
+use Rattle.std.proofs.lemmas.Bool.{cases_lt}
 use lib.Seq.{sets, sets-eq, set_out}
 
 -- past the end nothing is stored
 sets_out : (xs : List ℕ) (i : ℕ) (vs : List ℕ) → length xs ≤ i → sets xs i vs ≡ xs
 sets_out xs i [] h = refl
 sets_out xs i (v ∷ vs) h = rw (set_out xs i v h) (sets_out xs (suc i) vs (omega arith))
+
+-- and past the end is wherever
+pub store_start : (xs : List ℕ) (i : ℕ) (vs : List ℕ) (start : ℕ) → start ≡ min i (length xs) → sets xs start vs ≡ sets xs i vs
+store_start xs i vs start e =
+    ⊎_elim
+    (λ h. sets_out xs start vs (omega arith) ∙ sym (sets_out xs i vs (omega arith)))
+    (λ h. let d : start ≡ i = omega arith in ap (λ k. sets xs k vs) d)
+    (cases_lt (length xs) i)
 
 -- the numbers from i on are still to be stored from p on
 module _ (xs ns ys : List ℕ) (p i : ℕ) (e : sets xs p (drop i ns) ≡ ys) where
@@ -17,6 +26,10 @@ module _ (xs ns ys : List ℕ) (p i : ℕ) (e : sets xs p (drop i ns) ≡ ys) wh
 
   pub store_done : length ns ≤ i → xs ≡ ys
   store_done h = rw (drop_of_length-le ns h) at e
+
+  -- as many are stored as fit from `start` on
+  pub store_end : (start : ℕ) → p ≡ start + i → start ≤ length xs → i ≡ min (length ns) (length xs - start) → xs ≡ ys
+  store_end start d h k = ⊎_elim (λ f. store_full (omega arith)) (λ f. store_done (omega arith)) (cases_lt i (length ns))
 
 -- one list after the other is one list
 pub sets_append : (xs : List ℕ) (i : ℕ) (us vs : List ℕ) → sets (sets xs i us) (i + length us) vs ≡ sets xs i (us ++ vs)

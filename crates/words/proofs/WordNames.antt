@@ -8,8 +8,8 @@ use Rattle.terms.specs.Sort.{lost}
 use Rattle.terms.specs.Numbers.{letters_of}
 use Rattle.terms.specs.Promises.{Fills}
 use Rattle.terms.specs.Theory.Insert.{insert_all_grows}
-use Rattle.terms.specs.declared.term.Listed.{Listed}
-use Rattle.terms.specs.declared.term.Listed.TheVariants.{All, TooMany}
+use Rattle.std.specs.Prelude.{Option}
+use Rattle.std.specs.Prelude.{Some, None}
 use Rattle.terms.proofs.Gathered.{gathered, letters_small, letters_append, fills_front, fills_then, fills_none}
 use Rattle.words.specs.Words.{Word}
 use Rattle.words.specs.Rename.{count_from}
@@ -42,11 +42,11 @@ gathered_grows ws front i n h =
     (insert_all_grows lost compare (gathered_to ws front i) (letters_of (flatten (words_at ws (count_from (n - i) i)))))
 
 module _ (ws out₀ : List ℕ) (n : ℕ) where
-  pub no_words_gathered : n ≤ length out₀ → Fills (gathered_to ws (take n out₀) 0) out₀ (All n) out₀
+  pub no_words_gathered : n ≤ length out₀ → Fills (gathered_to ws (take n out₀) 0) out₀ (Some n) out₀
   unfolding count_from flatten letters_of
   no_words_gathered h = (sym (length-take-le n out₀ h), h, sym (take-append-drop n out₀))
 
-  module _ (i count : ℕ) (out out' : List ℕ) {w : Word} (r : Listed) (f : Fills (gathered_to ws (take n out₀) i) out₀ (All count) out)
+  module _ (i count : ℕ) (out out' : List ℕ) {w : Word} (r : Option ℕ) (f : Fills (gathered_to ws (take n out₀) i) out₀ (Some count) out)
       (e : w ≡ word_at ws i) (g : Fills (gathered (take count out) w) out r out') where
     pub word_gathered : Fills (gathered_to ws (take n out₀) (i + 1)) out₀ r out'
     word_gathered =
@@ -56,8 +56,8 @@ module _ (ws out₀ : List ℕ) (n : ℕ) where
         (rw (fills_front l out₀ out f, e) at g))
 
 -- more words need no less room
-pub words_overflow : (ws front : List ℕ) (i n : ℕ) (out out' : List ℕ) {r : Listed} → i ≤ n → r ≡ TooMany
-    → Fills (gathered_to ws front i) out r out' → Fills (gathered_to ws front n) out TooMany out'
+pub words_overflow : (ws front : List ℕ) (i n : ℕ) (out out' : List ℕ) {r : Option ℕ} → i ≤ n → r ≡ None
+    → Fills (gathered_to ws front i) out r out' → Fills (gathered_to ws front n) out None out'
 words_overflow ws front i n out out' h d f =
     fills_none (gathered_to ws front i) (gathered_to ws front n) out out' (gathered_grows ws front i n h) (rw d at f)
 

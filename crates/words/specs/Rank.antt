@@ -5,14 +5,9 @@ use Rattle.terms.specs.Compare.{Ordering, lt, eq, gt, order_numbers}
 use Rattle.terms.specs.Sort.{kept}
 use Rattle.words.specs.Words.{Word, order_words, normal}
 use Rattle.words.specs.Spelled.{SLOT, spelled, word_at}
-use Rattle.words.specs.Rename.{count_from}
 use Rattle.words.specs.RenameRun.{rename_run}
 use Rattle.words.specs.WordLists.{slot_words}
 use Rattle.words.specs.declared.candidate.rank.Rank.{Rank}
-
--- the table has the new number of each number below its length
-abbrev pub Tabled : (ℕ → ℕ) → List ℕ → Type 0
-Tabled f table = table ≡ rename_run f (count_from (length table) 0)
 
 -- the first word that a run spells
 unfoldable pub first_word : List ℕ → Word

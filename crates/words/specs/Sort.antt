@@ -13,9 +13,9 @@ first_next o [] ys = false
 first_next o (x ∷ xs) [] = true
 first_next o (x ∷ xs) (y ∷ ys) = before kept (o x y)
 
--- of the slots in a from i on, and in b from j on, whether the next by its word is a's
-abbrev pub from_first : List ℕ → List ℕ → List ℕ → ℕ → ℕ → Bool
-from_first ws a b i j = first_next order_words (words_at ws (drop i a)) (words_at ws (drop j b))
+-- of the slots in a and in b, whether the next by its word is a's
+abbrev pub from_first : List ℕ → List ℕ → List ℕ → Bool
+from_first ws a b = first_next order_words (words_at ws a) (words_at ws b)
 
 -- the words in the slots a and b, where each list is sorted, are those in the slots c, in order
 abbrev pub Merges : List ℕ → List ℕ → List ℕ → List ℕ → Type 0

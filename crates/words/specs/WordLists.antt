@@ -13,10 +13,9 @@ use Rattle.words.specs.Rename.{rename_words, canonical_words}
 use Rattle.words.specs.Decoded.{renaming}
 use Rattle.words.specs.Multiply.{MOST, LONGEST}
 use Rattle.words.specs.Sort.{Lettered}
-use Rattle.words.specs.Candidate.{Within}
+use Rattle.words.specs.Candidate.{Sides}
 use Rattle.words.specs.Counts.{longest}
-use Rattle.words.specs.declared.candidate.Lengths.{Lengths}
-use Rattle.terms.specs.declared.term.Comparison.{Comparison}
+use Rattle.std.specs.declared.cmp.Ordering as answered
 
 -- the words in all the slots that a list has
 abbrev pub slot_words : List ℕ → List Word
@@ -40,18 +39,10 @@ pub record RenamesWords (f : ℕ → ℕ) (ws ss out : List ℕ) (r : ℕ) (out'
       → take r out' ≡ spelled (rename_words f (slot_words ws))
 
 -- room to rename the words in two lists of slots
-pub record WordRoom (us vs left right : List ℕ) : Type 0 where
+pub record WordRoom (us vs : List ℕ) (room : ℕ) : Type 0 where
   pub first : Bounded (slot_words us)
   pub second : Bounded (slot_words vs)
-  pub left_room : SLOT * MOST ≤ length left
-  pub right_room : SLOT * MOST ≤ length right
-
--- and room on the way: slots for the renamed words, and two buffers for the sides
-pub record VisitRoom (us vs ss x y left right : List ℕ) : Type 0 where
-  pub sides : WordRoom us vs left right
-  pub slots : SLOT * MOST ≤ length ss
-  pub first : length x ≡ SLOT * MOST
-  pub second : length y ≡ SLOT * MOST
+  pub sides : SLOT * MOST ≤ room
 
 -- the equation that renaming number c makes of the words in two lists of slots
 abbrev pub word_candidate : (names us vs : List ℕ) → ℕ → Equation (List ℕ)
@@ -59,13 +50,12 @@ word_candidate names us vs c =
     orient order_numbers (spelled (rename_words (renaming names c) (slot_words us))) (spelled (rename_words (renaming names c) (slot_words vs)))
 
 -- the canonical equation of the words of two terms of at most 31 nodes with at most six letters
-pub record CanonicalWords (xs ys left right : List ℕ) (r : Lengths) (left' right' : List ℕ) : Type 0 where
-  pub within : Within left right r
+pub record CanonicalWords (xs ys : List ℕ) (room : ℕ) (e : Sides) : Type 0 where
   pub exact : (s t : Term) → IsRun xs s → IsRun ys t → size s ≤ 31 → size t ≤ 31
-      → length (rising (letters s ++ letters t)) ≤ 6 → SLOT * MOST ≤ length left → SLOT * MOST ≤ length right
-      → (take r.left left' ≡ spelled (canonical_words (words s) (words t)).left)
-      × (take r.right right' ≡ spelled (canonical_words (words s) (words t)).right)
+      → length (rising (letters s ++ letters t)) ≤ 6 → SLOT * MOST ≤ room
+      → (e.left ≡ spelled (canonical_words (words s) (words t)).left)
+      × (e.right ≡ spelled (canonical_words (words s) (words t)).right)
 
 -- of `compare_lists`: `Equal` exactly where the lists are the same, as `order_lists` is an order
-pub record ComparesLists (xs ys : List ℕ) (r : Comparison) : Type 0 where
+pub record ComparesLists (xs ys : List ℕ) (r : answered.Ordering) : Type 0 where
   pub exact : (us vs : List Word) → xs ≡ spelled us → ys ≡ spelled vs → ordering_of r ≡ order_lists us vs

@@ -6,48 +6,43 @@ ghost use Rattle.words.specs.Multiply.{atom_words, PutsWords, JoinsRow, Joins, M
 ghost use Rattle.words.specs.WordLists.{WordsOf, ComparesLists};
 
 use super::sort::spell_sorted;
+use std::cmp::Ordering;
+use std::ops::Range;
 use terms::term;
-use terms::term::{ADD, Comparison, ONE, ZERO};
+use terms::term::{ADD, ONE, ZERO};
 
 // The most words of a term of 31 nodes.
 pub const MOST: usize = 324;
 
-// The numbers in so many slots: a word has at most 16 letters.
-pub const ROOM: usize = 5508;
+// The most letters of one.
+pub const LONGEST: usize = 16;
+
+// A slot is 17 numbers: a word's length, then room for its letters.
+pub const SLOT: usize = 17;
+
+// The numbers in so many slots.
+pub const ROOM: usize = MOST * SLOT;
 
 // The word in slot k, as a part of the slots; no letters where there is no such slot.
 pub fn word_of(words: &[u32], k: usize) -> &[u32]
     ensures { result.now ≡ word_at words.now k }
 {
-    if words.len() / 17 < k {
-        return &words[0..0];
-    }
-    let at = 17 * k;
-    if words.len() <= at {
-        return &words[0..0];
-    }
-    let len = words[at] as usize;
-    let start = at + 1;
-    if words.len() - start < len {
-        return &words[start..];
-    }
-    let end = start + len;
-    &words[start..end]
+    let start = k.saturating_mul(SLOT).min(words.len());
+    let Some((&count, letters)) = words[start..].split_first() else {
+        return &[];
+    };
+    front(letters, count as usize)
 }
 
 // Numbers stored one after the other from `at` on, as far as they fit.
+// Mostly they are the few letters of a word: for those a call of `copy_from_slice` takes twice as long.
 pub fn copy(out: &mut [u32], at: usize, numbers: &[u32])
     ensures { out.new ≡ sets out.old at numbers.now }
 {
-    let mut p = at;
-    let mut i = 0;
-    while i < numbers.len() {
-        if out.len() <= p {
-            return;
-        }
-        out[p] = numbers[i];
-        p += 1;
-        i += 1;
+    let start = at.min(out.len());
+    let n = numbers.len().min(out.len() - start);
+    for i in 0..n {
+        out[start + i] = numbers[i];
     }
 }
 
@@ -55,56 +50,42 @@ pub fn copy(out: &mut [u32], at: usize, numbers: &[u32])
 pub fn front(xs: &[u32], n: usize) -> &[u32]
     ensures { result.now ≡ take n xs.now }
 {
-    if xs.len() < n {
-        return xs;
-    }
-    &xs[..n]
+    &xs[..n.min(xs.len())]
 }
 
 // The letters of `a`, then those of `b`, put as a word into slot `k`, if there is room: the next slot.
 pub fn put_word(words: &mut [u32], k: usize, a: &[u32], b: &[u32]) -> usize
     ensures { PutsWords ((a.now ++ b.now) ∷ []) words.old k result words.new }
 {
-    if MOST <= k {
-        return k;
-    }
-    let at = 17 * k;
-    if words.len() < at + 17 {
-        return k;
-    }
     let n = a.len() + b.len();
-    if 16 < n {
+    if LONGEST < n || MOST <= k || words.len() < SLOT * (k + 1) {
         return k;
     }
+    let at = SLOT * k;
     words[at] = n as u32;
-    let start = at + 1;
-    copy(words, start, a);
-    copy(words, start + a.len(), b);
+    copy(words, at + 1, a);
+    copy(words, at + 1 + a.len(), b);
     k + 1
 }
 
-// The word `a` joined to each word in the slots `from..to`, put into `out` from slot `k` on: the next slot.
-fn join_row(a: &[u32], words: &[u32], from: usize, to: usize, out: &mut [u32], k: usize) -> usize
-    ensures { JoinsRow a.now words.now from to out.old k result out.new }
+// The word `a` joined to each word in some slots, put into `out` from slot `k` on: the next slot.
+fn join_row(a: &[u32], words: &[u32], slots: Range<usize>, out: &mut [u32], k: usize) -> usize
+    ensures { JoinsRow a.now words.now slots.start slots.end out.old k result out.new }
 {
     let mut next = k;
-    let mut i = from;
-    while i < to {
+    for i in slots {
         next = put_word(out, next, a, word_of(words, i));
-        i += 1;
     }
     next
 }
 
-// Each word in the slots `from..middle` joined to each in the slots `middle..to`, put into `out` from slot `k` on: the next slot.
-fn join(words: &[u32], from: usize, middle: usize, to: usize, out: &mut [u32], k: usize) -> usize
-    ensures { Joins words.now from middle middle to out.old k result out.new }
+// Each word in the left slots joined to each in the right ones, put into `out` from slot `k` on: the next slot.
+fn join(words: &[u32], left: Range<usize>, right: Range<usize>, out: &mut [u32], k: usize) -> usize
+    ensures { Joins words.now left.start left.end right.start right.end out.old k result out.new }
 {
     let mut next = k;
-    let mut i = from;
-    while i < middle {
-        next = join_row(word_of(words, i), words, middle, to, out, next);
-        i += 1;
+    for i in left {
+        next = join_row(word_of(words, i), words, right.start..right.end, out, next);
     }
     next
 }
@@ -114,22 +95,20 @@ fn join(words: &[u32], from: usize, middle: usize, to: usize, out: &mut [u32], k
 fn multiply(words: &mut [u32], from: usize, middle: usize, to: usize, scratch: &mut [u32]) -> usize
     ensures { Multiplies words.old from middle to scratch.old result words.new }
 {
-    let half = join_row(&[0; 0], words, from, middle, scratch, 0);
-    let end = join_row(&[0; 0], words, middle, to, scratch, half);
-    join(scratch, 0, half, end, words, from)
+    let half = join_row(&[], words, from..middle, scratch, 0);
+    let end = join_row(&[], words, middle..to, scratch, half);
+    join(scratch, 0..half, half..end, words, from)
 }
 
 // The words of an atom, by its number in a run, put into the slots from `k` on: the next slot.
 fn put_atom(words: &mut [u32], k: usize, x: u32) -> usize
     ensures { PutsWords (atom_words x) words.old k result words.new }
 {
-    if x == ZERO {
-        return k;
+    match x {
+        ZERO => k,
+        ONE => put_word(words, k, &[], &[]),
+        letter => put_word(words, k, &[letter], &[]),
     }
-    if x == ONE {
-        return put_word(words, k, &[0; 0], &[0; 0]);
-    }
-    put_word(words, k, &[x], &[0; 0])
 }
 
 // Where the term that starts at a position ends, and the slot after its words.
@@ -149,30 +128,23 @@ fn expand_at(
 ) -> Expanded
     ensures { Expands run.now at words.old scratch.old count result words.new }
 {
-    if run.len() <= at {
+    let Some(&x) = run.get(at) else {
         return Expanded { end: at, count };
-    }
-    let x = run[at];
-    let next = at + 1;
+    };
     if x < ADD {
-        let more = put_atom(words, count, x);
         return Expanded {
-            end: next,
-            count: more,
+            end: at + 1,
+            count: put_atom(words, count, x),
         };
     }
-    let left = expand_at(run, next, words, count, scratch);
-    let middle = left.end;
-    let half = left.count;
-    let right = expand_at(run, middle, words, half, scratch);
+    let left = expand_at(run, at + 1, words, count, scratch);
+    let right = expand_at(run, left.end, words, left.count, scratch);
     if x == ADD {
         return right;
     }
-    let to = right.count;
-    let more = multiply(words, count, half, to, scratch);
     Expanded {
         end: right.end,
-        count: more,
+        count: multiply(words, count, left.count, right.count, scratch),
     }
 }
 
@@ -192,11 +164,11 @@ pub fn words_of(run: &[u32], out: &mut [u32]) -> usize
     let mut words = [0u32; ROOM];
     let mut scratch = [0u32; ROOM];
     let n = multiply_out(run, &mut words, &mut scratch);
-    spell_sorted(front(&words, 17 * n), out)
+    spell_sorted(front(&words, SLOT * n), out)
 }
 
 // Which of two lists of words comes first, word by word: the lists are runs as `words_of` writes them.
-pub fn compare_lists(a: &[u32], b: &[u32]) -> Comparison
+pub fn compare_lists(a: &[u32], b: &[u32]) -> Ordering
     ensures { ComparesLists a.now b.now result }
 {
     term::compare(a, b)

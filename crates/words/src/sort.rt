@@ -8,38 +8,30 @@ ghost use Rattle.words.specs.Multiply.{MOST};
 ghost use Rattle.words.specs.Sort.{from_first, Merges, Spells};
 ghost use Rattle.words.specs.WordLists.{slot_words};
 
-use super::normal_form::{MOST, copy, word_of};
-use terms::term::{Comparison, compare};
+use super::normal_form::{MOST, SLOT, word_of};
+use terms::term::compare;
 
 // The slots one after another: 0, 1, and so on.
 pub fn number_slots(order: &mut [u32])
     requires { length order.old ≤ 4294967296 }
     ensures { order.new ≡ count_from (length order.old) 0 }
 {
-    let mut i = 0;
-    while i < order.len() {
-        order[i] = i as u32;
-        i += 1;
+    for (i, slot) in order.iter_mut().enumerate() {
+        *slot = i as u32;
     }
 }
 
 // Whether the next of two lists to be merged is the first's.
-fn takes_first(words: &[u32], a: &[u32], i: usize, b: &[u32], j: usize) -> bool
-    ensures { result ≡ from_first words.now a.now b.now i j }
+fn takes_first(words: &[u32], a: &[u32], b: &[u32]) -> bool
+    ensures { result ≡ from_first words.now a.now b.now }
 {
-    if a.len() <= i {
+    let Some(&x) = a.first() else {
         return false;
-    }
-    if b.len() <= j {
+    };
+    let Some(&y) = b.first() else {
         return true;
-    }
-    let u = word_of(words, a[i] as usize);
-    let v = word_of(words, b[j] as usize);
-    match compare(u, v) {
-        Comparison::Less => true,
-        Comparison::Equal => true,
-        Comparison::Greater => false,
-    }
+    };
+    compare(word_of(words, x as usize), word_of(words, y as usize)).is_le()
 }
 
 // Two lists of slots, each sorted by its words, merged into one.
@@ -49,9 +41,8 @@ fn merge(words: &[u32], a: &[u32], b: &[u32], out: &mut [u32])
 {
     let mut i = 0;
     let mut j = 0;
-    while i + j < out.len() {
-        let k = i + j;
-        if takes_first(words, a, i, b, j) {
+    for k in 0..out.len() {
+        if takes_first(words, &a[i..], &b[j..]) {
             out[k] = a[i];
             i += 1;
         } else {
@@ -61,34 +52,29 @@ fn merge(words: &[u32], a: &[u32], b: &[u32], out: &mut [u32])
     }
 }
 
-// The two parts of a list put into `out` in each other's place.
-fn swap_parts(parts: &[u32], mid: usize, out: &mut [u32])
-    requires { (mid ≤ length parts.now) × (length out.old ≡ length parts.now) }
-    ensures { out.new ≡ drop mid parts.now ++ take mid parts.now }
-{
-    copy(out, 0, &parts[mid..]);
-    copy(out, parts.len() - mid, &parts[..mid]);
-}
-
 // The two parts of `order`, each sorted by its words, merged: two comparisons are enough where the one comes before the other.
 fn merge_parts(words: &[u32], order: &mut [u32], mid: usize, spare: &mut [u32])
     requires { (mid ≤ length order.old) × (length order.old ≤ length spare.old) × (0 < mid) }
     ensures { Merges words.now (take mid order.old) (drop mid order.old) order.new }
 {
     let n = order.len();
-    if takes_first(words, &order[..], mid - 1, &order[..], mid) {
+    let slots = &order[..];
+    if takes_first(words, &slots[mid - 1..], &slots[mid..]) {
         return;
     }
-    copy(spare, 0, order);
+    spare[..n].copy_from_slice(order);
     let parts = &spare[..n];
-    if takes_first(words, parts, n - 1, parts, 0) {
-        swap_parts(parts, mid, order);
+    if takes_first(words, &parts[n - 1..], parts) {
+        // Two copies take less time than `rotate_left`.
+        order[..n - mid].copy_from_slice(&parts[mid..]);
+        order[n - mid..].copy_from_slice(&parts[..mid]);
         return;
     }
     merge(words, &parts[..mid], &parts[mid..], order);
 }
 
 // The slots of `order` sorted by their words, repeats kept: both halves are sorted, then merged.
+// The library's sort takes twice as long: words multiplied out lie in sorted runs that need no merge.
 pub fn sort(words: &[u32], order: &mut [u32], spare: &mut [u32])
     requires { length order.old ≤ length spare.old }
     ensures { words_at words.now order.new ≡ normal kept (words_at words.now order.old) }
@@ -111,10 +97,8 @@ fn spell_word(word: &[u32], out: &mut [u32]) -> usize
     if out.len() <= n {
         return out.len();
     }
-    let mut i = 0;
-    while i < n {
-        out[i] = std::num::wrapping_add_u32(word[i], 1);
-        i += 1;
+    for (i, &letter) in word.iter().enumerate() {
+        out[i] = letter.wrapping_add(1);
     }
     out[n] = 0;
     n + 1
@@ -125,11 +109,8 @@ pub fn spell(words: &[u32], order: &[u32], out: &mut [u32]) -> usize
     ensures { Spells (words_at words.now order.now) out.old result out.new }
 {
     let mut n = 0;
-    let mut i = 0;
-    while i < order.len() {
-        let word = word_of(words, order[i] as usize);
-        n += spell_word(word, &mut out[n..]);
-        i += 1;
+    for &slot in order {
+        n += spell_word(word_of(words, slot as usize), &mut out[n..]);
     }
     n
 }
@@ -152,6 +133,6 @@ pub fn spell_sorted(words: &[u32], out: &mut [u32]) -> usize
 {
     let mut order = [0u32; MOST];
     let mut spare = [0u32; MOST];
-    let n = words.len() / 17;
+    let n = words.len() / SLOT;
     sort_and_spell(words, &mut order[..n], &mut spare, out)
 }

@@ -1,22 +1,26 @@
-use Rattle.std.proofs.Common.{◌≡◌, length, arith, rules}
-use Rattle.words.specs.Decoded.{factorial}
-use Rattle.words.proofs.Candidates.{room_as_long, least_candidate}
-use Rattle.words.proofs.Visited.{none_visited, one_more_visited, all_visited}
+use Rattle.std.proofs.Common.{◌≡◌, length, refl, ◌∙◌, ap, arith}
+use Rattle.words.specs.Rename.{renamed}
+use Rattle.words.specs.Decoded.{factorial, renaming}
+use Rattle.words.proofs.Canonical.{renaming_below}
+use Rattle.words.proofs.Visited.{none_visited, one_more_offered, all_visited}
 use Rattle.words.proofs.candidate.least_renaming.Goals as goal
 
 pub loop-c-init : goal.loop-c-init
-loop-c-init c = search (none_visited, rules)
+loop-c-init g c = (none_visited, refl, λ h. h)
 
 pub loop-c-preserved : goal.loop-c-preserved
-loop-c-preserved c =
+loop-c-preserved g c =
+    let a = c.args in
     let l = c.loop-c in
-    let k = c.visit-best.auto in (
-      omega arith,
-      one_more_visited l.invariant.1 (room_as_long l.invariant.1.same_left l.invariant.1.same_right) c.visit-best.ensures k.left k.right,
+    let used = c.front.ensures ∙ c.permutation.ensures in (
+      one_more_offered (renaming a.names.now) l.invariant.0 l.invariant.2 l.invariant.1 (c.new.ensures ∙ ap (renamed a.names.now) used)
+          (renaming_below a.names.now c.requires l.c) c.offer.ensures.tried,
+      c.offer.ensures.same ∙ l.invariant.1,
+      λ h. c.offer.ensures.roomy (l.invariant.2 h),
     )
 
 pub returns : goal.returns
-returns c =
+returns g c =
     let a = c.args in
-    let e : c.loop-c.c ≡ factorial (length a.names.now) = omega (arith, c.factorial-count.ensures) in
-    all_visited c.loop-c.invariant.1 (length a.names.now) e (least_candidate a.names.now a.a.now a.b.now)
+    let e : c.loop-c.c ≡ factorial (length a.names.now) = omega (arith, c.factorial-c-end.ensures) in
+    all_visited c.loop-c.invariant.0 (length a.names.now) e

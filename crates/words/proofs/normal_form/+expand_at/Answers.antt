@@ -1,25 +1,30 @@
 -- `expand_at` meets its contract: the words of a sum or product are put together from those of its parts.
-use Rattle.std.proofs.Common.{◌∙◌, rules}
+use Rattle.std.proofs.Common.{◌≡◌, get_or, ◌∙◌, arith, rules}
 use Rattle.words.proofs.Expanded.{expands_past, expands_atom, expands_sum, expands_product}
 use Rattle.words.proofs.normal_form.+expand_at.Goals as goal
 
-pub returns-then-run-at : goal.returns-then-run-at
-returns-then-run-at t c = search (expands_past, rules)
+pub returns-in_default : goal.returns-in_default
+returns-in_default t c = expands_past (search rules)
 
 pub returns-then-x-lt-ADD : goal.returns-then-x-lt-ADD
-returns-then-x-lt-ADD t c = search (expands_atom, rules)
+returns-then-x-lt-ADD t c =
+    let e : c.in-Some.field-0.now ≡ get_or c.args.run.now c.args.at 0 = search rules in
+    expands_atom (omega arith) (rw e at c.put_atom.ensures)
 
 pub returns-then-x-eq-ADD : goal.returns-then-x-eq-ADD
-returns-then-x-eq-ADD t c = search (expands_sum, rules)
+returns-then-x-eq-ADD t c =
+    let e : c.in-Some.field-0.now ≡ get_or c.args.run.now c.args.at 0 = search rules in
+    expands_sum (omega arith) c.expand_at-left.ensures c.expand_at-right.ensures c.expand_at-left.auto.scratch (omega arith)
 
 pub returns : goal.returns
 returns t c =
+    let e : c.in-Some.field-0.now ≡ get_or c.args.run.now c.args.at 0 = search rules in
     let kept = c.expand_at-left.auto.scratch in
     expands_product
-    c.if-x-lt-ADD.false
+    (omega arith)
     c.expand_at-left.ensures
     c.expand_at-right.ensures
     kept
-    c.if-x-eq-ADD.false
-    c.multiply-more.ensures
+    (λ h. omega arith)
+    c.multiply.ensures
     (c.expand_at-right.auto.scratch ∙ kept)

@@ -1,11 +1,9 @@
 -- `join` meets its contract. The loop's invariant: it is met for the left slots passed.
--- The measure is how many of them are left.
-use Rattle.std.proofs.Common.{◌≡◌, ◌-◌, ◌≤◌, max, length}
+use Rattle.std.proofs.Common.{◌≡◌, ◌≤◌}
 use Rattle.words.specs.Multiply.{Joins}
 use Rattle.words.proofs.normal_form.join.Given as goal
 
 abbrev pub invariant-loop-i : goal.invariant-loop-i
-invariant-loop-i l = (l.from ≤ l.i) × (l.i ≤ max l.from l.middle) × (length l.out ≡ length l.initial.out) × Joins l.words l.from l.i l.middle l.to l.initial.out l.k l.next l.out
-
-abbrev pub decreases-loop-i : goal.decreases-loop-i
-decreases-loop-i l = l.middle - l.i
+invariant-loop-i l =
+    (l.i-iterator.end ≡ l.fn.left.end) × (l.fn.left.start ≤ l.i-iterator.start) × (l.fn.left.start ≤ l.fn.left.end → l.i-iterator.start ≤ l.fn.left.end)
+    × Joins l.words l.fn.left.start l.i-iterator.start l.right.start l.right.end l.initial.out l.k l.next l.out

@@ -3,11 +3,11 @@ use Rattle.words.proofs.Multiplied.{atom_zero, atom_one, atom_letter}
 use Rattle.std.proofs.Common.{rules}
 use Rattle.words.proofs.normal_form.put_atom.Goals as goal
 
-pub returns-then-x-eq-ZERO : goal.returns-then-x-eq-ZERO
-returns-then-x-eq-ZERO c = search (atom_zero, rules)
+pub returns-in-4096 : goal.returns-in-4096
+returns-in-4096 c = search (atom_zero, rules)
 
-pub returns-then-x-eq-ONE : goal.returns-then-x-eq-ONE
-returns-then-x-eq-ONE c = search (atom_one, rules)
+pub returns-in-4097 : goal.returns-in-4097
+returns-in-4097 c = search (atom_one, rules)
 
-pub returns : goal.returns
-returns c = search (atom_letter, rules)
+pub returns-in_default : goal.returns-in_default
+returns-in_default c = search (atom_letter, rules)

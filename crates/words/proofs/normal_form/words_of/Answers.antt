@@ -1,12 +1,7 @@
 -- `words_of` writes the words of the slots that were filled.
-use Rattle.std.proofs.Common.{arith, length-take}
+use Rattle.std.proofs.Common.{arith}
 use Rattle.words.proofs.BoundedWords.{multiplied, words_written}
 use Rattle.words.proofs.normal_form.words_of.Goals as goal
-
-pub spell_sorted-requires : goal.spell_sorted-requires
-spell_sorted-requires c =
-    rw c.front.ensures
-    (simp length-take (omega (arith, c.multiply_out-n.ensures.few)))
 
 pub returns : goal.returns
 returns c =

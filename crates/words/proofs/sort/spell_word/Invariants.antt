@@ -1,10 +1,6 @@
 -- `spell_word` meets its contract. The loop's invariant: what stands before `i` are the first `i` letters, each plus 1, and what follows the word is kept.
-use Rattle.std.proofs.Common.{◌≡◌, ◌-◌, ◌≤◌, length}
 use Rattle.words.proofs.Spelling.{LettersTo}
 use Rattle.words.proofs.sort.spell_word.Given as goal
 
 abbrev pub invariant-loop-i : goal.invariant-loop-i
-invariant-loop-i l = (l.i ≤ l.n) × (length l.out ≡ length l.initial.out) × LettersTo l.word l.initial.out l.i l.out
-
-abbrev pub decreases-loop-i : goal.decreases-loop-i
-decreases-loop-i l = l.n - l.i
+invariant-loop-i l = LettersTo l.word l.initial.out l.i l.out

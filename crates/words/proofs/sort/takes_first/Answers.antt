@@ -1,29 +1,17 @@
 -- `takes_first` meets its contract: where both lists have a next, its answer tells what `compare` found of their words.
-use Rattle.std.proofs.Common.{sym, arith, rules}
-use Rattle.terms.specs.declared.term.Comparison.TheVariants.{Less, Equal, Greater}
+use Rattle.std.proofs.Common.{◌≡◌, ◌∙◌, get_or, rules}
 use Rattle.words.proofs.Merging.{no_first, no_second, both_there}
 use Rattle.words.proofs.sort.takes_first.Goals as goal
 
-pub returns-then-a-i : goal.returns-then-a-i
-returns-then-a-i c = sym (search (no_first, rules))
+pub returns-in_default : goal.returns-in_default
+returns-in_default c = no_first _ _ _ (search rules)
 
-pub returns-then-b-j : goal.returns-then-b-j
-returns-then-b-j c = sym (search (no_second, rules))
+pub returns-in_default-first : goal.returns-in_default-first
+returns-in_default-first c = no_second _ _ _ (search rules) (search rules)
 
-pub returns-in-Less : goal.returns-in-Less
-returns-in-Less c =
-    let a = c.args in
-    both_there a.words.now a.a.now a.b.now a.i a.j Less (omega arith) (omega arith) c.word_of-u.ensures c.word_of-v.ensures
-    c.compare.ensures c.in-Less.is
-
-pub returns-in-Equal : goal.returns-in-Equal
-returns-in-Equal c =
-    let a = c.args in
-    both_there a.words.now a.a.now a.b.now a.i a.j Equal (omega arith) (omega arith) c.word_of-u.ensures c.word_of-v.ensures
-    c.compare.ensures c.in-Equal.is
-
-pub returns-in-Greater : goal.returns-in-Greater
-returns-in-Greater c =
-    let a = c.args in
-    both_there a.words.now a.a.now a.b.now a.i a.j Greater (omega arith) (omega arith) c.word_of-u.ensures c.word_of-v.ensures
-    c.compare.ensures c.in-Greater.is
+pub returns : goal.returns
+returns c =
+    let d : c.in-Some.field-0.now ≡ get_or c.args.a.now 0 0 = search rules in
+    let e : c.in-Some-first.field-0.now ≡ get_or c.args.b.now 0 0 = search rules in
+    c.is_le.ensures
+    ∙ both_there c.args.words.now c.args.a.now c.args.b.now (search rules) (search rules) (rw d at c.word_of.ensures) (rw e at c.word_of-2.ensures) c.compare.ensures

@@ -1,7 +1,7 @@
 use Rattle.std.proofs.Common.{◌≡◌, ◌/◌, length, arith}
 use Rattle.terms.specs.Promises.{ordering_of}
-use Rattle.words.specs.Rename.{renamed}
 use Rattle.words.specs.RenameRun.{rename_run}
+use Rattle.words.specs.Renaming.{new_of}
 use Rattle.words.specs.Rank.{first_word}
 use Rattle.words.proofs.Ranked.{none_counted, one_more_counted}
 use Rattle.words.proofs.Passed.{all_passed}
@@ -12,19 +12,18 @@ loop-i-init c = (omega arith, none_counted _ _ _)
 
 pub loop-i-preserved-then-i-next : goal.loop-i-preserved-then-i-next
 loop-i-preserved-then-i-next c =
-    let a = c.args in
-    let F = rename_run (renamed a.names.now a.numbers.now) in (
+    let a = c.args in (
       omega (arith, c.pass_greater-next.ensures.within),
-      all_passed F a.words.now (first_word a.run.now) c.loop-i.i _ c.if-i-next.true c.pass_greater-next.ensures c.loop-i.invariant.1,
+      all_passed (rename_run (new_of a.renaming.now)) a.words.now (first_word a.run.now) c.loop-i.i _ c.if-i-next.true c.pass_greater-next.ensures
+          c.loop-i.invariant.1,
     )
 
 pub loop-i-preserved : goal.loop-i-preserved
 loop-i-preserved c =
-    let a = c.args in
-    let F = rename_run (renamed a.names.now a.numbers.now) in (
+    let a = c.args in (
       omega arith,
-      one_more_counted F a.words.now (first_word a.run.now) c.loop-i.i (ordering_of c.compare_first-found.result) c.loop-i.invariant.1
-          c.word_of.ensures c.compare_first-found.ensures c.note-counted.ensures,
+      one_more_counted (rename_run (new_of a.renaming.now)) a.words.now (first_word a.run.now) c.loop-i.i (ordering_of c.compare_first.result)
+          c.loop-i.invariant.1 c.word_of.ensures c.compare_first.ensures c.note.ensures,
     )
 
 pub returns : goal.returns
