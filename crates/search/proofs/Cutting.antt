@@ -1,8 +1,8 @@
 -- Whether a search that is over was cut, from its slots.
-use Prim.Native.Nat.{ℕ, ◌≤◌, ◌<◌}
+use Prim.Native.Nat.{ℕ, min, ◌≤◌, ◌<◌}
 use native.Mathlib.Omega.{arith}
 use mathlib.Core.Path.{◌≡◌, sym, ◌∙◌, ap}
-use mathlib.Core.Bool.{Bool, false}
+use mathlib.Core.Bool.{false}
 use mathlib.Core.List.{List}
 use lib.ListN.{length, drop}
 use lib.Dec.{ltb}
@@ -26,15 +26,13 @@ module _ (ws : List ℕ) (r : Ended) (m : Limits) where
         served_cut laws (limits_of m) s slots ts (sym E.stop ∙ ap stop_of is)
         ∙ ap (λ i. first_near m.steps (drop i (serve laws (limits_of m) slots s ts).noted)) (sym E.opened)
 
-  -- none is left
-  pub cuts_end : r.noted ≤ r.opened → Cuts ws r m false
+  -- none is left, and none is noted past the slots
+  pub cuts_end : min r.noted (slots_of (length ws)) ≤ r.opened → Cuts ws r m false
   cuts_end h =
-      record { exact = λ laws slots s ts few E is. sym (by_next laws slots s ts E is ∙ first_near_end m.steps _ r.opened (omega (arith, E.noted))) }
-
-  -- no term is noted past the slots
-  pub cuts_past : {b : Bool} → r.opened < r.noted → slots_of (length ws) ≤ r.opened → Cuts ws r m b
-  cuts_past h past =
-      record { exact = λ laws slots s ts few E is. absurd (omega (arith, E.noted, serve_few laws (limits_of m) slots s ts)) }
+      record {
+        exact = λ laws slots s ts few E is.
+            sym (by_next laws slots s ts E is ∙ first_near_end m.steps _ r.opened (omega (arith, E.noted, serve_few laws (limits_of m) slots s ts)));
+      }
 
   pub cuts_next : r.opened < r.noted → Cuts ws r m (ltb (value_of ws r.opened) m.steps)
   cuts_next h =

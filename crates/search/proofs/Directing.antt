@@ -4,7 +4,8 @@ use native.Mathlib.Omega.{arith}
 use mathlib.Core.Path.{◌≡◌, refl, sym, ap, ◌∙◌}
 use mathlib.Core.Option.{Option, none, some}
 use mathlib.Core.List.{List, ◌∷◌, ◌++◌, append_assoc}
-use lib.ListN.{length, take, drop, get_or, take-append-drop}
+use lib.ListN.{length, take, drop, take-append-drop}
+use Rattle.std.specs.Prelude.{Option as Answer, Some, None}
 use Rattle.terms.specs.Term.{Term}
 use Rattle.terms.specs.Run.{run}
 use Rattle.terms.specs.Held.{IsRun, Holds}
@@ -15,24 +16,20 @@ use Rattle.search.specs.Law.{Name, semiring}
 use Rattle.search.specs.Match.{Bindings, unbound, match}
 use Rattle.search.specs.Search.{direct}
 use Rattle.search.specs.Span.{no_spans, Found, Matches}
-use Rattle.search.specs.Coded.{name_of, numbered_law, law_of, Row}
-use Rattle.search.specs.Spliced.{part}
+use Rattle.search.specs.Coded.{name_of, numbered_law, law_of, Sides}
 use Rattle.search.specs.Directly.{match_sides, BindsSides, TakesFirst, Directs}
 use Rattle.search.specs.declared.search.Law.{Law}
 use Rattle.search.specs.declared.search.Spans.{Spans}
 use Rattle.search.specs.declared.search.Binding.{Binding}
 use Rattle.search.specs.declared.search.Binding.TheVariants.{Bound, Unbound}
-use Rattle.search.specs.declared.search.Direct.{Direct}
-use Rattle.search.specs.declared.search.Direct.TheVariants.{By, Nothing}
 use Rattle.search.proofs.Coded.{law_named, laws_left, no_laws_left, law_numbered}
 use Rattle.search.proofs.Spans.{means_unbound}
-use Rattle.search.proofs.Trying.{side_run}
 
 -- both sides of a law
 
-module _ (r : List ℕ) (w : Law) (R : Row r (law_of w)) (xs : List ℕ) (middle : ℕ) (z₀ : Spans) (b : Binding) (n : z₀ ≡ no_spans) (M : Matches (part r 1 (1 + get_or r 0 0)) xs 0 z₀ b) where
+module _ (l r : List ℕ) (w : Law) (S : Sides l r (law_of w)) (xs : List ℕ) (middle : ℕ) (z₀ : Spans) (b : Binding) (n : z₀ ≡ no_spans) (M : Matches l xs 0 z₀ b) where
   left_found : (s : Term) → Holds xs 0 s → Found xs b (match (law_of w).left s unbound)
-  left_found s h = M.exact (law_of w).left s unbound (means_unbound n) (side_run r 0 (law_of w).left R.left) R.left.pattern h
+  left_found s h = M.exact (law_of w).left s unbound (means_unbound n) S.left.is S.left.pattern h
 
   pub sides_unbound : b ≡ Unbound → BindsSides w xs middle Unbound
   unfolding match_sides
@@ -42,13 +39,13 @@ module _ (r : List ℕ) (w : Law) (R : Row r (law_of w)) (xs : List ℕ) (middle
       go t none F = tt
       go t (some u) F = absurd F
 
-  pub sides_bound : (z : Spans) (b' : Binding) → b ≡ Bound z → Matches (part r 9 (9 + get_or r 8 0)) xs middle z b' → BindsSides w xs middle b'
+  pub sides_bound : (z : Spans) (b' : Binding) → b ≡ Bound z → Matches r xs middle z b' → BindsSides w xs middle b'
   unfolding match_sides
   sides_bound z b' e M' = record { within = M'.within; exact = λ s t hs ht. go t ht (match (law_of w).left s unbound) (rw e at (left_found s hs)) }
     where
       go : (t : Term) → Holds xs middle t → (o : Option Bindings) → Found xs (Bound z) o → Found xs b' (elim o [ none ↦ none | some u ↦ match (law_of w).right t u ])
       go t ht none F = absurd F
-      go t ht (some u) F = M'.exact (law_of w).right t u F (side_run r 8 (law_of w).right R.right) R.right.pattern ht
+      go t ht (some u) F = M'.exact (law_of w).right t u F S.right.is S.right.pattern ht
 
 -- the laws one after another
 
@@ -73,9 +70,6 @@ direct_one w ws s t = left (match w.left s unbound)
 pub record Passing (xs : List ℕ) (middle n : ℕ) : Type 0 where
   pub left : (s t : Term) → Holds xs 0 s → Holds xs middle t → direct semiring s t ≡ direct (drop n semiring) s t
 
-pub passing_starts : (xs : List ℕ) (middle : ℕ) → Passing xs middle 0
-passing_starts xs middle = record { left = λ s t hs ht. refl }
-
 module _ (xs : List ℕ) (middle n : ℕ) (P : Passing xs middle n) where
   module _ (w : Law) (r : Binding) (h : n < 10) (e : w ≡ numbered_law n) (B : BindsSides w xs middle r) where
     -- what the search gives, by what was found of this law
@@ -95,7 +89,7 @@ module _ (xs : List ℕ) (middle n : ℕ) (P : Passing xs middle n) where
         go s t hs ht none f F = decided s t hs ht none f
         go s t hs ht (some u) f F = absurd F
 
-    pub law_taken : (z : Spans) → r ≡ Bound z → TakesFirst xs middle (By w)
+    pub law_taken : (z : Spans) → r ≡ Bound z → TakesFirst xs middle (Some w)
     law_taken z j = record { exact = λ s t hs ht. go s t hs ht (match_sides (law_of w) s t) refl (rw j at (B.exact s t hs ht)) }
       where
         go : (s t : Term) → Holds xs 0 s → Holds xs middle t → (o : Option Bindings) → match_sides (law_of w) s t ≡ o → Found xs (Bound z) o
@@ -103,7 +97,7 @@ module _ (xs : List ℕ) (middle n : ℕ) (P : Passing xs middle n) where
         go s t hs ht none f F = absurd F
         go s t hs ht (some u) f F = sym (decided s t hs ht (some u) f)
 
-  pub no_law : 10 ≤ n → TakesFirst xs middle Nothing
+  pub no_law : 10 ≤ n → TakesFirst xs middle None
   unfolding direct
   no_law h = record { exact = λ s t hs ht. sym (P.left s t hs ht ∙ rw (no_laws_left n h)) }
 
@@ -118,13 +112,13 @@ both_held left right xs m k {s} {t} e f hs ht =
     )
 
 module _ (left right : List ℕ) where
-  pub direct_long : 31 < length left → Directs left right Nothing
+  pub direct_long : 31 < length left → Directs left right None
   direct_long h = record { exact = λ s t hs ht p q. absurd (omega (arith, size_of hs)) }
 
-  pub direct_long_right : 31 < length right → Directs left right Nothing
+  pub direct_long_right : 31 < length right → Directs left right None
   direct_long_right h = record { exact = λ s t hs ht p q. absurd (omega (arith, size_of ht)) }
 
-  pub direct_found : (out both₁ both₂ : List ℕ) (m k : ℕ) (r : Direct) → m ≡ 0 + length left → take m both₁ ≡ take 0 out ++ left → take k both₂ ≡ take m both₁ ++ right
+  pub direct_found : (out both₁ both₂ : List ℕ) (m k : ℕ) (r : Answer Law) → m ≡ 0 + length left → take m both₁ ≡ take 0 out ++ left → take k both₂ ≡ take m both₁ ++ right
       → TakesFirst both₂ m r → Directs left right r
   direct_found out both₁ both₂ m k r e f g T =
       record {

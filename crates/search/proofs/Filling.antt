@@ -8,6 +8,7 @@ use mathlib.Core.List.{List, [], ◌∷◌, ◌++◌, append_assoc, append-nil}
 use lib.Dec.{ltb}
 use lib.ListN.{length, take, drop, get_or, set, length-append, length-take, length-drop, drop_of_length-le}
 use borrow.Author.Tests.{lt-ltb, le-ltb}
+use Rattle.std.specs.Prelude.{Some, None}
 use Rattle.terms.specs.Term.{Term, letter, zero, one, add, mul}
 use Rattle.terms.specs.Run.{ADD, MUL, run}
 use Rattle.terms.specs.Held.{IsRun}
@@ -19,8 +20,6 @@ use Rattle.search.specs.Span.{span_of, Pattern, Meant, Means}
 use Rattle.search.specs.Filled.{Fills}
 use Rattle.search.specs.declared.search.Span.{Span}
 use Rattle.search.specs.declared.search.Spans.{Spans}
-use Rattle.search.specs.declared.line.Filled.{Filled}
-use Rattle.search.specs.declared.line.Filled.TheVariants.{To, Nothing}
 use Rattle.search.proofs.Front.{front_more}
 
 -- the parts of a term that is put in
@@ -75,9 +74,6 @@ pub record Filling (q xs : List ℕ) (z : Spans) (before : List ℕ) (n : ℕ) (
   pub front : take m out ≡ take n before ++ w
   pub outcome : w ++ expand xs z (drop k q) ≡ expand xs z q
 
-pub filling_starts : (q xs : List ℕ) (z : Spans) (before : List ℕ) (n : ℕ) → Filling q xs z before n before n 0
-filling_starts q xs z before n = record { w = []; count = omega arith; front = sym (append-nil (take n before)); outcome = refl }
-
 module _ (q xs : List ℕ) (z : Spans) (before : List ℕ) (n : ℕ) (out : List ℕ) (m k : ℕ) (S : Filling q xs z before n out m k) (src : List ℕ) (h : k < length q)
     (e : piece xs z (get_or q k 0) ≡ src) where
   -- one more piece
@@ -105,10 +101,10 @@ unfolding expand
 expand_whole q xs z σ p u hp g M e = ap (expand xs z) (hp.whole ∙ sym (append-nil (run p))) ∙ expand_run xs z σ M p g u e [] ∙ append-nil (run u)
 
 module _ (q xs : List ℕ) (z : Spans) (before out : List ℕ) (n : ℕ) where
-  no_room : length before < n + length (expand xs z q) → Fills q xs z before out n Nothing
+  no_room : length before < n + length (expand xs z q) → Fills q xs z before out n None
   no_room h = record { within = tt; exact = λ p u σ M hp g e. omega (arith, h, ap length (expand_whole q xs z σ p u hp g M e), length_run u) }
 
-  filled : (m : ℕ) (w : List ℕ) → n ≤ m → m ≤ length before → m ≡ n + length w → take m out ≡ take n before ++ w → w ≡ expand xs z q → Fills q xs z before out n (To m)
+  filled : (m : ℕ) (w : List ℕ) → n ≤ m → m ≤ length before → m ≡ n + length w → take m out ≡ take n before ++ w → w ≡ expand xs z q → Fills q xs z before out n (Some m)
   filled m w a b c f e =
       record {
         within = (a, b);
@@ -126,7 +122,7 @@ module _ (q xs : List ℕ) (z : Spans) (before : List ℕ) (n : ℕ) (out : List
         let j : v.at + v.len - v.at ≡ v.len = omega arith in
         rw (lt-ltb (get_or q k 0) 3 g, ← o, j)
 
-    pub letter_long : length out - m < v.len → length out ≡ length before → m ≤ length out → v.at + v.len ≤ length xs → Fills q xs z before out n Nothing
+    pub letter_long : length out - m < v.len → length out ≡ length before → m ≤ length out → v.at + v.len ≤ length xs → Fills q xs z before out n None
     letter_long c l b a =
         no_room q xs z before out n
         (too_long q xs z before n out m k S (take (v.at + v.len - v.at) (drop v.at xs)) h its_part (omega (arith, length_part v.at v.len xs a)))
@@ -140,17 +136,14 @@ module _ (q xs : List ℕ) (z : Spans) (before : List ℕ) (n : ℕ) (out : List
     unfolding piece
     itself = rw (le-ltb (get_or q k 0) 3 g)
 
-    pub number_long : length out ≤ m → length out ≡ length before → Fills q xs z before out n Nothing
+    pub number_long : length out ≤ m → length out ≡ length before → Fills q xs z before out n None
     number_long c l = no_room q xs z before out n (too_long q xs z before n out m k S (get_or q k 0 ∷ []) h itself (omega arith))
 
     pub number_put : m < length out → Filling q xs z before n (set out m (get_or q k 0)) (m + 1) (k + 1)
     number_put c = put_piece q xs z before n out m k S (get_or q k 0 ∷ []) h itself (set out m (get_or q k 0)) (m + 1) refl (front_more out m (get_or q k 0) c)
 
-  pub fill_ends : length q ≤ k → n ≤ m → m ≤ length out → length out ≡ length before → Fills q xs z before out n (To m)
+  pub fill_ends : length q ≤ k → n ≤ m → m ≤ length out → length out ≡ length before → Fills q xs z before out n (Some m)
   unfolding expand
   fill_ends h a b c =
       filled q xs z before out n m S.w a (omega arith) S.count S.front
       (sym (append-nil S.w) ∙ rw (drop_of_length-le q h) at S.outcome)
-
-pub fills_within : {q xs : List ℕ} {z : Spans} {before out : List ℕ} {n : ℕ} {r : Filled} {m : ℕ} → Fills q xs z before out n r → r ≡ To m → (n ≤ m) × (m ≤ length before)
-fills_within F e = (rw e at F).within

@@ -3,12 +3,13 @@ use Prim.Native.Nat.{ℕ, ◌+◌, ◌-◌, ◌*◌, ◌≤◌, ◌<◌}
 use native.Mathlib.Omega.{arith}
 use native.Mathlib.Nat.{add-mul}
 use mathlib.Core.Path.{◌≡◌, refl, sym, ap, ap₂, ◌∙◌}
-use mathlib.Core.Bool.{Bool, true, false, not, ◌&&◌}
+use mathlib.Core.Bool.{Bool, true, not, ◌&&◌}
 use mathlib.Core.Option.{Option, none, some}
 use mathlib.Core.List.{List, [], ◌++◌}
 use lib.Dec.{T, eqb, eqb→eq, ltb}
 use lib.ListN.{length, drop, get_or, length-append}
 use borrow.Author.Tests.{ltb-true, eqb-false, not-true}
+use Rattle.std.specs.Prelude.{None}
 use Rattle.terms.specs.Term as term
 use Rattle.terms.specs.Term.{Term, letter, add, mul, size, subst}
 use Rattle.terms.specs.Run.{run}
@@ -23,16 +24,14 @@ use Rattle.search.specs.Line.{from, to, rewrite}
 use Rattle.search.specs.Place.{subterm_at}
 use Rattle.search.specs.Span.{Pattern}
 use Rattle.search.specs.Coded.{law_at, law_of, direction_of}
-use Rattle.search.specs.Bound.{first_number, first_of, BindsLaw, Misses}
+use Rattle.search.specs.Bound.{first_number, first_of, Misses}
 use Rattle.search.specs.Spliced.{Tries, Outgrows}
 use Rattle.search.specs.Theory.Rewrite.{Covers, Rewritten, rewrite_rewritten}
 use Rattle.search.specs.declared.search.Law.{Law}
 use Rattle.search.specs.declared.search.Direction.{Direction}
 use Rattle.search.specs.declared.search.Direction.TheVariants.{Forward, Back}
-use Rattle.search.specs.declared.search.Binding.TheVariants.{Unbound}
-use Rattle.search.specs.declared.line.Filled.TheVariants.{Nothing}
 use Rattle.search.proofs.Coded.{every, law_tested}
-use Rattle.search.proofs.Rows.{law_row}
+use Rattle.search.proofs.Rows.{law_sides}
 use Rattle.search.proofs.Pairs.{after, match_all, code, node}
 use Rattle.search.proofs.Rewriting.{rewrite_unmatched}
 use Rattle.search.proofs.Splits.{starts, size_replaced}
@@ -49,8 +48,8 @@ first_code (mul s t) = refl
 -- the side that is matched is a pattern
 from_pattern : (w : Law) (d : Direction) → Pattern (from (direction_of d) (law_of w))
 unfolding from
-from_pattern w Forward = (law_row w w refl).left.pattern
-from_pattern w Back = (law_row w w refl).right.pattern
+from_pattern w Forward = (law_sides w w refl).left.pattern
+from_pattern w Back = (law_sides w w refl).right.pattern
 
 unmatched : (p t : Term) → 3 ≤ code p → Pattern p → Fine t → (code t ≡ code p → ⊥) → match p t unbound ≡ none
 unfolding match_all
@@ -145,11 +144,8 @@ law_widens w Back = law_tested (λ v. widens v.right v.left) tt w
 
 -- the number of a law and a direction, known by what they are
 
-pub law_told : (w v : Law) (d : Direction) → w ≡ v → first_of v d ≡ first_of w d
-law_told w v d e = ap (λ u. first_of u d) (sym e)
-
-pub direction_told : (w : Law) (d e : Direction) (n : ℕ) → d ≡ e → n ≡ first_of w e → n ≡ first_of w d
-direction_told w d e n h k = rw h k
+pub firsts_told : (w v : Law) → w ≡ v → (first_of v Forward ≡ first_of w Forward) × (first_of v Back ≡ first_of w Back)
+firsts_told w v e = (ap (λ u. first_of u Forward) (sym e), ap (λ u. first_of u Back) (sym e))
 
 -- the test at a place
 
@@ -164,9 +160,6 @@ head_of {xs} {at} {t} H = go t H.here
     go (add u v) e = (drop_head xs at _ _ e).1
     go (mul u v) e = (drop_head xs at _ _ e).1
 
-pub not_missed : (w : Law) (d : Direction) (xs : List ℕ) (at : ℕ) → Misses w d xs at false
-not_missed w d xs at = record { exact = λ e. absurd (let z : ◌≡◌ {A = ℕ} 0 1 = cc in omega arith) }
-
 pub missed : (w : Law) (d : Direction) (xs : List ℕ) (at n : ℕ) → n ≡ first_of w d → 3 ≤ n → Misses w d xs at (not (eqb (get_or xs at 0) n))
 missed w d xs at n N h =
     record {
@@ -180,13 +173,7 @@ missed w d xs at n N h =
           };
     }
 
-pub misses_unbound : (w : Law) (d : Direction) (xs : List ℕ) (at : ℕ) (r : Bool) → Misses w d xs at r → r ≡ true → BindsLaw w d xs at Unbound
-misses_unbound w d xs at r M = M.exact
-
 -- the test of the room
-
-pub not_outgrown : (w : Law) (d : Direction) (n room : ℕ) → Outgrows w d n room false
-not_outgrown w d n room = record { exact = λ e. absurd (let z : ◌≡◌ {A = ℕ} 0 1 = cc in omega arith) }
 
 module _ (w : Law) (d : Direction) (n room k : ℕ) (K : k ≡ first_of w d) (l : k < 3) where
   outgrown : (r : Bool) → (r ≡ true → room < n + 2) → Outgrows w d n room r
@@ -198,12 +185,9 @@ module _ (w : Law) (d : Direction) (n room k : ℕ) (K : k ≡ first_of w d) (l 
             tried_long room t i (law_of w) (direction_of d) u f (omega (arith, size_replaced t i g u));
       }
 
-  pub outgrown_full : room ≤ n → Outgrows w d n room true
-  outgrown_full h = outgrown true (λ q. omega arith)
+  pub outgrown_near : (s : ℕ) → s ≡ room - n → Outgrows w d n room (ltb s 2)
+  outgrown_near s h = outgrown (ltb s 2) (λ q. omega (arith, ltb-true s 2 q))
 
-  pub outgrown_near : n < room → Outgrows w d n room (ltb (room - n) 2)
-  outgrown_near h = outgrown (ltb (room - n) 2) (λ q. omega (arith, ltb-true (room - n) 2 q))
-
-pub tries_outgrown : (w : Law) (d : Direction) (xs : List ℕ) (at room : ℕ) (out : List ℕ) (r : Bool) → Outgrows w d (length xs) room r → r ≡ true → Tries w d xs at room out Nothing
+pub tries_outgrown : (w : Law) (d : Direction) (xs : List ℕ) (at room : ℕ) (out : List ℕ) (r : Bool) → Outgrows w d (length xs) room r → r ≡ true → Tries w d xs at room out None
 tries_outgrown w d xs at room out r O q =
     record { within = tt; exact = λ t ht h. rw (O.exact q t at (omega (arith, length_run t, ap length ht.whole)) h) tt }

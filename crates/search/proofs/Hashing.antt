@@ -1,17 +1,16 @@
--- The hash of a run, a number at a time, what the head of a bucket says, and what a comparison with the run in a slot says.
+-- The hash of a run, a number at a time, and what a comparison with the run in a slot says.
 use Prim.Native.Nat.{ℕ, ◌+◌, ◌*◌, ◌≤◌, ◌<◌}
 use native.Mathlib.Omega.{arith}
 use native.Mathlib.Nat.{mod-lt, mul-lt-mul_of_pos_right}
-use mathlib.Core.Path.{◌≡◌, sym, ap, ◌∙◌}
+use mathlib.Core.Path.{◌≡◌, sym, ◌∙◌}
 use mathlib.Core.Bool.{Bool, false}
 use mathlib.Core.List.{List, [], ◌∷◌}
 use lib.ListN.{length, drop, get_or, drop_of_length-le}
-use Rattle.terms.specs.Term.{Term}
 use Rattle.terms.specs.Promises.{Equals}
 use Rattle.terms.proofs.Positions.{drop_one}
 use Rattle.terms.specs.Theory.TermOrder.{told_apart}
-use Rattle.search.specs.Index.{slots_of, mix, hash, bucket_at, head_of, hash_of}
-use Rattle.search.specs.Runs.{term_at, home, Runs, Shows, Heads, Compares}
+use Rattle.search.specs.Index.{mix, hash, bucket_at, hash_of}
+use Rattle.search.specs.Runs.{term_at, Shows, Compares}
 
 module _ (xs : List ℕ) (i h : ℕ) where
   pub hash_next : i < length xs → hash (drop i xs) h ≡ hash (drop (i + 1) xs) (mix h (get_or xs i 0))
@@ -34,43 +33,6 @@ pub bucket_small : {n h : ℕ} → 0 < n → h < 4294967296 → bucket_at n h < 
 bucket_small {n} {h} p q =
     let r : h * n < 4294967296 * n = mul-lt-mul_of_pos_right q p in
     omega arith
-
--- what the head of bucket b says
-module _ (ws : List ℕ) (count b : ℕ) where
-  -- no term is in the bucket
-  heads_none : ((ts : List Term) (k : ℕ) → Runs ws ts → length ts ≡ count → k < count → home ws ts k ≡ b → ⊥) → Heads ws count b count
-  heads_none h = record { exact = λ ts R c. record { within = omega arith; own = λ p. absurd (omega arith); last = λ k p e. absurd (h ts k R c p e) } }
-
-  -- the head leads to no slot of a term
-  pub heads_past : count ≤ head_of ws b → Heads ws count b count
-  heads_past h =
-      heads_none (λ ts k R c p e.
-      let q : k < length ts = omega arith in
-      let l = ((rw e at (R.index.head k q)).last k q e).1 in
-      omega arith)
-
-  module _ (h : head_of ws b < count) where
-    -- the hash in the slot is that of its term
-    home_hashed : (ts : List Term) → Runs ws ts → length ts ≡ count → home ws ts (head_of ws b) ≡ bucket_at (slots_of (length ws)) (hash_of ws (head_of ws b))
-    home_hashed ts R c = ap (bucket_at (slots_of (length ws))) (sym (R.index.hashed (head_of ws b) (omega arith)))
-
-    pub heads_foreign : (bucket_at (slots_of (length ws)) (hash_of ws (head_of ws b)) ≡ b → ⊥) → Heads ws count b count
-    heads_foreign f =
-        heads_none (λ ts k R c p e.
-        let q : k < length ts = omega arith in
-        let N = rw e at (R.index.head k q) in
-        f (sym (home_hashed ts R c) ∙ N.own (omega arith)))
-
-    pub heads_here : bucket_at (slots_of (length ws)) (hash_of ws (head_of ws b)) ≡ b → Heads ws count b (head_of ws b)
-    heads_here f =
-        record {
-          exact = λ ts R c.
-              record {
-                within = omega arith;
-                own = λ p. home_hashed ts R c ∙ f;
-                last = λ k p e. let q : k < length ts = omega arith in rw c at ((rw e at (R.index.head k q)).last k q e);
-              };
-        }
 
 -- a run with hash h against that in slot k
 module _ {ws : List ℕ} {k : ℕ} {xs : List ℕ} {h : ℕ} where

@@ -4,8 +4,9 @@ use native.Mathlib.Omega.{arith}
 use native.Mathlib.Numerals.{add-one}
 use mathlib.Core.Path.{◌≡◌, refl, sym, ap, ◌∙◌}
 use mathlib.Core.Bool.{Bool, true}
-use mathlib.Core.List.{List, [], ◌++◌, map}
-use lib.ListN.{length}
+use mathlib.Core.List.{List, [], ◌∷◌, ◌++◌, map}
+use lib.ListN.{length, get_or}
+use Rattle.std.specs.Prelude.{None}
 use Rattle.terms.specs.Term.{Term, size}
 use Rattle.terms.specs.Held.{IsRun}
 use Rattle.terms.specs.Theory.Held.{size_of}
@@ -21,11 +22,10 @@ use Rattle.search.specs.Resulted.{tried_by, most_nodes, Adds, Resulted}
 use Rattle.search.specs.Theory.Positions.{gather_snoc, gather_map, lines_in_order}
 use Rattle.search.specs.declared.search.Law.{Law}
 use Rattle.search.specs.declared.search.Direction.{Direction}
-use Rattle.search.specs.declared.search.Direction.TheVariants.{Back}
+use Rattle.search.specs.declared.search.Direction.TheVariants.{Forward, Back}
 use Rattle.search.specs.declared.search.Binding.{Binding}
 use Rattle.search.specs.declared.search.Binding.TheVariants.{Unbound}
 use Rattle.search.specs.declared.slots.Step.{Step}
-use Rattle.search.specs.declared.line.Filled.TheVariants.{Nothing}
 use Rattle.search.proofs.Unknown.{unknown_joined}
 use Rattle.search.proofs.Trying.{tries_nothing}
 use Rattle.search.proofs.Firsts.{tries_outgrown}
@@ -55,6 +55,18 @@ step_of place parent n = record { law = numbered_law (n / 2); direction = number
 
 abbrev pub step_lines : ℕ → ℕ → ℕ → Term → List Line
 step_lines place parent n = tried_by (step_of place parent n)
+
+-- the law and the direction of a step, by their places
+pub law_in_turn : (i j : ℕ) → j < 2 → numbered_law i ≡ numbered_law ((2 * i + j) / 2)
+law_in_turn i j h = let e : i ≡ (2 * i + j) / 2 = omega arith in ap numbered_law e
+
+pub direction_in_turn : (i j : ℕ) → j < 2 → get_or (Forward ∷ Back ∷ []) j Forward ≡ numbered_direction ((2 * i + j) % 2)
+direction_in_turn i j h = let e : j ≡ (2 * i + j) % 2 = omega arith in go j h ∙ ap numbered_direction e
+  where
+    go : (j : ℕ) → j < 2 → get_or (Forward ∷ Back ∷ []) j Forward ≡ numbered_direction j
+    go ℕ.zero h = refl
+    go (suc ℕ.zero) h = refl
+    go (suc (suc j)) h = absurd (omega arith)
 
 twenty_steps : (place parent : ℕ) (t : Term) → lines_at semiring t place ≡ in_turn (step_lines place parent) 20 t
 unfolding lines_at root_lines gather semiring law_at
@@ -94,8 +106,8 @@ module _ {ws : List ℕ} {noted : ℕ} {xs : List ℕ} {room deep parent : ℕ} 
     step_kept e B = turns_more (step_lines place parent) n (n + 1) A e (rw (p, q) at B) (omega arith)
 
     -- a law with no line is passed over
-    passed : place < length xs → Tries w d xs place room [] Nothing → Adds ws noted xs room deep parent (in_turn (step_lines place parent) (n + 1)) (n + 1) res order count res₁ order₁ r₁
-    passed i T = step_kept refl (adds_nothing ws noted step xs room deep [] res₁ order₁ r₁ Nothing i T refl)
+    passed : place < length xs → Tries w d xs place room [] None → Adds ws noted xs room deep parent (in_turn (step_lines place parent) (n + 1)) (n + 1) res order count res₁ order₁ r₁
+    passed i T = step_kept refl (adds_nothing ws noted step xs room deep [] res₁ order₁ r₁ None i T refl)
 
     -- one with a letter left unbound, or that does not match
     pub step_passed : place < length xs → (b : Binding) → BindsLaw w d xs place b → b ≡ Unbound
@@ -127,9 +139,9 @@ place_lines i t = lines_at semiring t i
 
 module _ {ws : List ℕ} {noted : ℕ} {xs : List ℕ} {room deep parent : ℕ} {res order : List ℕ} (i : ℕ) {res₁ order₁ : List ℕ} {r₁ : ℕ}
     (A : Adds ws noted xs room deep parent (in_turn place_lines i) (20 * i) res order 0 res₁ order₁ r₁) where
-  pub places_all : length xs ≤ most_nodes order₁ → i ≤ length xs → length xs ≤ i → Resulted ws noted xs parent room deep res₁ order₁ r₁
+  pub places_all : (n : ℕ) → length xs ≤ most_nodes n → i ≤ length xs → length xs ≤ i → Resulted ws noted xs parent room deep n res₁ order₁ r₁
   unfolding results unknown
-  places_all short low high =
+  places_all n short low high =
       record {
         few = omega (arith, A.high);
         exact = λ ns t m S c h k q e d.
@@ -139,5 +151,5 @@ module _ {ws : List ℕ} {noted : ℕ} {xs : List ℕ} {room deep parent : ℕ} 
       }
 
 -- no more is asked where a run or a limit is too large
-pub resulted_never : {ws : List ℕ} {noted : ℕ} {xs : List ℕ} {parent room deep : ℕ} (res order : List ℕ) → ((t : Term) → IsRun xs t → size t ≤ most_nodes order → room ≤ 31 → ⊥) → Resulted ws noted xs parent room deep res order 0
+pub resulted_never : {ws : List ℕ} {noted : ℕ} {xs : List ℕ} {parent room deep n : ℕ} (res order : List ℕ) → ((t : Term) → IsRun xs t → size t ≤ most_nodes n → room ≤ 31 → ⊥) → Resulted ws noted xs parent room deep n res order 0
 resulted_never res order f = record { few = omega arith; exact = λ ns t m S c h k q e d. absurd (f t h k q) }

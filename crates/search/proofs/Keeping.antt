@@ -7,6 +7,7 @@ use mathlib.Core.Bool.{Bool, true, false}
 use mathlib.Core.List.{List, [], ◌∷◌, ◌++◌}
 use lib.ListN.{length, take, drop, get_or}
 use lib.Seq.{take-suc, take_at, length-take-le}
+use Rattle.std.specs.Prelude.{Option, Some, None}
 use Rattle.terms.specs.Term.{Term}
 use Rattle.terms.specs.Held.{IsRun}
 use Rattle.terms.specs.Sort.{lost, insert_all}
@@ -20,8 +21,6 @@ use Rattle.search.specs.Slots.{Slots}
 use Rattle.search.specs.Ordered.{Result, Named, none, more, inserted, unknown, joined, Spotted, Keeps}
 use Rattle.search.specs.declared.slots.Step.{Step}
 use Rattle.search.specs.declared.slots.Origin.TheVariants.{From}
-use Rattle.search.specs.declared.results.Spot.{Spot}
-use Rattle.search.specs.declared.results.Spot.TheVariants.{At, Already}
 use Rattle.search.proofs.Writing.{run_kept, origin_kept}
 use Rattle.search.proofs.Noting.{looked_up}
 use Rattle.search.proofs.Rising.{rising_inserted}
@@ -55,12 +54,12 @@ module _ (ws : List ℕ) (noted : ℕ) (xs : List ℕ) (s : Step) (res order : L
   keeps_known e =
       record { low = omega arith; high = omega arith; sorts = λ ns t ys x W c h m O. rw (unknown_out ns x [] (looked_up F W c h ∙ e)) O }
 
-  module _ (new : b ≡ false) (r : Spot) (S : Spotted res (take count order) xs r) where
+  module _ (new : b ≡ false) (r : Option ℕ) (S : Spotted res (take count order) xs r) where
     one_more : (ns : List Noted) (ys : List Line) (x : Line) → Slots ws ns → length ns ≡ noted → IsRun xs x.result → joined ns ys (x ∷ []) ≡ inserted x ys
     unfolding unknown
     one_more ns ys x W c h = ap (insert_all lost by_result ys) (unknown_in ns x [] (looked_up F W c h ∙ new))
 
-    pub keeps_already : r ≡ Already → Keeps ws noted xs s res order res order count count
+    pub keeps_already : r ≡ None → Keeps ws noted xs s res order res order count count
     keeps_already e =
         record {
           low = omega arith;
@@ -69,7 +68,7 @@ module _ (ws : List ℕ) (noted : ℕ) (xs : List ℕ) (s : Step) (res order : L
         }
 
     -- ks are the numbers of the slots with that of the new one put in at p
-    module _ (p : ℕ) (e : r ≡ At p) (room : count < length order) (res' ks : List ℕ) (W : Writes res res' count xs (From s) 0)
+    module _ (p : ℕ) (e : r ≡ Some p) (room : count < length order) (res' ks : List ℕ) (W : Writes res res' count xs (From s) 0)
         (d : ks ≡ put_in p count (take (count + 1) order)) (l : length ks ≡ length (take (count + 1) order)) where
       put : ks ≡ take p (take count order) ++ (count ∷ drop p (take count order))
       put =

@@ -4,6 +4,7 @@ use native.Mathlib.Omega.{arith}
 use mathlib.Core.Path.{◌≡◌, refl, sym, ap, ◌∙◌}
 use mathlib.Core.Logic.{⊎_elim}
 use mathlib.Core.Bool.{Bool, true, false}
+use Rattle.std.specs.Prelude.{Option, Some, None, is_some}
 use mathlib.Core.List.{List, [], ◌∷◌}
 use lib.ListN.{length}
 use Rattle.terms.specs.Lists.{◌∈◌, not-in-nil, cons-cases}
@@ -14,9 +15,7 @@ use Rattle.terms.specs.Theory.Members.{getD_in}
 use Rattle.terms.specs.Theory.Reflects.{Reflects}
 use Rattle.terms.specs.Theory.TermOrder.{same_reflects}
 use Rattle.search.specs.Index.{slots_of, hash, bucket, next_of, Newest}
-use Rattle.search.specs.Runs.{term_at, home, Runs, Heads, Compares, Seeks, Finds}
-use Rattle.search.specs.declared.slots.Found.{Found}
-use Rattle.search.specs.declared.slots.Found.TheVariants.{At, Nothing}
+use Rattle.search.specs.Runs.{term_at, home, Runs, Compares, Seeks, Finds}
 use Rattle.search.proofs.Holding.{runs_held}
 
 -- a member of a list stands at a place
@@ -35,26 +34,16 @@ Leading ws count xs end k = (ts : List Term) → Runs ws ts → length ts ≡ co
 
 -- what a comparison with slot k says
 abbrev pub Tells : List ℕ → ℕ → List ℕ → ℕ → Bool → Type 0
-Tells ws count xs k true = Seeks ws count xs (At k)
+Tells ws count xs k true = Seeks ws count xs (Some k)
 Tells ws count xs k false = Passed ws count xs k
 
-pub passed_starts : (ws : List ℕ) (count : ℕ) (xs : List ℕ) → Passed ws count xs count
-passed_starts ws count xs ts t R c h j p q e = omega arith
-
-pub leading_starts : {ws : List ℕ} {count : ℕ} (xs : List ℕ) {b k : ℕ} → b ≡ bucket (slots_of (length ws)) xs → Heads ws count b k → Leading ws count xs count k
-leading_starts xs e H ts R c = rw e at (H.exact ts R c)
-
 -- all slots are passed over
-nowhere : {ws : List ℕ} {count : ℕ} {xs : List ℕ} → Passed ws count xs 0 → Seeks ws count xs Nothing
+nowhere : {ws : List ℕ} {count : ℕ} {xs : List ℕ} → Passed ws count xs 0 → Seeks ws count xs None
 nowhere P =
     record {
       within = tt;
       exact = λ ts t R c r m. let (j, h, e) = place_in ts m in P ts t R c r j (omega arith) (omega (arith, h)) e;
     }
-
--- there is no slot
-pub none_noted : (ws : List ℕ) (count : ℕ) (xs : List ℕ) → count ≡ 0 → Seeks ws count xs Nothing
-none_noted ws count xs e = nowhere (λ ts t R c r j p q f. omega arith)
 
 module _ {ws : List ℕ} {count : ℕ} {xs : List ℕ} {end k : ℕ} (P : Passed ws count xs end) (L : Leading ws count xs end k) (g : end ≤ count) where
   -- the slots of other buckets have other terms
@@ -65,7 +54,7 @@ module _ {ws : List ℕ} {count : ℕ} {xs : List ℕ} {end k : ℕ} (P : Passed
       (λ l. P ts t R c h j l p e)
       (below? j end)
 
-  pub found_nowhere : end ≤ k → Seeks ws count xs Nothing
+  pub found_nowhere : end ≤ k → Seeks ws count xs None
   found_nowhere h = nowhere (λ ts t R c r j p q e. other ts t R c r j (λ u v. omega arith) q e)
 
   module _ (h : k < end) where
@@ -86,14 +75,8 @@ module _ {ws : List ℕ} {count : ℕ} {xs : List ℕ} {end k : ℕ} (P : Passed
     leading_next ts R c = rw ((L ts R c).own h) at (R.index.next k (omega arith))
 
 -- the slot or none, as a test
-
-module _ {ws : List ℕ} {count : ℕ} {xs : List ℕ} {r : Found} (F : Seeks ws count xs r) where
-  pub found_slot : {k : ℕ} → r ≡ At k → Finds ws count xs true
-  found_slot {k} e =
-      let G : Seeks ws count xs (At k) = rw e at F in
-      record { exact = λ ts t R c h. (λ e. rw (← (G.exact ts t R c h)) (getD_in zero ts k (omega (arith, G.within))), λ m. refl) }
-
-  pub found_none : r ≡ Nothing → Finds ws count xs false
-  found_none e =
-      let G : Seeks ws count xs Nothing = rw e at F in
-      record { exact = λ ts t R c h. (λ f. absurd (let z : ◌≡◌ {A = ℕ} 0 1 = cc in omega arith), λ m. absurd (G.exact ts t R c h m)) }
+pub found : {ws : List ℕ} {count : ℕ} {xs : List ℕ} (r : Option ℕ) → Seeks ws count xs r → Finds ws count xs (is_some r)
+found (Some k) F =
+    record { exact = λ ts t R c h. (λ e. rw (← (F.exact ts t R c h)) (getD_in zero ts k (omega (arith, F.within))), λ m. refl) }
+found None F =
+    record { exact = λ ts t R c h. (λ f. absurd (let z : ◌≡◌ {A = ℕ} 0 1 = cc in omega arith), λ m. absurd (F.exact ts t R c h m)) }

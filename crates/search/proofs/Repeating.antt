@@ -1,6 +1,5 @@
 -- A law that makes of every term the same back as forward: after its line forward the line back is lost.
 use Prim.Native.Nat.{ℕ}
-use native.Mathlib.Omega.{arith}
 use mathlib.Core.Path.{◌≡◌, refl, ap, ◌∙◌}
 use mathlib.Core.Bool.{Bool, true, false, cond}
 use mathlib.Core.Option.{Option, none, some}
@@ -30,9 +29,6 @@ use Rattle.search.proofs.Resulting.{allowed_in, allowed_out}
 
 -- the test
 
-pub not_repeated : (w : Law) (d : Direction) → Repeats w d false
-not_repeated w d = record { exact = λ e. absurd (let z : ◌≡◌ {A = ℕ} 0 1 = cc in omega arith) }
-
 comm_back : BackAsForward (law_of AddComm)
 unfolding law_at semiring from to rewrite match meet bind put join unbound
 comm_back (letter n) = refl
@@ -41,8 +37,8 @@ comm_back term.one = refl
 comm_back (add s t) = refl
 comm_back (mul s t) = refl
 
-pub comm_repeated : (w : Law) (d : Direction) → w ≡ AddComm → d ≡ Back → Repeats w d true
-comm_repeated w d e k = record { exact = λ q. (k, rw e comm_back) }
+pub comm_repeated : (w : Law) (d : Direction) (b : Bool) → w ≡ AddComm → (b ≡ true → d ≡ Back) → Repeats w d b
+comm_repeated w d b e k = record { exact = λ q. (k q, rw e comm_back) }
 
 -- a line after one with the same result
 

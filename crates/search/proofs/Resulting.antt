@@ -10,6 +10,7 @@ use borrow.Author.Tests.{le-leb, lt-leb, le-ltb, ltb-true, ltb-false}
 use lib.Dec.{leb, ltb}
 use lib.ListN.{length, take}
 use lib.Seq.{length-take-le}
+use Rattle.std.specs.Prelude.{Option as Answer, Some, None}
 use Rattle.terms.specs.Lists.{◌∈◌, here, there, not-in-nil, cons-cases, of_map, only_one}
 use Rattle.terms.specs.Term.{Term, letter, zero, one, add, mul, size, depth, same}
 use Rattle.terms.specs.Held.{IsRun}
@@ -29,8 +30,6 @@ use Rattle.search.specs.Resulted.{tried_by, TooDeep, Adds}
 use Rattle.search.specs.declared.search.Law.{Law}
 use Rattle.search.specs.declared.search.Direction.{Direction}
 use Rattle.search.specs.declared.slots.Step.{Step}
-use Rattle.search.specs.declared.line.Filled.{Filled}
-use Rattle.search.specs.declared.line.Filled.TheVariants.{To, Nothing}
 use Rattle.search.proofs.Coded.{law_named}
 use Rattle.search.proofs.Unknown.{unknown_append}
 
@@ -159,10 +158,10 @@ module _ {ws : List ℕ} {noted : ℕ} {xs : List ℕ} {room deep from : ℕ} wh
 
 -- a step tried
 
-pub tries_within : {w : Law} {d : Direction} {xs : List ℕ} {at room : ℕ} {out : List ℕ} {f : Filled} {k : ℕ} → Tries w d xs at room out f → f ≡ To k → k ≤ room
+pub tries_within : {w : Law} {d : Direction} {xs : List ℕ} {at room : ℕ} {out : List ℕ} {f : Answer ℕ} {k : ℕ} → Tries w d xs at room out f → f ≡ Some k → k ≤ room
 tries_within T e = (rw e at T).within.1
 
-module _ (ws : List ℕ) (noted : ℕ) (s : Step) (xs : List ℕ) (room deep : ℕ) (out res order : List ℕ) (count : ℕ) (f : Filled) (inside : s.place < length xs)
+module _ (ws : List ℕ) (noted : ℕ) (s : Step) (xs : List ℕ) (room deep : ℕ) (out res order : List ℕ) (count : ℕ) (f : Answer ℕ) (inside : s.place < length xs)
     (T : Tries s.law s.direction xs s.place room out f) where
   -- the slots have the results with those of zs
   abbrev Gains : List ℕ → List ℕ → ℕ → List Noted → Term → Limits → List Line → List Line → Type 0
@@ -185,15 +184,15 @@ module _ (ws : List ℕ) (noted : ℕ) (s : Step) (xs : List ℕ) (room deep : �
             (g ns t m ys S c e d (kept room (tried_by s t)) (T.exact t h i) (λ z k. line_marks s t i z (kept_member room (tried_by s t) z k)) O);
       }
 
-  pub adds_nothing : f ≡ Nothing → Adds ws noted xs room deep s.parent (tried_by s) 1 res order count res order count
+  pub adds_nothing : f ≡ None → Adds ws noted xs room deep s.parent (tried_by s) 1 res order count res order count
   unfolding allowed unknown
   adds_nothing e = by_tried res order count (omega arith) (omega arith) (λ ns t m ys S c q d zs G M. go ns t m ys zs (rw e at G))
     where
-      go : (ns : List Noted) (t : Term) (m : Limits) (ys zs : List Line) → Gives out Nothing zs → Gains res order count ns t m ys zs
+      go : (ns : List Noted) (t : Term) (m : Limits) (ys zs : List Line) → Gives out None zs → Gains res order count ns t m ys zs
       go ns t m ys [] G O = O
       go ns t m ys (z ∷ zs) G O = absurd G
 
-  module _ (k : ℕ) (e : f ≡ To k) (whole : length out ≡ room) where
+  module _ (k : ℕ) (e : f ≡ Some k) (whole : length out ≡ room) where
     -- one line, whose result stands at the front of the buffer
     by_line : (res' order' : List ℕ) (r : ℕ) → count ≤ r → r ≤ count + 1
         → ((ns : List Noted) (t : Term) (m : Limits) (ys : List Line) (x : Line) → Slots ws ns → length ns ≡ noted → m.depth ≡ deep → size x.result ≤ m.size
@@ -202,7 +201,7 @@ module _ (ws : List ℕ) (noted : ℕ) (s : Step) (xs : List ℕ) (room deep : �
     by_line res' order' r low high g = by_tried res' order' r low high (λ ns t m ys S c q d zs G M. go ns t m ys S c q d zs (rw e at G) M)
       where
         go : (ns : List Noted) (t : Term) (m : Limits) (ys : List Line) → Slots ws ns → length ns ≡ noted → m.size ≡ room → m.depth ≡ deep
-            → (zs : List Line) → Gives out (To k) zs → ((z : Line) → z ∈ zs → Marks s t z) → Gains res' order' r ns t m ys zs
+            → (zs : List Line) → Gives out (Some k) zs → ((z : Line) → z ∈ zs → Marks s t z) → Gains res' order' r ns t m ys zs
         go ns t m ys S c q d [] G M = absurd G
         go ns t m ys S c q d (x ∷ []) G M =
             g ns t m ys x S c d (omega (arith, size_of G, length-take-le k out (omega (arith, tries_within T e)), tries_within T e)) G (M x (here refl))

@@ -5,12 +5,11 @@ use mathlib.Core.Path.{◌≡◌, refl, sym, ◌∙◌}
 use mathlib.Core.Bool.{Bool, true, false}
 use mathlib.Core.Option.{Option, none, some}
 use mathlib.Core.List.{List}
-use lib.ListN.{length}
 use Rattle.terms.specs.Term.{Term}
 use Rattle.terms.specs.Held.{IsRun, Holds}
 use Rattle.search.specs.Match.{Bindings, unbound, match, put}
 use Rattle.search.specs.Line.{rewrite}
-use Rattle.search.specs.Span.{no_spans, Pattern, Means, Found, Matches, Within}
+use Rattle.search.specs.Span.{no_spans, Pattern, Means, Found, Matches}
 use Rattle.search.specs.Bound.{known, BindsAll, BindsSide}
 use Rattle.search.specs.declared.search.Spans.{Spans}
 use Rattle.search.specs.declared.search.Binding.{Binding}
@@ -73,6 +72,3 @@ module _ (p q xs : List ℕ) (at : ℕ) (z₀ : Spans) (r : Binding) (n : z₀ �
               let (x, i) = known_some (put v σ) (sym k ∙ B.exact xs v σ m hq gq) in
               record { terms = σ; matched = j; means = m; result = x; put_in = i };
         }
-
-pub matched_within : (p xs : List ℕ) (at : ℕ) (z : Spans) (r : Binding) (y : Spans) → Matches p xs at z r → r ≡ Bound y → Within (length xs) y
-matched_within p xs at z r y M e = (rw e at M).within

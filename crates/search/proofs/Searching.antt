@@ -7,7 +7,8 @@ use mathlib.Core.Logic.{⊎_elim}
 use mathlib.Core.Bool.{false}
 use mathlib.Core.List.{List, [], ◌∷◌, ◌++◌, map-append}
 use lib.ListN.{length, take, drop, get_or, length-append, drop_of_length-le}
-use lib.Seq.{drop-cons, get_or-take, length-take-le}
+use lib.Seq.{drop-cons}
+use Rattle.std.specs.Prelude.{Option, Some, None}
 use Rattle.terms.specs.Lists.{append_cases, only_one}
 use Rattle.terms.specs.Term.{Term}
 use Rattle.terms.specs.Theory.Members.{getD_in}
@@ -24,8 +25,7 @@ use Rattle.search.specs.Replied.{waiting, Settled}
 use Rattle.search.specs.Searched.{limits_of, Ends, Opens, Became, Takes, Concludes, Explores}
 use Rattle.search.specs.Theory.Results.{results_sound}
 use Rattle.search.specs.declared.bounded_search.Limits.{Limits}
-use Rattle.search.specs.declared.bounded_search.Taken.{Taken}
-use Rattle.search.specs.declared.bounded_search.Taken.TheVariants as taken
+use Rattle.search.specs.declared.replies.Reply.{Reply}
 use Rattle.search.specs.declared.bounded_search.Stop.TheVariants.{All, Over, Full}
 use Rattle.search.specs.declared.bounded_search.Ended.{Ended}
 use Rattle.search.proofs.Noting.{counted, noted_run, noted_before}
@@ -36,11 +36,11 @@ use Rattle.search.proofs.Settling.{settled_more, waiting_unnoted}
 use Rattle.search.proofs.Standing.{Small, Asked, ended, next, going, following, Midway, whole, Standing, Opened, Progress, explores}
 
 -- an end that is known, with its noted terms
-ends_as : (r : Ended) (ws : List ℕ) {ts : List Term} {before fs : List ℕ} {v w : Served} → v ≡ w → Ends r ws w → Settled (terms w.noted) ts before fs
+ends_as : (r : Ended) (ws : List ℕ) {ts : List Term} {before fs : List Reply} {v w : Served} → v ≡ w → Ends r ws w → Settled (terms w.noted) ts before fs
     → Concludes r ws ts before fs v
 ends_as r ws e E S = rw e (E, S)
 
-module _ {laws : List Law} {m : Limits} {slots : ℕ} {rights before : List ℕ} {waits most : ℕ} {ws₀ ws fs : List ℕ} {missing count i : ℕ}
+module _ {laws : List Law} {m : Limits} {slots : ℕ} {rights : List ℕ} {before : List Reply} {waits most : ℕ} {ws₀ ws : List ℕ} {fs : List Reply} {missing count i : ℕ}
     (St : Standing laws m slots rights before waits most ws₀ ws fs missing count i) where
   -- it is over: all noted terms are opened, or as many as may be, or the next one is too far away
 
@@ -71,9 +71,9 @@ module _ {laws : List Law} {m : Limits} {slots : ℕ} {rights before : List ℕ}
     ends_far far =
         stops (λ ts ns S c. serve_far (next laws m) m.steps slots ts i ns (omega arith) (m.nodes - i) (omega (arith, distance_here ns S c)))
 
-    pub opened : i < m.nodes → d < m.steps → most ≤ 31 → {res order : List ℕ} {n : ℕ} → most ≡ most_nodes order → Opens laws ws count i m res order n
-        → Opened laws m slots rights before waits most ws₀ ws fs missing count i d res order n
-    opened q near low fits O s ts A =
+    pub opened : i < m.nodes → d < m.steps → most ≤ 31 → {res order ks : List ℕ} {room n : ℕ} → most ≡ most_nodes room → ks ≡ take n order → Opens laws ws count i m room res order n
+        → Opened laws m slots rights before waits most ws₀ ws fs missing count i d res ks
+    opened q near low {n = n} fits named O s ts A =
         let g = St s ts A in
         let us = waiting ts before in
         let x = noted_at g.ns i in
@@ -90,7 +90,8 @@ module _ {laws : List Law} {m : Limits} {slots : ℕ} {rights before : List ℕ}
           settled = g.settled;
           distance = e;
           lines = unknown g.ns (next laws m x.term);
-          ordered = O.exact g.ns x.term g.held c (noted_run g.held i (omega arith)) (omega (arith, fit)) (omega arith);
+          room = n;
+          ordered = rw named (O.exact g.ns x.term g.held c (noted_run g.held i (omega arith)) (omega (arith, fit)) (omega arith));
           fresh = fresh_unknown g.ns (next laws m x.term);
           kept = λ y n. omega (arith, (results_sound laws (limits_of m) x.term y (unknown_member g.ns (next laws m x.term) n)).0.size);
           is = g.is
@@ -99,10 +100,10 @@ module _ {laws : List Law} {m : Limits} {slots : ℕ} {rights before : List ℕ}
         }
 
 -- the j-th result is taken
-module _ {laws : List Law} {m : Limits} {slots : ℕ} {rights ws fs : List ℕ} {missing count i d : ℕ} {res order : List ℕ} {n j : ℕ} {r : Taken} {ws' fs' : List ℕ}
-    (inside : i < count) (h : j < n) (room : n ≤ length order) (T : Takes ws count slots res (get_or order j 0) d rights fs r ws' fs') where
-  module _ (v : Served) (most : ℕ) (ts : List Term) (before : List ℕ) (R : HeldRuns rights ts) (each : length ts ≡ length before)
-      (g : Midway laws m slots v most ts before ws fs missing count i d res order n j) where
+module _ {laws : List Law} {m : Limits} {slots : ℕ} {rights ws : List ℕ} {fs : List Reply} {missing count i d : ℕ} {res ks : List ℕ} {j : ℕ} {r : Option ℕ} {ws' : List ℕ} {fs' : List Reply}
+    (inside : i < count) (h : j < length ks) (T : Takes ws count slots res (get_or ks j 0) d rights fs r ws' fs') where
+  module _ (v : Served) (most : ℕ) (ts : List Term) (before : List Reply) (R : HeldRuns rights ts) (each : length ts ≡ length before)
+      (g : Midway laws m slots v most ts before ws fs missing count i d res ks j) where
     abbrev us : List Term
     us = waiting ts before
 
@@ -118,11 +119,8 @@ module _ {laws : List Law} {m : Limits} {slots : ℕ} {rights ws fs : List ℕ} 
     abbrev more : List Noted
     more = g.ns ++ (entry parent.trail x ∷ [])
 
-    long : length (take n order) ≡ n
-    long = length-take-le n order room
-
     among : j < length g.lines
-    among = omega (arith, ordered_length g.ordered, long)
+    among = omega (arith, ordered_length g.ordered)
 
     next_line : drop j g.lines ≡ x ∷ rest
     next_line = rw add-one (drop-cons g.lines j (line_at [] 0) among)
@@ -135,15 +133,13 @@ module _ {laws : List Law} {m : Limits} {slots : ℕ} {rights ws fs : List ℕ} 
 
     became : Became r slots ws' g.ns parent x ts fs fs'
     became =
-        let e : get_or (take n order) j 0 ≡ get_or order j 0 = get_or-take n order j 0 h in
-        let Z = (ordered_at g.ordered j (omega (arith, long))).1 in
-        T.exact g.ns i x ts g.held g.counted inside (rw e at Z) g.distance R (each ∙ sym g.settled.kept)
+        T.exact g.ns i x ts g.held g.counted inside (ordered_at g.ordered j h).1 g.distance R (each ∙ sym g.settled.kept)
 
     counted_more : length more ≡ count + 1
     counted_more = length-append g.ns (entry parent.trail x ∷ []) ∙ ap (λ k. k + 1) g.counted
 
     -- it strikes the right sides that are equal to it
-    module _ {c : ℕ} (e : r ≡ taken.Noted c) where
+    module _ {c : ℕ} (e : r ≡ Some c) where
       free : length g.ns < slots
       free = omega (arith, g.counted, (rw e at T).room)
 
@@ -170,7 +166,7 @@ module _ {laws : List Law} {m : Limits} {slots : ℕ} {rights ws fs : List ℕ} 
           rw e (g.kept x (getD_in (line_at [] 0) g.lines j among)))
           (append_cases g.ns k)
 
-      noted : c < missing → Midway laws m slots v most ts before ws' fs' (missing - c) (count + 1) i d res order n (j + 1)
+      noted : c < missing → Midway laws m slots v most ts before ws' fs' (missing - c) (count + 1) i d res ks (j + 1)
       noted some =
           record {
             ns = more;
@@ -181,6 +177,7 @@ module _ {laws : List Law} {m : Limits} {slots : ℕ} {rights ws fs : List ℕ} 
             settled = settled;
             distance = rw parent_still g.distance;
             lines = g.lines;
+            room = g.room;
             ordered = rw parent_still g.ordered;
             fresh = fresh_rest g.ns parent.trail g.lines j g.ordered.rising g.fresh;
             kept = g.kept;
@@ -195,7 +192,7 @@ module _ {laws : List Law} {m : Limits} {slots : ℕ} {rights ws fs : List ℕ} 
           (record { stop = refl; opened = refl; noted = sym counted_more; slots = (rw e at became).0 })
           settled
 
-    full : r ≡ taken.Full → Concludes (ended Full (i + 1) count) ws' ts before fs' v
+    full : r ≡ None → Concludes (ended Full (i + 1) count) ws' ts before fs' v
     full e =
         let (used, S, q) = rw e at became in
         ends_as (ended Full (i + 1) count) ws'
@@ -203,36 +200,36 @@ module _ {laws : List Law} {m : Limits} {slots : ℕ} {rights ws fs : List ℕ} 
         (record { stop = refl; opened = refl; noted = sym g.counted; slots = S })
         (rw q g.settled)
 
-  module _ {ws₁ fs₁ : List ℕ} {missing₁ count₁ : ℕ} (Tu : Progress laws m slots rights i d res order n ws₁ fs₁ missing₁ count₁ ws fs missing count j) where
-    pub progress_noted : {c : ℕ} → r ≡ taken.Noted c → c < missing
-        → Progress laws m slots rights i d res order n ws₁ fs₁ missing₁ count₁ ws' fs' (missing - c) (count + 1) (j + 1)
+  module _ {ws₁ : List ℕ} {fs₁ : List Reply} {missing₁ count₁ : ℕ} (Tu : Progress laws m slots rights i d res ks ws₁ fs₁ missing₁ count₁ ws fs missing count j) where
+    pub progress_noted : {c : ℕ} → r ≡ Some c → c < missing
+        → Progress laws m slots rights i d res ks ws₁ fs₁ missing₁ count₁ ws' fs' (missing - c) (count + 1) (j + 1)
     progress_noted e some v most ts before R l g = noted v most ts before R l (Tu v most ts before R l g) e some
 
-    module _ {before : List ℕ} {waits most : ℕ} {ws₀ : List ℕ} (O : Opened laws m slots rights before waits most ws₀ ws₁ fs₁ missing₁ count₁ i d res order n) where
+    module _ {before : List Reply} {waits most : ℕ} {ws₀ : List ℕ} (O : Opened laws m slots rights before waits most ws₀ ws₁ fs₁ missing₁ count₁ i d res ks) where
       now : (s : Term) (ts : List Term) → Asked rights before waits m most ws₀ s ts
-          → Midway laws m slots (whole laws m slots rights before s ts) most ts before ws fs missing count i d res order n j
+          → Midway laws m slots (whole laws m slots rights before s ts) most ts before ws fs missing count i d res ks j
       now s ts A = Tu (whole laws m slots rights before s ts) most ts before A.listed A.each (O s ts A)
 
-      pub ends_all : {c : ℕ} → r ≡ taken.Noted c → missing ≤ c
+      pub ends_all : {c : ℕ} → r ≡ Some c → missing ≤ c
           → Explores laws rights waits m slots most ws₀ ws' before fs' (ended All (i + 1) (count + 1))
       ends_all e none =
           explores laws m slots rights before (ended All (i + 1) (count + 1))
           (λ s ts A. last (whole laws m slots rights before s ts) most ts before A.listed A.each (now s ts A) e none)
 
-      pub ends_full : r ≡ taken.Full → Explores laws rights waits m slots most ws₀ ws' before fs' (ended Full (i + 1) count)
+      pub ends_full : r ≡ None → Explores laws rights waits m slots most ws₀ ws' before fs' (ended Full (i + 1) count)
       ends_full e =
           explores laws m slots rights before (ended Full (i + 1) count)
           (λ s ts A. full (whole laws m slots rights before s ts) most ts before A.listed A.each (now s ts A) e)
 
 -- all results are taken
-pub all_taken : {laws : List Law} {m : Limits} {slots : ℕ} {rights before : List ℕ} {waits most i d : ℕ} {res order : List ℕ} {n : ℕ} {ws₁ fs₁ : List ℕ} {missing₁ count₁ : ℕ}
-    {ws fs : List ℕ} {missing count j : ℕ} → Progress laws m slots rights i d res order n ws₁ fs₁ missing₁ count₁ ws fs missing count j → {ws₀ : List ℕ}
-    → Opened laws m slots rights before waits most ws₀ ws₁ fs₁ missing₁ count₁ i d res order n → n ≤ j → n ≤ length order
+pub all_taken : {laws : List Law} {m : Limits} {slots : ℕ} {rights : List ℕ} {before : List Reply} {waits most i d : ℕ} {res ks : List ℕ} {ws₁ : List ℕ} {fs₁ : List Reply}
+    {missing₁ count₁ : ℕ} {ws : List ℕ} {fs : List Reply} {missing count j : ℕ} → Progress laws m slots rights i d res ks ws₁ fs₁ missing₁ count₁ ws fs missing count j
+    → {ws₀ : List ℕ} → Opened laws m slots rights before waits most ws₀ ws₁ fs₁ missing₁ count₁ i d res ks → length ks ≤ j
     → Standing laws m slots rights before waits most ws₀ ws fs missing count (i + 1)
 unfolding take_results
-all_taken {laws} {m} {slots} {rights} {before} {most = most} {order = order} {n = n} {j = j} Tu O h room s ts A =
+all_taken {laws} {m} {slots} {rights} {before} {most = most} {j = j} Tu O h s ts A =
     let g = Tu (whole laws m slots rights before s ts) most ts before A.listed A.each (O s ts A) in
-    let e : length g.lines ≤ j = omega (arith, ordered_length g.ordered, length-take-le n order room) in
+    let e : length g.lines ≤ j = omega (arith, ordered_length g.ordered) in
     record {
       ns = g.ns;
       held = g.held;

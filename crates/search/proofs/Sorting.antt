@@ -7,20 +7,27 @@ use mathlib.Core.Logic.{◌⊎◌, inl, inr}
 use mathlib.Core.List.{List, [], ◌∷◌, ◌++◌}
 use lib.ListN.{length, take, drop, get_or, take-append-drop, drop_of_length-le}
 use lib.Seq.{drop-cons, take-suc, append_snoc}
-use Rattle.terms.specs.Compare.{lt, eq, gt}
-use Rattle.terms.specs.Term.{Term}
+use Rattle.std.specs.Prelude.{Result as Answer, Ok, Err, None}
+use Rattle.std.specs.Result.{result_err}
+use Rattle.std.specs.Ordering.{ordering_index}
+use Rattle.std.specs.List.Sorted.{IsBinarySearchResult, IsSearchInRange}
+use Rattle.std.proofs.lemmas.List.Sorted.{IsNonDecreasingBy-from_default}
+use Rattle.terms.specs.Compare.{Ordering, lt, eq, gt, order_numbers}
+use Rattle.terms.specs.Term.{Term, order}
 use Rattle.terms.specs.Held.{IsRun}
 use Rattle.terms.specs.Sort.{lost, insert, repeat}
 use Rattle.terms.specs.Promises.{ordering_of, Compares}
-use Rattle.terms.specs.Theory.Order.{below?}
+use Rattle.terms.specs.Theory.Order.{cases, flip_lt, flip_gt, below?}
+use Rattle.terms.specs.Theory.TermOrder.{term_order}
+use Rattle.terms.specs.Theory.Held.{order_of}
 use Rattle.terms.specs.Theory.Insert.{insert_lt, insert_eq, insert_gt}
-use Rattle.terms.specs.declared.term.Comparison.{Comparison}
-use Rattle.terms.specs.declared.term.Comparison.TheVariants.{Less, Equal, Greater}
+use Rattle.std.specs.declared.cmp.Ordering as answered
+use Rattle.std.specs.declared.cmp.Ordering.TheVariants.{Less, Equal, Greater}
 use Rattle.search.specs.Line.{Line, by_result}
-use Rattle.search.specs.Ordered.{Result, Named, Ordered, none, more, inserted, Goes, Spotted}
-use Rattle.search.specs.Runs.{Shows}
-use Rattle.search.specs.declared.results.Spot.TheVariants.{At, Already}
-use Rattle.search.proofs.Rising.{goes_past}
+use Rattle.search.specs.Ordered.{Result, Named, Ordered, none, more, inserted, answer, judged, Goes, Spotted}
+use Rattle.search.specs.Runs.{Shows, shown}
+use Rattle.search.proofs.Rising.{rising_at, goes_past}
+use Rattle.search.proofs.Tracing.{spelled_shown}
 pub use Rattle.search.proofs.Rising.{line_at}
 
 module _ {t : Term} {from : ℕ} {res : List ℕ} {n : ℕ} where
@@ -39,74 +46,113 @@ module _ {t : Term} {from : ℕ} {res : List ℕ} {n : ℕ} where
   pub ordered_at : {ks : List ℕ} {ys : List Line} → Ordered t from res n ks ys → (p : ℕ) → p < length ks → (get_or ks p 0 < n) × Result t from res (get_or ks p 0) (line_at ys p)
   ordered_at O = named_at O.named
 
--- what holds of every line with the run xs, among those that ks names
-abbrev Always : List ℕ → List ℕ → List ℕ → (Line → List Line → Type 0) → Type 0
-Always res ks xs P = (t : Term) (from n : ℕ) (ys : List Line) (x : Line) → Ordered t from res n ks ys → IsRun xs x.result → P x ys
+-- what the code answers
 
--- the line goes in behind the first p
-abbrev pub Seeking : List ℕ → List ℕ → List ℕ → ℕ → Type 0
-Seeking res ks xs p = Always res ks xs (λ x ys. inserted x ys ≡ take p ys ++ inserted x (drop p ys))
+answer_back : (c : answered.Ordering) → c ≡ answer (ordering_of c)
+answer_back Less = refl
+answer_back Equal = refl
+answer_back Greater = refl
 
--- the line goes in before the p-th
-abbrev pub Leaving : List ℕ → List ℕ → List ℕ → ℕ → Type 0
-Leaving res ks xs p = Always res ks xs (λ x ys. by_result x (line_at ys p) ≡ lt)
+order_back : (o : Ordering) → o ≡ ordering_of (answer o)
+order_back lt = refl
+order_back eq = refl
+order_back gt = refl
 
-pub seeking_starts : (res ks xs : List ℕ) → Seeking res ks xs 0
-seeking_starts res ks xs t from n ys x O h = refl
+pub judges : {res xs zs : List ℕ} {k : ℕ} {c : answered.Ordering} → Shows res k zs → Compares zs xs c → c ≡ judged res xs k
+judges {xs = xs} {c = c} S C = answer_back c ∙ ap answer (C.numbers ∙ ap (λ l. order_numbers l xs) S.is)
 
--- what a comparison with the p-th result says
-abbrev pub Tells : List ℕ → List ℕ → List ℕ → ℕ → Comparison → Type 0
-Tells res ks xs p Less = Leaving res ks xs p
-Tells res ks xs p Equal = Spotted res ks xs Already
-Tells res ks xs p Greater = Seeking res ks xs (p + 1)
+-- the lines that ks names, in term order, and one with the run xs
+module _ {t : Term} {from n : ℕ} {res ks xs : List ℕ} {ys : List Line} (x : Line) (O : Ordered t from res n ks ys) (hx : IsRun xs x.result) where
+  abbrev verdict : ℕ → answered.Ordering
+  verdict p = judged res xs (get_or ks p 0)
 
-module _ (res ks xs : List ℕ) (p : ℕ) where
-  module _ (h : p < length ks) {t : Term} {from n : ℕ} {ys : List Line} (x : Line) (O : Ordered t from res n ks ys) where
-    next : drop p ys ≡ line_at ys p ∷ drop (p + 1) ys
-    next = rw add-one (drop-cons ys p (line_at [] 0) (omega (arith, ordered_length O)))
+  told : (p : ℕ) → p < length ks → by_result (line_at ys p) x ≡ ordering_of (verdict p)
+  told p h =
+      let o = order_numbers (shown res (get_or ks p 0)) xs in
+      sym (order_of (spelled_shown (ordered_at O p h).1.run) hx) ∙ order_back o
 
-    front : take (p + 1) ys ≡ take p ys ++ (line_at ys p ∷ [])
-    front = rw add-one (take-suc ys p (line_at [] 0) (omega (arith, ordered_length O)))
-
-    module _ (s : inserted x ys ≡ take p ys ++ inserted x (drop p ys)) where
-      split : inserted x ys ≡ take p ys ++ inserted x (line_at ys p ∷ drop (p + 1) ys)
-      split = s ∙ ap (λ l. take p ys ++ inserted x l) next
-
-      goes_here : by_result x (line_at ys p) ≡ lt → Goes (At p) x ys
-      goes_here e = (omega (arith, ordered_length O), split ∙ rw (insert_lt lost by_result {x = x} {y = line_at ys p} (drop (p + 1) ys) e, ← next))
-
-    past : (by_result x (line_at ys p) ≡ lt → ⊥) → inserted x ys ≡ take p ys ++ inserted x (drop p ys)
-    past f = goes_past x ys O.rising p (omega (arith, ordered_length O)) f
-
-    is_here : by_result x (line_at ys p) ≡ eq → Goes Already x ys
-    unfolding repeat
-    is_here e =
-        split (past (λ f. let z : ◌≡◌ {A = ℕ} 0 1 = cc in omega arith))
-        ∙ rw (insert_eq lost by_result {x = x} {y = line_at ys p} (drop (p + 1) ys) e, ← next) (take-append-drop p ys)
-
-    goes_behind : by_result x (line_at ys p) ≡ gt → inserted x ys ≡ take (p + 1) ys ++ inserted x (drop (p + 1) ys)
-    goes_behind e =
-        split (past (λ f. let z : ◌≡◌ {A = ℕ} 0 1 = cc in omega arith))
-        ∙ rw (insert_gt lost by_result {x = x} {y = line_at ys p} (drop (p + 1) ys) e, front)
-        (sym (append_snoc (take p ys) (line_at ys p) (inserted x (drop (p + 1) ys))))
-
-  -- the run zs in the slot that is named is compared
-  module _ (h : p < length ks) {zs : List ℕ} (Sh : Shows res (get_or ks p 0) zs) where
-    judged : (c : Comparison) → Compares xs zs c → Always res ks xs (λ x ys. by_result x (line_at ys p) ≡ ordering_of c)
-    judged c e t from n ys x O hx =
-        sym (e.terms x.result (line_at ys p).result hx (Sh.exact (line_at ys p).result (ordered_at O p h).1.run))
-
-    pub tells : (c : Comparison) → Compares xs zs c → Tells res ks xs p c
-    tells Less e = judged Less e
-    tells Equal e = record { within = tt; goes = λ t from n ys x O hx. is_here h x O (judged Equal e t from n ys x O hx) }
-    tells Greater e = λ t from n ys x O hx. goes_behind h x O (judged Greater e t from n ys x O hx)
-
-  pub spot_there : p ≤ length ks → Seeking res ks xs p → (p < length ks → Leaving res ks xs p) → Spotted res ks xs (At p)
-  unfolding insert
-  spot_there h S L = record { within = h; goes = λ t from n ys x O hx. go t from n ys x O hx (below? p (length ks)) }
+  -- a line before one that is not behind x is before x
+  rises : (i j : ℕ) → i ≤ j → j < length ks → ordering_index (verdict i) ≤ ordering_index (verdict j)
+  rises i j h k = go (below? i j)
     where
-      go : (t : Term) (from n : ℕ) (ys : List Line) (x : Line) → Ordered t from res n ks ys → IsRun xs x.result → (p < length ks) ⊎ (length ks ≤ p) → Goes (At p) x ys
-      go t from n ys x O hx (inl q) = goes_here q x O (S t from n ys x O hx) (L q t from n ys x O hx)
-      go t from n ys x O hx (inr q) =
-          let m : length ys ≤ p = omega (arith, ordered_length O) in
-          (omega (arith, ordered_length O), S t from n ys x O hx ∙ rw (drop_of_length-le ys m))
+      earlier : i < j → by_result (line_at ys i) (line_at ys j) ≡ lt
+      earlier q = rising_at ys O.rising i j q (omega (arith, ordered_length O))
+
+      least : (c : answered.Ordering) → ordering_of c ≡ lt → ordering_index c ≤ ordering_index (verdict j)
+      least Less e = omega arith
+      least Equal e = absurd (let z : ◌≡◌ {A = ℕ} 0 1 = cc in omega arith)
+      least Greater e = absurd (let z : ◌≡◌ {A = ℕ} 0 1 = cc in omega arith)
+
+      first : by_result (line_at ys i) x ≡ lt → ordering_index (verdict i) ≤ ordering_index (verdict j)
+      first e = least (verdict i) (sym (told i (omega arith)) ∙ e)
+
+      last : (c d : answered.Ordering) → ordering_of d ≡ gt → ordering_index c ≤ ordering_index d
+      last c Less e = absurd (let z : ◌≡◌ {A = ℕ} 0 1 = cc in omega arith)
+      last c Equal e = absurd (let z : ◌≡◌ {A = ℕ} 0 1 = cc in omega arith)
+      last Less Greater e = omega arith
+      last Equal Greater e = omega arith
+      last Greater Greater e = omega arith
+
+      go : (i < j) ⊎ (j ≤ i) → ordering_index (verdict i) ≤ ordering_index (verdict j)
+      go (inl q) =
+          cases (by_result (line_at ys j) x)
+          (λ e. first (term_order.transitive (earlier q) e))
+          (λ e. first (ap (λ u. order (line_at ys i).result u) (sym (term_order.tie e)) ∙ earlier q))
+          (λ e. last (verdict i) (verdict j) (sym (told j k) ∙ e))
+      go (inr q) = let e : i ≡ j = omega arith in rw e (omega arith)
+
+  module _ (p : ℕ) where
+    next : p < length ks → drop p ys ≡ line_at ys p ∷ drop (p + 1) ys
+    next h = rw add-one (drop-cons ys p (line_at [] 0) (omega (arith, ordered_length O)))
+
+    front : p < length ks → take (p + 1) ys ≡ take p ys ++ (line_at ys p ∷ [])
+    front h = rw add-one (take-suc ys p (line_at [] 0) (omega (arith, ordered_length O)))
+
+    module _ (h : p < length ks) where
+      past : (by_result x (line_at ys p) ≡ lt → ⊥) → inserted x ys ≡ take p ys ++ inserted x (line_at ys p ∷ drop (p + 1) ys)
+      past f = goes_past x ys O.rising p (omega (arith, ordered_length O)) f ∙ ap (λ l. take p ys ++ inserted x l) (next h)
+
+      is_here : verdict p ≡ Equal → Goes None x ys
+      unfolding repeat
+      is_here v =
+          let e : by_result x (line_at ys p) ≡ eq =
+          ap (λ u. order u (line_at ys p).result) (sym (term_order.tie (told p h ∙ ap ordering_of v))) ∙ term_order.reflexive (line_at ys p).result in
+          past (λ f. let z : ◌≡◌ {A = ℕ} 0 1 = cc in omega arith)
+          ∙ rw (insert_eq lost by_result {x = x} {y = line_at ys p} (drop (p + 1) ys) e, ← (next h)) (take-append-drop p ys)
+
+      goes_behind : verdict p ≡ Less → inserted x ys ≡ take (p + 1) ys ++ inserted x (drop (p + 1) ys)
+      goes_behind v =
+          let e : by_result x (line_at ys p) ≡ gt = flip_lt term_order (told p h ∙ ap ordering_of v) in
+          past (λ f. let z : ◌≡◌ {A = ℕ} 0 1 = cc in omega arith)
+          ∙ rw (insert_gt lost by_result {x = x} {y = line_at ys p} (drop (p + 1) ys) e, front h)
+          (sym (append_snoc (take p ys) (line_at ys p) (inserted x (drop (p + 1) ys))))
+
+      before_it : verdict p ≡ Greater → inserted x (drop p ys) ≡ x ∷ drop p ys
+      before_it v =
+          let e : by_result x (line_at ys p) ≡ lt = flip_gt term_order (told p h ∙ ap ordering_of v) in
+          rw (next h) (insert_lt lost by_result {x = x} {y = line_at ys p} (drop (p + 1) ys) e)
+
+  -- behind those before the p-th
+  seeks : (p : ℕ) → p ≤ length ks → ((k : ℕ) → k < p → verdict k ≡ Less) → inserted x ys ≡ take p ys ++ inserted x (drop p ys)
+  seeks ℕ.zero h f = refl
+  seeks (suc p) h f = rw add-one at (goes_behind p (omega arith) (f p (omega arith)))
+
+  leaves : (p : ℕ) → (p < length ks → verdict p ≡ Greater) → inserted x (drop p ys) ≡ x ∷ drop p ys
+  unfolding insert
+  leaves p f = go (below? p (length ks))
+    where
+      go : (p < length ks) ⊎ (length ks ≤ p) → inserted x (drop p ys) ≡ x ∷ drop p ys
+      go (inl q) = before_it p q (f q)
+      go (inr q) = let m : length ys ≤ p = omega (arith, ordered_length O) in rw (drop_of_length-le ys m)
+
+-- what a binary search answers
+module _ (res ks xs : List ℕ) where
+  pub spotted : (r : Answer ℕ ℕ) → IsSearchInRange r (length ks) → IsBinarySearchResult (judged res xs) ks r → Spotted res ks xs (result_err r)
+  spotted (Ok p) h v = record { within = tt; goes = λ t from n ys x O hx. is_here x O hx p h (v 0) }
+  spotted (Err p) h v =
+      record {
+        within = h;
+        goes = λ t from n ys x O hx.
+            let (b, a) = v (IsNonDecreasingBy-from_default (λ k. ordering_index (judged res xs k)) ks 0 (rises x O hx)) in
+            (omega (arith, ordered_length O), seeks x O hx p h (λ k q. b k 0 (omega arith) q) ∙ ap (λ l. take p ys ++ l) (leaves x O hx p (λ q. a p 0 (omega arith) q)));
+      }

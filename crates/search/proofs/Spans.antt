@@ -76,9 +76,6 @@ means_unbound {xs} e = record { letters = λ n p. rw e (none_meant (three n p)) 
     none_meant is_1 = refl
     none_meant is_2 = refl
 
-pub within_none : (k : ℕ) (z : Spans) → z ≡ no_spans → Within k z
-within_none k z e = rw e (record { a = omega arith; b = omega arith; c = omega arith })
-
 within_span : (k : ℕ) (z : Spans) (n : ℕ) → Within k z → (span_of z n).at + (span_of z n).len ≤ k
 unfolding span_of
 within_span k z n W = go (eqb n 0) (eqb n 1)

@@ -3,10 +3,8 @@ use Prim.Native.Nat.{ℕ, ◌+◌, ◌-◌, ◌≤◌}
 use native.Mathlib.Nat.{sub-zero}
 use mathlib.Core.Path.{◌≡◌, refl, sym, ap, ◌∙◌}
 use mathlib.Core.Logic.{⊎_elim}
-use mathlib.Core.Bool.{Bool, true, false}
 use mathlib.Core.List.{List, [], ◌∷◌}
-use lib.Dec.{eqb}
-use lib.ListN.{length, take, drop}
+use lib.ListN.{length, drop}
 use Rattle.terms.specs.Lists.{◌∈◌, here, there, not-in-nil, cons-cases, only_one}
 use Rattle.terms.specs.Term.{Term, size}
 use Rattle.search.specs.Law.{Law}
@@ -19,6 +17,9 @@ use Rattle.search.specs.Slots.{noted_at, Slots}
 use Rattle.search.specs.Ordered.{Ordered}
 use Rattle.search.specs.Replied.{waiting, Settled}
 use Rattle.search.specs.Searched.{limits_of, Concludes, Explores}
+use Rattle.search.specs.declared.replies.Reply.{Reply}
+use Rattle.search.specs.declared.replies.Reply.TheVariants as reply
+use Rattle.search.specs.declared.replies.Reply.TheVariants.{Unnoted, Direct}
 use Rattle.search.specs.declared.bounded_search.Limits.{Limits}
 use Rattle.search.specs.declared.bounded_search.Stop.{Stop}
 use Rattle.search.specs.declared.bounded_search.Ended.{Ended}
@@ -27,22 +28,20 @@ use Rattle.search.proofs.Serving.{after, unnoted_start}
 use Rattle.search.proofs.Settling.{settled_start}
 
 -- a right side that waits is a right side
-waiting_in : (ts : List Term) (fs : List ℕ) {t : Term} → t ∈ waiting ts fs → t ∈ ts
+waiting_in : (ts : List Term) (fs : List Reply) {t : Term} → t ∈ waiting ts fs → t ∈ ts
 unfolding waiting
 waiting_in [] fs m = m
 waiting_in (u ∷ ts) [] m = absurd (not-in-nil m)
-waiting_in (u ∷ ts) (f ∷ fs) {t} m = go (eqb f 0) (waiting_in ts fs) m
-  where
-    go : (b : Bool) → (t ∈ waiting ts fs → t ∈ ts) → t ∈ elim b [ true ↦ u ∷ waiting ts fs | false ↦ waiting ts fs ] → t ∈ u ∷ ts
-    go true h m = ⊎_elim here (λ n. there (h n)) (cons-cases m)
-    go false h m = there (h m)
+waiting_in (u ∷ ts) (Unnoted ∷ fs) m = ⊎_elim here (λ n. there (waiting_in ts fs n)) (cons-cases m)
+waiting_in (u ∷ ts) (Direct w ∷ fs) m = there (waiting_in ts fs m)
+waiting_in (u ∷ ts) (reply.Noted k ∷ fs) m = there (waiting_in ts fs m)
 
 -- the noted terms have at most so many nodes
 abbrev pub Small : ℕ → List Noted → Type 0
 Small most ns = (x : Noted) → x ∈ ns → size x.term ≤ most
 
 -- what a search is for, which starts with what a workspace has, ws₀: `waits` right sides, and terms of at most so many nodes
-pub record Asked (rights before : List ℕ) (waits : ℕ) (m : Limits) (most : ℕ) (ws₀ : List ℕ) (s : Term) (ts : List Term) : Type 0 where
+pub record Asked (rights : List ℕ) (before : List Reply) (waits : ℕ) (m : Limits) (most : ℕ) (ws₀ : List ℕ) (s : Term) (ts : List Term) : Type 0 where
   pub begun : Slots ws₀ (start s)
   pub listed : HeldRuns rights ts
   pub each : length ts ≡ length before
@@ -66,7 +65,7 @@ module _ (laws : List Law) (m : Limits) (slots : ℕ) where
 
   -- v is the end of the search for ts from where it is: `count` terms are noted, `missing` right sides are not, fs tells of each, and the i-th
   -- term is next to open
-  pub record Stands (v : Served) (most : ℕ) (ts : List Term) (before ws fs : List ℕ) (missing count i : ℕ) : Type 0 where
+  pub record Stands (v : Served) (most : ℕ) (ts : List Term) (before : List Reply) (ws : List ℕ) (fs : List Reply) (missing count i : ℕ) : Type 0 where
     pub ns : List Noted
     pub held : Slots ws ns
     pub counted : length ns ≡ count
@@ -75,8 +74,8 @@ module _ (laws : List Law) (m : Limits) (slots : ℕ) where
     pub settled : Settled (terms ns) ts before fs
     pub is : v ≡ going (waiting ts before) (m.nodes - i) i ns
 
-  -- v is that end where the i-th term, at distance d, is open, with n results in res, of which the j-th is next to take
-  pub record Midway (v : Served) (most : ℕ) (ts : List Term) (before ws fs : List ℕ) (missing count i d : ℕ) (res order : List ℕ) (n j : ℕ) : Type 0 where
+  -- v is that end where the i-th term, at distance d, is open, with results in the slots ks of res, of which the j-th is next to take
+  pub record Midway (v : Served) (most : ℕ) (ts : List Term) (before : List Reply) (ws : List ℕ) (fs : List Reply) (missing count i d : ℕ) (res ks : List ℕ) (j : ℕ) : Type 0 where
     pub ns : List Noted
     pub held : Slots ws ns
     pub counted : length ns ≡ count
@@ -85,12 +84,13 @@ module _ (laws : List Law) (m : Limits) (slots : ℕ) where
     pub settled : Settled (terms ns) ts before fs
     pub distance : d ≡ length (noted_at ns i).trail
     pub lines : List Line
-    pub ordered : Ordered (noted_at ns i).term i res n (take n order) lines
+    pub room : ℕ
+    pub ordered : Ordered (noted_at ns i).term i res room ks lines
     pub fresh : Fresh ns lines j
     pub kept : (x : Line) → x ∈ lines → size x.result ≤ most
     pub is : v ≡ following (waiting ts before) i (take_results slots (waiting ts before) (noted_at ns i).trail (drop j lines) ns)
 
-  module _ (rights before : List ℕ) where
+  module _ (rights : List ℕ) (before : List Reply) where
     abbrev pub whole : Term → List Term → Served
     whole s ts = going (waiting ts before) m.nodes 0 (start s)
 
@@ -101,12 +101,12 @@ module _ (laws : List Law) (m : Limits) (slots : ℕ) where
 
     -- the outer loop's invariant, and where the inner loop begins
 
-    abbrev pub Standing : ℕ → ℕ → List ℕ → List ℕ → List ℕ → ℕ → ℕ → ℕ → Type 0
+    abbrev pub Standing : ℕ → ℕ → List ℕ → List ℕ → List Reply → ℕ → ℕ → ℕ → Type 0
     Standing waits most ws₀ ws fs missing count i = Always waits most ws₀ (λ v ts. Stands v most ts before ws fs missing count i)
 
-    abbrev pub Opened : ℕ → ℕ → List ℕ → List ℕ → List ℕ → ℕ → ℕ → ℕ → ℕ → List ℕ → List ℕ → ℕ → Type 0
-    Opened waits most ws₀ ws fs missing count i d res order n =
-        Always waits most ws₀ (λ v ts. Midway v most ts before ws fs missing count i d res order n 0)
+    abbrev pub Opened : ℕ → ℕ → List ℕ → List ℕ → List Reply → ℕ → ℕ → ℕ → ℕ → List ℕ → List ℕ → Type 0
+    Opened waits most ws₀ ws fs missing count i d res ks =
+        Always waits most ws₀ (λ v ts. Midway v most ts before ws fs missing count i d res ks 0)
 
     pub starts : (waits most : ℕ) (ws : List ℕ) → Standing waits most ws ws before waits 1 0
     starts waits most ws s ts A =
@@ -120,13 +120,13 @@ module _ (laws : List Law) (m : Limits) (slots : ℕ) where
           is = rw (sub-zero m.nodes);
         }
 
-    pub explores : {waits most : ℕ} {ws₀ ws fs : List ℕ} (r : Ended) → Always waits most ws₀ (λ v ts. Concludes r ws ts before fs v)
+    pub explores : {waits most : ℕ} {ws₀ ws : List ℕ} {fs : List Reply} (r : Ended) → Always waits most ws₀ (λ v ts. Concludes r ws ts before fs v)
         → Explores laws rights waits m slots most ws₀ ws before fs r
     explores r E =
         record { exact = λ s ts S R l n d h k. E s ts (record { begun = S; listed = R; each = l; all = n; other = d; fits = h; limit = k }) }
 
   -- the inner loop's invariant: how the results were taken since the term was opened
-  abbrev pub Progress : List ℕ → ℕ → ℕ → List ℕ → List ℕ → ℕ → List ℕ → List ℕ → ℕ → ℕ → List ℕ → List ℕ → ℕ → ℕ → ℕ → Type 0
-  Progress rights i d res order n ws₁ fs₁ missing₁ count₁ ws fs missing count j =
-      (v : Served) (most : ℕ) (ts : List Term) (before : List ℕ) → HeldRuns rights ts → length ts ≡ length before
-      → Midway v most ts before ws₁ fs₁ missing₁ count₁ i d res order n 0 → Midway v most ts before ws fs missing count i d res order n j
+  abbrev pub Progress : List ℕ → ℕ → ℕ → List ℕ → List ℕ → List ℕ → List Reply → ℕ → ℕ → List ℕ → List Reply → ℕ → ℕ → ℕ → Type 0
+  Progress rights i d res ks ws₁ fs₁ missing₁ count₁ ws fs missing count j =
+      (v : Served) (most : ℕ) (ts : List Term) (before : List Reply) → HeldRuns rights ts → length ts ≡ length before
+      → Midway v most ts before ws₁ fs₁ missing₁ count₁ i d res ks 0 → Midway v most ts before ws fs missing count i d res ks j

@@ -4,6 +4,7 @@ use native.Mathlib.Omega.{arith}
 use mathlib.Core.Path.{◌≡◌, refl, sym, ap, subst₂, ◌∙◌}
 use mathlib.Core.List.{List, [], ◌∷◌, ◌++◌}
 use lib.ListN.{length, length-append}
+use Rattle.std.specs.Prelude.{Some, None}
 use Rattle.terms.specs.Run.{run}
 use Rattle.terms.specs.Held.{IsRun}
 use Rattle.terms.specs.Theory.Held.{size_of}
@@ -21,13 +22,12 @@ use Rattle.search.specs.declared.slots.Step.{Step}
 use Rattle.search.specs.declared.slots.Origin.{Origin}
 use Rattle.search.specs.declared.slots.Origin.TheVariants.{Start, From}
 use Rattle.search.specs.declared.bounded_search.Limits.{Limits}
-use Rattle.search.specs.declared.bounded_search.Taken.TheVariants.{Full}
-use Rattle.search.specs.declared.bounded_search.Taken.TheVariants as taken
+use Rattle.search.specs.declared.replies.Reply.{Reply}
 use Rattle.search.proofs.Noting.{counted, noted_term, noted_last}
 
-pub opens : (ws : List ℕ) (noted i : ℕ) (m : Limits) (xs : List ℕ) → Shows ws i xs → (res order : List ℕ) (r : ℕ) → Resulted ws noted xs i m.size m.depth res order r
-    → Opens semiring ws noted i m res order r
-opens ws noted i m xs W res order r R =
+pub opens : (ws : List ℕ) (noted i : ℕ) (m : Limits) (xs : List ℕ) → Shows ws i xs → (n : ℕ) (res order : List ℕ) (r : ℕ) → Resulted ws noted xs i m.size m.depth n res order r
+    → Opens semiring ws noted i m n res order r
+opens ws noted i m xs W n res order r R =
     record { few = R.few; exact = λ ns t S c s p k. R.exact ns t (limits_of m) S c (W.exact t s) p k refl refl }
 
 -- the last slot has the hash of its term's run
@@ -37,8 +37,8 @@ hash_last ws ns n S =
     let e : term_at (terms more) (length ns) ≡ n.term = noted_term more (length ns) ∙ ap (λ x. x.term) (noted_last ns n) in
     S.runs.index.hashed (length ns) (omega (arith, counted more, length-append ns (n ∷ []))) ∙ ap (λ t. hash (run t) 0) e
 
-module _ (ws : List ℕ) (count slots : ℕ) (res : List ℕ) (k d : ℕ) (rights replies : List ℕ) where
-  pub takes_full : slots ≤ count → Takes ws count slots res k d rights replies Full ws replies
+module _ (ws : List ℕ) (count slots : ℕ) (res : List ℕ) (k d : ℕ) (rights : List ℕ) (replies : List Reply) where
+  pub takes_full : slots ≤ count → Takes ws count slots res k d rights replies None ws replies
   takes_full h = record { room = tt; exact = λ ns i x ts S c p R e T l. (omega arith, S, refl) }
 
   -- xs is the run in slot k of res
@@ -47,12 +47,12 @@ module _ (ws : List ℕ) (count slots : ℕ) (res : List ℕ) (k d : ℕ) (right
     result_run ns i x R = W.exact x.result R.run
 
     -- no slot has so long a run
-    pub takes_long : 31 < length xs → Takes ws count slots res k d rights replies Full ws replies
+    pub takes_long : 31 < length xs → Takes ws count slots res k d rights replies None ws replies
     takes_long h = record { room = tt; exact = λ ns i x ts S c p R e T l. absurd (omega (arith, size_of (result_run ns i x R), R.run.small)) }
 
     module _ (o : Origin) (O : Originates res k o) where
       -- no result is the start
-      pub takes_start : o ≡ Start → Takes ws count slots res k d rights replies Full ws replies
+      pub takes_start : o ≡ Start → Takes ws count slots res k d rights replies None ws replies
       takes_start g =
           record {
             room = tt;
@@ -74,8 +74,8 @@ module _ (ws : List ℕ) (count slots : ℕ) (res : List ℕ) (k d : ℕ) (right
             (N.slots ns x S c (omega arith) (subst₂ (λ y n. Marks y (noted_at ns n).term x) (sym q) (sym h) R.marks) (result_run ns i x R) (rw h (ap (λ n. n + 1) e)))
 
         -- the right sides are compared with it by the hash that its slot has now
-        pub takes_noted : count < slots → (fs : List ℕ) (n : ℕ) → Strikes rights xs (hash_of ws' count) count replies fs n
-            → Takes ws count slots res k d rights replies (taken.Noted n) ws' fs
+        pub takes_noted : count < slots → (fs : List Reply) (n : ℕ) → Strikes rights xs (hash_of ws' count) count replies fs n
+            → Takes ws count slots res k d rights replies (Some n) ws' fs
         takes_noted h fs n C =
             record {
               room = h;

@@ -3,13 +3,16 @@ use Prim.Native.Nat.{ℕ, suc, ◌+◌, ◌-◌, ◌*◌, ◌≤◌, ◌<◌}
 use native.Mathlib.Omega.{arith}
 use mathlib.Core.Path.{◌≡◌, refl, sym, ap, subst, ◌∙◌}
 use mathlib.Core.List.{List, [], ◌∷◌, ◌++◌, append-nil}
+use borrow.Author.Tests.{lt-leb, le-leb}
 use lib.ListN.{length, take, get_or, set, length-append, length-set}
 use lib.Seq.{slice, slice_empty, slice-cons, append_snoc, get_or-set_same, drop-set-lt, take-set-lt}
+use Rattle.terms.specs.Term.{Term}
+use Rattle.terms.specs.Held.{IsRun}
 use Rattle.terms.proofs.Held.{holds_within}
 use Rattle.search.specs.Line.{Line}
 use Rattle.search.specs.Search.{Noted}
 use Rattle.search.specs.Index.{SLOT}
-use Rattle.search.specs.Runs.{Spells, origin_of, value_of, Originates, Shows}
+use Rattle.search.specs.Runs.{Spells, origin_of, value_of, Originates, Shows, shown}
 use Rattle.search.specs.Slots.{noted_at, Leads, Slots}
 use Rattle.search.specs.Traced.{Linked, Traced, none, more, Traces}
 use Rattle.search.specs.declared.slots.Step.{Step}
@@ -20,15 +23,17 @@ use Rattle.search.proofs.Noting.{noted_run}
 
 -- no slot that has a run is cut short
 
-module _ (ws : List ℕ) (k : ℕ) (xs : List ℕ) where
-  pub shows_no_slot : length ws < SLOT * k + 8 → Shows ws k xs
-  shows_no_slot h = record { exact = λ t s. absurd (omega (arith, holds_within s.held)) }
+module _ (ws : List ℕ) (k : ℕ) where
+  pub shows_none : length ws < SLOT * k + 8 + get_or ws (SLOT * k) 0 → Shows ws k []
+  shows_none h = record { is = rw (lt-leb (SLOT * k + 8 + get_or ws (SLOT * k) 0) (length ws) h); exact = λ t s. absurd (omega (arith, s.count, holds_within s.held)) }
 
-  pub shows_no_run : length ws - (SLOT * k + 8) < get_or ws (SLOT * k) 0 → Shows ws k xs
-  shows_no_run h = record { exact = λ t s. absurd (omega (arith, s.count, holds_within s.held)) }
+  pub shows_run : SLOT * k + 8 + get_or ws (SLOT * k) 0 ≤ length ws → Shows ws k (run_in ws k)
+  shows_run h =
+      let e : SLOT * k + 8 + get_or ws (SLOT * k) 0 - (SLOT * k + 8) ≡ get_or ws (SLOT * k) 0 = omega arith in
+      record { is = rw (e, le-leb (SLOT * k + 8 + get_or ws (SLOT * k) 0) (length ws) h); exact = λ t s. run_spelled s }
 
-pub shows_run : (ws : List ℕ) (k : ℕ) → Shows ws k (run_in ws k)
-shows_run ws k = record { exact = λ t s. run_spelled s }
+pub spelled_shown : {ws : List ℕ} {k : ℕ} {t : Term} → Spells ws k t → IsRun (shown ws k) t
+spelled_shown {ws} {k} {t} s = let S = shows_run ws k (omega (arith, s.count, holds_within s.held)) in rw S.is at (S.exact t s)
 
 pub origin_missed : (ws : List ℕ) (k : ℕ) (o : Origin) → length ws < SLOT * k + 1 + 4 → Originates ws k o
 origin_missed ws k o h = record { exact = λ t s. absurd (omega (arith, holds_within s.held)) }

@@ -1,13 +1,13 @@
 -- A law used at a position, on runs: the laws for each way out of the functions that test it.
 use Prim.Native.Nat.{ℕ, suc, ◌+◌, ◌-◌, ◌≤◌, ◌<◌}
 use native.Mathlib.Omega.{arith}
-use native.Mathlib.Nat.{sub-zero}
 use mathlib.Core.Path.{◌≡◌, refl, sym, ap, ◌∙◌}
-use mathlib.Core.Bool.{Bool, true, false, not}
+use mathlib.Core.Bool.{Bool, true, false}
 use mathlib.Core.Option.{Option, none, some, map}
 use mathlib.Core.List.{List, [], ◌∷◌, ◌++◌}
 use lib.ListN.{length, take, drop, get_or, length-drop}
 use lib.Seq.{take-take, drop-drop, length-take-le}
+use Rattle.std.specs.Prelude.{Some, None}
 use Rattle.terms.specs.Term.{Term, letter, zero, one, add, mul, size}
 use Rattle.terms.specs.Run.{ZERO, ADD, run}
 use Rattle.terms.specs.Held.{Fine, IsRun, Holds}
@@ -27,6 +27,7 @@ use Rattle.search.specs.Law.{semiring}
 use Rattle.search.specs.Coded.{name_of, law_at, law_of, direction_of}
 use Rattle.search.specs.Spliced.{part}
 use Rattle.search.specs.Chain.{named, match_both, is_use, is_line}
+use Rattle.search.specs.Path.{subterm}
 use Rattle.search.specs.Position.{position}
 use Rattle.search.specs.Used.{FitsPair, FitsBoth, Uses, Entered, PartOn}
 use Rattle.search.specs.declared.search.Law.{Law}
@@ -35,13 +36,11 @@ use Rattle.search.specs.declared.search.Direction.{Direction}
 use Rattle.search.specs.declared.search.Spans.{Spans}
 use Rattle.search.specs.declared.search.Binding.{Binding}
 use Rattle.search.specs.declared.search.Binding.TheVariants.{Bound, Unbound}
-use Rattle.search.specs.declared.chain.Part.TheVariants.{At, Nowhere}
 use Rattle.search.specs.Theory.Position.{position_numbered}
 use Rattle.search.specs.Theory.Chain.{Both, match_both_reflects}
 use Rattle.search.proofs.Front.{take_rest}
 use Rattle.search.proofs.Spans.{means_unbound}
 use Rattle.search.proofs.Splits.{starts}
-use Rattle.search.proofs.Trying.{Side}
 use Rattle.search.proofs.RunLine.{RunUse, use_on_runs}
 
 -- the parts of a term
@@ -51,7 +50,7 @@ atom_head : {xs : List ℕ} {n x : ℕ} {t : Term} → Holds xs n t → run t �
 atom_head {xs} {n} {x} h e = (drop_head xs n x h.rest (h.here ∙ ap (λ k. k ++ h.rest) e)).1
 
 module _ (xs : List ℕ) (n : ℕ) where
-  pub no_part : (d : line.Side) → length xs ≤ n → PartOn xs n d Nowhere
+  pub no_part : (d : line.Side) → length xs ≤ n → PartOn xs n d None
   no_part d k = record { within = tt; exact = λ t h p. absurd (omega (arith, holds_within h, size_pos t)) }
 
   atom_part : get_or xs n 0 < ADD → (d : line.Side) (t : Term) → Holds xs n t → (p : List line.Side) → position (d ∷ p) t ≡ none
@@ -62,7 +61,7 @@ module _ (xs : List ℕ) (n : ℕ) where
   atom_part k d (add u v) h p = absurd (omega (arith, (holds_add h).0))
   atom_part k d (mul u v) h p = absurd (omega (arith, (holds_mul h).0))
 
-  pub atom_no_part : (d : line.Side) → get_or xs n 0 < ADD → PartOn xs n d Nowhere
+  pub atom_no_part : (d : line.Side) → get_or xs n 0 < ADD → PartOn xs n d None
   atom_no_part d k = record { within = tt; exact = λ t h p. atom_part k d t h p }
 
   -- a term that is no atom
@@ -81,19 +80,19 @@ module _ (xs : List ℕ) (n : ℕ) where
   shifted f g e none = refl
   shifted f g e (some i) = ap some (e i)
 
-  pub left_part : n < length xs → ADD ≤ get_or xs n 0 → PartOn xs n l (At (n + 1))
-  unfolding position
+  pub left_part : n < length xs → ADD ≤ get_or xs n 0 → PartOn xs n l (Some (n + 1))
+  unfolding position subterm
   left_part inside node =
       record {
         within = omega arith;
         exact = λ t h.
             two_parts (λ t. Entered xs n t l (n + 1)) node t h
-            (λ u v p q. record { part = u; held = p; later = omega arith; positions = λ s. shifted suc _ (λ i. omega arith) (position s u) })
-            (λ u v p q. record { part = u; held = p; later = omega arith; positions = λ s. shifted suc _ (λ i. omega arith) (position s u) });
+            (λ u v p q. record { part = u; is = refl; held = p; later = omega arith; positions = λ s. shifted suc _ (λ i. omega arith) (position s u) })
+            (λ u v p q. record { part = u; is = refl; held = p; later = omega arith; positions = λ s. shifted suc _ (λ i. omega arith) (position s u) });
       }
 
-  pub right_part : (k : ℕ) → n < length xs → ADD ≤ get_or xs n 0 → Ends xs (n + 1) k → PartOn xs n r (At k)
-  unfolding position
+  pub right_part : (k : ℕ) → n < length xs → ADD ≤ get_or xs n 0 → Ends xs (n + 1) k → PartOn xs n r (Some k)
+  unfolding position subterm
   right_part k inside node E =
       record {
         within = E.within (omega arith);
@@ -101,10 +100,10 @@ module _ (xs : List ℕ) (n : ℕ) where
             two_parts (λ t. Entered xs n t r k) node t h
             (λ u v p q.
             let e : k ≡ n + 1 + size u = E.exact u p in
-            record { part = v; held = rw e q; later = omega arith; positions = λ s. shifted (λ i. suc (size u + i)) _ (λ i. omega arith) (position s v) })
+            record { part = v; is = refl; held = rw e q; later = omega arith; positions = λ s. shifted (λ i. suc (size u + i)) _ (λ i. omega arith) (position s v) })
             (λ u v p q.
             let e : k ≡ n + 1 + size u = E.exact u p in
-            record { part = v; held = rw e q; later = omega arith; positions = λ s. shifted (λ i. suc (size u + i)) _ (λ i. omega arith) (position s v) });
+            record { part = v; is = refl; held = rw e q; later = omega arith; positions = λ s. shifted (λ i. suc (size u + i)) _ (λ i. omega arith) (position s v) });
       }
 
 -- two sides matched one after the other
@@ -147,22 +146,7 @@ module _ (p q xs : List ℕ) (at other : ℕ) (z₀ : Spans) (b : Binding) (n : 
     pub pair_both : (y : Spans) → b₂ ≡ Bound y → FitsPair p q xs at other true
     pair_both y k = record { exact = λ u v a c hp gp hq gq Ha Hc. some_found y (match_both u v a c) (second_found (Bound y) k u v a c hp gp hq gq Ha Hc) }
 
-pub fits_law : (w : Law) (d : Direction) (xs : List ℕ) (at other : ℕ) (p q : List ℕ) (b : Bool) → Side p (from (direction_of d) (law_of w))
-    → Side q (to (direction_of d) (law_of w)) → FitsPair p q xs at other b → FitsBoth w d xs at other b
-fits_law w d xs at other p q b P Q F =
-    record {
-      exact = λ a c Ha Hc. F.exact (from (direction_of d) (law_of w)) (to (direction_of d) (law_of w)) a c P.is P.pattern Q.is Q.pattern Ha Hc;
-    }
-
 -- a use
-
-was_false : (b : Bool) → not b ≡ true → b ≡ false
-was_false true e = sym e
-was_false false e = refl
-
-was_true : (b : Bool) → not b ≡ false → b ≡ true
-was_true true e = refl
-was_true false e = sym e
 
 module _ (w : Law) (d : Direction) (both : List ℕ) (middle at : ℕ) (within : middle ≤ length both) where
   -- what is known of the two terms
@@ -220,16 +204,13 @@ module _ (w : Law) (d : Direction) (both : List ℕ) (middle at : ℕ) (within :
   pub use_short : length both ≤ middle + at → Uses w d both middle at false
   use_short h = by (λ s t p k. unseen k (λ u. omega (arith, u.inside, length-drop middle both)))
 
-  module _ (room : middle + at < length both) (b₁ : Bool) (E₁ : Equals (part both 0 at) (part both middle (middle + at)) b₁) where
-    start : part both 0 at ≡ take at both
-    start = rw (sub-zero at)
-
+  module _ (room : middle + at < length both) (b₁ : Bool) (E₁ : Equals (take at both) (part both middle (middle + at)) b₁) where
     front : take (middle + at - middle) (drop middle both) ≡ take at (drop middle both)
     front = let e : middle + at - middle ≡ at = omega arith in rw e
 
-    pub use_before : not b₁ ≡ true → Uses w d both middle at false
+    pub use_before : b₁ ≡ false → Uses w d both middle at false
     use_before e =
-        by (λ s t p k. unseen k (λ u. (rw (was_false b₁ e) at (equal_reflects E₁)) (start ∙ sym (take-take at middle both (omega (arith, inside k))) ∙ u.before ∙ sym front)))
+        by (λ s t p k. unseen k (λ u. (rw e at (equal_reflects E₁)) (sym (take-take at middle both (omega (arith, inside k))) ∙ u.before ∙ sym front)))
 
     module _ (end : ℕ) (N : Ends both at end) where
       ended : {s t : Term} {p : List line.Side} (k : Known s t p) → end ≡ at + size (subterm_at s at)
@@ -256,10 +237,10 @@ module _ (w : Law) (d : Direction) (both : List ℕ) (middle at : ℕ) (within :
             let e : middle + (at + size (subterm_at t at)) ≡ rest = omega (arith, rested k) in
             drop-drop (at + size (subterm_at t at)) middle both ∙ rw e (sym (take_rest both rest))
 
-        pub use_after : not b₂ ≡ true → Uses w d both middle at false
-        use_after e = by (λ s t p k. unseen k (λ u. (rw (was_false b₂ e) at (equal_reflects E₂)) (sym (source_tail k) ∙ u.after ∙ target_tail k)))
+        pub use_after : b₂ ≡ false → Uses w d both middle at false
+        use_after e = by (λ s t p k. unseen k (λ u. (rw e at (equal_reflects E₂)) (sym (source_tail k) ∙ u.after ∙ target_tail k)))
 
-        pub use_fits : (b : Bool) → not b₁ ≡ false → not b₂ ≡ false → FitsBoth w d both at (middle + at) b → Uses w d both middle at b
+        pub use_fits : (b : Bool) → b₁ ≡ true → b₂ ≡ true → FitsBoth w d both at (middle + at) b → Uses w d both middle at b
         use_fits b e₁ e₂ F = by go
           where
             go : (s t : Term) (p : List line.Side) → Known s t p → b ≡ is_use (law_of w) (direction_of d) p s t
@@ -269,8 +250,8 @@ module _ (w : Law) (d : Direction) (both : List ℕ) (middle at : ℕ) (within :
                 last true h =
                     whole_seen k (record {
                       inside = target_inside;
-                      before = take-take at middle both (omega (arith, inside k)) ∙ sym start ∙ rw (was_true b₁ e₁) at (equal_reflects E₁) ∙ front;
-                      after = source_tail k ∙ rw (was_true b₂ e₂) at (equal_reflects E₂) ∙ sym (target_tail k);
+                      before = take-take at middle both (omega (arith, inside k)) ∙ rw e₁ at (equal_reflects E₁) ∙ front;
+                      after = source_tail k ∙ rw e₂ at (equal_reflects E₂) ∙ sym (target_tail k);
                       sides = h;
                     })
                 last false h = unseen k (λ u. h u.sides)

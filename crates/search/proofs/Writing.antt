@@ -3,16 +3,16 @@ use Prim.Native.Nat.{ℕ, suc, ◌+◌, ◌-◌, ◌*◌, ◌≤◌, ◌<◌}
 use native.Mathlib.Omega.{arith}
 use native.Mathlib.Nat.{add-zero}
 use native.Mathlib.Numerals.{towards_suc}
-use mathlib.Core.Path.{◌≡◌, sym, ap, ◌∙◌}
-use mathlib.Core.List.{List, ◌∷◌, ◌++◌}
-use lib.ListN.{length, take, drop, get_or, set, length-set}
-use lib.Seq.{sets, length-sets, take-take, take_at, take-set-le, get_or-set_same, get_or-set_other, length-take-le}
+use mathlib.Core.Path.{◌≡◌, refl, sym, ap, ◌∙◌}
+use mathlib.Core.List.{List, ◌∷◌, ◌++◌, append_assoc}
+use borrow.Rule.Slice.PartMut.{put_mid}
+use lib.ListN.{length, take, drop, get_or, set, length-set, length-append}
+use lib.Seq.{sets, sets-eq, drop-drop, length-sets, take-take, take_at, take-set-le, get_or-set_same, get_or-set_other, length-take-le}
 use Rattle.terms.specs.Term.{Term, size}
 use Rattle.terms.specs.Held.{IsRun}
 use Rattle.terms.specs.Theory.Held.{size_of}
 use Rattle.terms.proofs.Positions.{front_getD}
 use Rattle.terms.proofs.Held.{held_part, holds_part, front_holds}
-use Rattle.words.proofs.Stores.{take_stored}
 use Rattle.search.specs.Origins.{numbers}
 use Rattle.search.specs.Index.{SLOT}
 use Rattle.search.specs.Runs.{Spells, origin_of, value_of, Writes}
@@ -30,6 +30,23 @@ run_in ws k = take (run_length ws k) (drop (SLOT * k + 8) ws)
 pub run_spelled : {ws : List ℕ} {k : ℕ} {t : Term} → Spells ws k t → IsRun (run_in ws k) t
 run_spelled {ws} {k} s = held_part (run_length ws k) s.held (omega (arith, s.count))
 
+-- a part overwritten, as stores one after the other
+pub part_stored : (ws : List ℕ) (a e : ℕ) (vs : List ℕ) → e ≡ a + length vs → e ≤ length ws → put_mid a (e - a) ws vs ≡ sets ws a vs
+part_stored ws a e vs p h =
+    let q : a + (e - a) ≡ a + length vs = omega arith in
+    ap (λ r. take a ws ++ (vs ++ r)) (drop-drop (e - a) a ws ∙ ap (λ n. drop n ws) q)
+    ∙ sym (append_assoc (take a ws) vs (drop (a + length vs) ws)) ∙ sym (sets-eq vs ws a (omega (arith, p)))
+
+-- the list up to the end of what is stored
+take_stored : (ws : List ℕ) (a : ℕ) (xs : List ℕ) → a + length xs ≤ length ws → take (a + length xs) (sets ws a xs) ≡ take a ws ++ xs
+take_stored ws a xs h =
+    let long : length (take a ws ++ xs) ≡ a + length xs = omega (arith, length-append (take a ws) xs, length-take-le a ws (omega arith)) in
+    ap (take (a + length xs)) (sets-eq xs ws a h) ∙ take_at (take a ws ++ xs) (drop (a + length xs) ws) (a + length xs) long
+
+-- a part overwritten after the first n numbers, as far as it
+pub part_appended : (xs : List ℕ) (n : ℕ) (vs : List ℕ) → n + length vs ≤ length xs → take (n + length vs) (put_mid n (n + length vs - n) xs vs) ≡ take n xs ++ vs
+part_appended xs n vs h = ap (take (n + length vs)) (part_stored xs n (n + length vs) vs refl h) ∙ take_stored xs n vs h
+
 -- the numbers at the front of a slot
 abbrev header : ℕ → Origin → List ℕ
 header n o = n ∷ numbers o
@@ -42,9 +59,19 @@ header_stores ws a n o = simp towards_suc
 
 -- what the stores of `write_slot` leave: ws₂ with the origin, ws' with the run
 module _ (ws ws₂ ws' : List ℕ) (k : ℕ) (xs : List ℕ) (o : Origin) (d : ℕ) (room : SLOT * k + SLOT ≤ length ws) (short : length xs ≤ 31)
-    (e : ws₂ ≡ sets (set ws (SLOT * k) (length xs)) (SLOT * k + 1) (numbers o)) (f : ws' ≡ sets (set ws₂ (SLOT * k + 39) d) (SLOT * k + 8) xs) where
+    (e : ws₂ ≡ put_mid (SLOT * k + 1) (SLOT * k + 5 - (SLOT * k + 1)) (set ws (SLOT * k) (length xs)) (numbers o))
+    (f : ws' ≡ put_mid (SLOT * k + 8) (SLOT * k + 8 + length xs - (SLOT * k + 8)) (set ws₂ (SLOT * k + 39) d) xs) where
   abbrev a : ℕ
   a = SLOT * k
+
+  origin_stored : ws₂ ≡ sets (set ws a (length xs)) (a + 1) (numbers o)
+  origin_stored = e ∙ part_stored (set ws a (length xs)) (a + 1) (a + 5) (numbers o) (omega (arith, four o)) (simp length-set (omega arith))
+
+  origin_long : length ws₂ ≡ length ws
+  origin_long = rw origin_stored (length-sets (set ws a (length xs)) (a + 1) (numbers o) ∙ length-set ws a (length xs))
+
+  run_put : ws' ≡ sets (set ws₂ (a + 39) d) (a + 8) xs
+  run_put = f ∙ part_stored (set ws₂ (a + 39) d) (a + 8) (a + 8 + length xs) xs refl (simp length-set (omega (arith, origin_long)))
 
   abbrev headed : List ℕ
   headed = sets ws a (header (length xs) o)
@@ -56,7 +83,7 @@ module _ (ws ws₂ ws' : List ℕ) (k : ℕ) (xs : List ℕ) (o : Origin) (d : �
   m = a + 8 + length xs
 
   stored : ws' ≡ sets written (a + 8) xs
-  stored = rw (e, header_stores ws a (length xs) o) at f
+  stored = rw (origin_stored, header_stores ws a (length xs) o) at run_put
 
   long : length written ≡ length ws
   long = length-set headed (a + 39) d ∙ length-sets ws a (header (length xs) o)

@@ -1,5 +1,5 @@
 -- A law's letters bound at one place: the side that is read matches there, and each letter of the side that is put in is known.
-use Rattle.std.specs.Prelude.{ℕ, ◌<◌, ◌≡◌, Bool, true, false, List, length, get_or}
+use Rattle.std.specs.Prelude.{ℕ, ◌<◌, ◌≡◌, Bool, true, false, not, cond, List, eqb, ltb, length, get_or}
 use Rattle.std.proofs.Math.Option.{Option, none, some}
 use Rattle.terms.specs.Term.{Term, size}
 use Rattle.terms.specs.Run.{run}
@@ -8,7 +8,7 @@ use Rattle.search.specs.Law as law
 use Rattle.search.specs.Match.{Bindings, unbound, match, put}
 use Rattle.search.specs.Line.{forward, back, from, to, rewrite}
 use Rattle.search.specs.Place.{subterm_at}
-use Rattle.search.specs.Span.{Pattern, Means, BoundWithin}
+use Rattle.search.specs.Span.{span_of, Pattern, Means, BoundWithin}
 use Rattle.search.specs.Coded.{law_of, direction_of}
 use Rattle.search.specs.declared.search.Law.{Law}
 use Rattle.search.specs.declared.search.Direction.{Direction}
@@ -21,7 +21,11 @@ abbrev pub known : Option Term → Bool
 known none = false
 known (some u) = true
 
--- of `binds_all`: whether each letter of the side with run q stands for a term
+-- a number that is no letter is known, and so is a letter that has a part
+abbrev pub is_known : Spans → ℕ → Bool
+is_known z x = cond (ltb x 3) (not (eqb (span_of z x).len 0)) true
+
+-- whether each letter of the side with run q stands for a term
 pub record BindsAll (q : List ℕ) (z : Spans) (r : Bool) : Type 0 where
   pub exact : (xs : List ℕ) (p : Term) (σ : Bindings) → Means xs z σ → IsRun q p → Pattern p → r ≡ known (put p σ)
 

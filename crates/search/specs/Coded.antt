@@ -1,5 +1,5 @@
--- The laws and directions of the code: what they stand for, their numbers, and a law's sides as a row of numbers.
-use Rattle.std.specs.Prelude.{ℕ, ◌+◌, ◌≤◌, ◌≡◌, cond, List, [], ◌∷◌, eqb, length, take, drop, get_or}
+-- The laws and directions of the code: what they stand for, their numbers, and the runs of a law's sides.
+use Rattle.std.specs.Prelude.{ℕ, ◌≤◌, cond, List, [], ◌∷◌, eqb, length, get_or}
 use Rattle.terms.specs.Term.{Term, zero}
 use Rattle.terms.specs.Held.{IsRun}
 use Rattle.search.specs.Law as law
@@ -8,6 +8,8 @@ use Rattle.search.specs.Line as line
 use Rattle.search.specs.Span.{Pattern}
 use Rattle.search.specs.declared.search.Law.{Law}
 use Rattle.search.specs.declared.search.Law.TheVariants.{AddAssoc, AddComm, AddZeroRight, MulAssoc, MulOneLeft, MulOneRight, LeftDistrib, RightDistrib, ZeroMul, MulZero}
+use Rattle.search.specs.declared.chain.Side.{Side}
+use Rattle.search.specs.declared.chain.Side.TheVariants.{Left, Right}
 use Rattle.search.specs.declared.search.Direction.{Direction}
 use Rattle.search.specs.declared.search.Direction.TheVariants.{Forward, Back}
 
@@ -59,18 +61,27 @@ abbrev pub direction_number : Direction → ℕ
 direction_number Forward = 0
 direction_number Back = 1
 
+-- the sides of the code
+abbrev pub side_of : Side → line.Side
+side_of Left = line.l
+side_of Right = line.r
+
 -- back past 0
 abbrev pub numbered_direction : ℕ → Direction
 numbered_direction n = cond (eqb n 0) Forward Back
 
--- a pattern's run stands in a row after the position i, which says its length
-pub record SideAt (r : List ℕ) (i : ℕ) (p : Term) : Type 0 where
+-- the run of a pattern, of at most seven numbers
+pub record SideRun (xs : List ℕ) (p : Term) : Type 0 where
   pub pattern : Pattern p
-  pub short : get_or r i 0 ≤ 7
-  pub is : IsRun (take (get_or r i 0) (drop (i + 1) r)) p
+  pub short : length xs ≤ 7
+  pub is : IsRun xs p
 
--- the sides of a law in sixteen numbers
-pub record Row (r : List ℕ) (w : law.Law) : Type 0 where
-  pub count : length r ≡ 16
-  pub left : SideAt r 0 w.left
-  pub right : SideAt r 8 w.right
+-- the runs of a law's sides
+pub record Sides (xs ys : List ℕ) (w : law.Law) : Type 0 where
+  pub left : SideRun xs w.left
+  pub right : SideRun ys w.right
+
+-- the runs of its side that is replaced, read in a direction, and of the side that is put in
+pub record Directed (xs ys : List ℕ) (w : Law) (d : Direction) : Type 0 where
+  pub replaced : SideRun xs (line.from (direction_of d) (law_of w))
+  pub put_in : SideRun ys (line.to (direction_of d) (law_of w))

@@ -1,16 +1,17 @@
 -- The results of an opened term in slots like those of noted terms, and the numbers of their slots in term order.
-use Rattle.std.specs.Prelude.{ℕ, ◌+◌, ◌≤◌, ◌<◌, ◌≡◌, true, false, List, [], ◌∷◌, ◌++◌, length, take, drop}
+use Rattle.std.specs.Prelude.{ℕ, ◌+◌, ◌≤◌, ◌<◌, ◌≡◌, true, false, List, [], ◌∷◌, ◌++◌, length, take, drop, Option, Some, None}
+use Rattle.std.specs.declared.cmp.Ordering as answered
+use Rattle.std.specs.declared.cmp.Ordering.TheVariants.{Less, Equal, Greater}
+use Rattle.terms.specs.Compare.{Ordering, lt, eq, gt, order_numbers}
 use Rattle.terms.specs.Term.{Term}
 use Rattle.terms.specs.Held.{IsRun}
 use Rattle.terms.specs.Sort.{lost, insert, insert_all, Sorted}
 use Rattle.search.specs.Line.{Line, by_result}
 use Rattle.search.specs.Search.{Noted, is_noted}
-use Rattle.search.specs.Runs.{Spells, origin_of}
+use Rattle.search.specs.Runs.{Spells, origin_of, shown}
 use Rattle.search.specs.Slots.{Marks, Slots}
 use Rattle.search.specs.declared.slots.Step.{Step}
 use Rattle.search.specs.declared.slots.Origin.TheVariants.{From}
-use Rattle.search.specs.declared.results.Spot.{Spot}
-use Rattle.search.specs.declared.results.Spot.TheVariants.{At, Already}
 
 -- slot k has the line x on the term t, which is noted in slot `from`
 pub record Result (t : Term) (from : ℕ) (res : List ℕ) (k : ℕ) (x : Line) : Type 0 where
@@ -43,19 +44,29 @@ unknown ns (x ∷ xs) = elim (is_noted x.result ns) [ true ↦ unknown ns xs | f
 abbrev pub joined : List Noted → List Line → List Line → List Line
 joined ns ys xs = insert_all lost by_result ys (unknown ns xs)
 
+-- what the code answers, for an order of the definitions
+abbrev pub answer : Ordering → answered.Ordering
+answer lt = Less
+answer eq = Equal
+answer gt = Greater
+
+-- how the run in slot k compares with xs
+abbrev pub judged : List ℕ → List ℕ → ℕ → answered.Ordering
+judged res xs k = answer (order_numbers (shown res k) xs)
+
 -- what the functions promise
 
 -- where a line goes among others
-abbrev pub Goes : Spot → Line → List Line → Type 0
-Goes (At p) x ys = (p ≤ length ys) × (inserted x ys ≡ take p ys ++ (x ∷ drop p ys))
-Goes Already x ys = inserted x ys ≡ ys
+abbrev pub Goes : Option ℕ → Line → List Line → Type 0
+Goes (Some p) x ys = (p ≤ length ys) × (inserted x ys ≡ take p ys ++ (x ∷ drop p ys))
+Goes None x ys = inserted x ys ≡ ys
 
-abbrev pub SpotWithin : ℕ → Spot → Type 0
-SpotWithin n (At p) = p ≤ n
-SpotWithin n Already = Unit {0}
+abbrev pub SpotWithin : ℕ → Option ℕ → Type 0
+SpotWithin n (Some p) = p ≤ n
+SpotWithin n None = Unit {0}
 
 -- of `spot_of`
-pub record Spotted (res ks xs : List ℕ) (r : Spot) : Type 0 where
+pub record Spotted (res ks xs : List ℕ) (r : Option ℕ) : Type 0 where
   pub within : SpotWithin (length ks) r
   pub goes : (t : Term) (from n : ℕ) (ys : List Line) (x : Line) → Ordered t from res n ks ys → IsRun xs x.result → Goes r x ys
 

@@ -16,9 +16,9 @@ use Rattle.search.specs.declared.slots.Step.{Step}
 abbrev pub tried_by : Step → Term → List Line
 tried_by s t = map (placed t s.place) (at_root (subterm_at t s.place) (law_of s.law) (direction_of s.direction))
 
--- how many nodes a term may have for all its lines, twenty at each place, to have room in `order`
-abbrev pub most_nodes : List ℕ → ℕ
-most_nodes order = length order / 20
+-- how many nodes a term may have for all its lines, twenty at each place, to have room among n results
+abbrev pub most_nodes : ℕ → ℕ
+most_nodes n = n / 20
 
 -- what the functions promise
 
@@ -34,8 +34,8 @@ pub record Adds (ws : List ℕ) (noted : ℕ) (xs : List ℕ) (room deep from : 
   pub exact : (ns : List Noted) (t : Term) (m : Limits) (ys : List Line) → Slots ws ns → length ns ≡ noted → IsRun xs t → m.size ≡ room → m.depth ≡ deep
       → Ordered t from res count (take count order) ys → Ordered t from res' r (take r order') (joined ns ys (allowed m (new t)))
 
--- of `results_of`
-pub record Resulted (ws : List ℕ) (noted : ℕ) (xs : List ℕ) (from room deep : ℕ) (res order : List ℕ) (r : ℕ) : Type 0 where
-  pub few : r ≤ length order
-  pub exact : (ns : List Noted) (t : Term) (m : Limits) → Slots ws ns → length ns ≡ noted → IsRun xs t → size t ≤ most_nodes order → room ≤ 31 → m.size ≡ room → m.depth ≡ deep
+-- of `results_of`, with room for n results
+pub record Resulted (ws : List ℕ) (noted : ℕ) (xs : List ℕ) (from room deep n : ℕ) (res order : List ℕ) (r : ℕ) : Type 0 where
+  pub few : r ≤ n
+  pub exact : (ns : List Noted) (t : Term) (m : Limits) → Slots ws ns → length ns ≡ noted → IsRun xs t → size t ≤ most_nodes n → room ≤ 31 → m.size ≡ room → m.depth ≡ deep
       → Ordered t from res r (take r order) (unknown ns (results semiring m t))

@@ -1,6 +1,6 @@
 -- Terms in the first slots of a workspace, 40 numbers to a slot, and the index over them. Number 0 of a slot is the length of its term's
 -- run, 1 to 4 are the term's origin, 5 to 7 are of the index, the run stands from 8 on, and 39 is a value to which the search gives a meaning.
-use Rattle.std.specs.Prelude.{ℕ, ◌+◌, ◌*◌, ◌≤◌, ◌<◌, ◌≡◌, Bool, true, ◌↔◌, List, length, take, get_or, set}
+use Rattle.std.specs.Prelude.{ℕ, ◌+◌, ◌*◌, ◌≤◌, ◌<◌, ◌≡◌, Bool, true, ◌↔◌, cond, List, [], leb, length, take, drop, get_or, set, Option, Some, None}
 use Rattle.terms.specs.Lists.{◌∈◌}
 use Rattle.terms.specs.Term.{Term, zero, size, same}
 use Rattle.terms.specs.Run.{run}
@@ -8,8 +8,6 @@ use Rattle.terms.specs.Held.{IsRun, Holds}
 use Rattle.search.specs.Origins.{origin_at}
 use Rattle.search.specs.Index.{SLOT, slots_of, hash, bucket, head_of, next_of, hash_of, Newest}
 use Rattle.search.specs.declared.slots.Origin.{Origin}
-use Rattle.search.specs.declared.slots.Found.{Found}
-use Rattle.search.specs.declared.slots.Found.TheVariants.{At, Nothing}
 
 -- slot k has the run of t
 pub record Spells (ws : List ℕ) (k : ℕ) (t : Term) : Type 0 where
@@ -54,34 +52,39 @@ pub record HeldRuns (ws : List ℕ) (ts : List Term) : Type 0 where
 pub record Originates (ws : List ℕ) (k : ℕ) (o : Origin) : Type 0 where
   pub exact : (t : Term) → Spells ws k t → o ≡ origin_of ws k
 
+-- the numbers of the run in slot k: none where the slot is cut short
+abbrev pub shown : List ℕ → ℕ → List ℕ
+shown ws k = cond (leb (SLOT * k + 8 + get_or ws (SLOT * k) 0) (length ws)) (take (get_or ws (SLOT * k) 0) (drop (SLOT * k + 8) ws)) []
+
 -- of `run_of`
 pub record Shows (ws : List ℕ) (k : ℕ) (xs : List ℕ) : Type 0 where
+  pub is : xs ≡ shown ws k
   pub exact : (t : Term) → Spells ws k t → IsRun xs t
 
 -- of `newest`: the newest of the first `count` slots in bucket b
 pub record Heads (ws : List ℕ) (count b r : ℕ) : Type 0 where
   pub exact : (ts : List Term) → Runs ws ts → length ts ≡ count → Newest (home ws ts) b count r
 
--- of `has_run`, for a run with hash h
+-- of `has`, for a run with hash h
 pub record Compares (ws : List ℕ) (k : ℕ) (xs : List ℕ) (h : ℕ) (r : Bool) : Type 0 where
   pub exact : (ts : List Term) (t : Term) → HeldRuns ws ts → k < length ts → IsRun xs t → h ≡ hash xs 0 → r ≡ same t (term_at ts k)
 
 -- the slot that is found is one of the first `count`
-abbrev pub FoundWithin : ℕ → Found → Type 0
-FoundWithin count (At k) = k < count
-FoundWithin count Nothing = Unit {0}
+abbrev pub FoundWithin : ℕ → Option ℕ → Type 0
+FoundWithin count (Some k) = k < count
+FoundWithin count None = Unit {0}
 
 -- it has t, or no slot has
-abbrev pub FoundIn : List Term → Term → Found → Type 0
-FoundIn ts t (At k) = term_at ts k ≡ t
-FoundIn ts t Nothing = t ∈ ts → ⊥
+abbrev pub FoundIn : List Term → Term → Option ℕ → Type 0
+FoundIn ts t (Some k) = term_at ts k ≡ t
+FoundIn ts t None = t ∈ ts → ⊥
 
--- of `slot_of`
-pub record Seeks (ws : List ℕ) (count : ℕ) (xs : List ℕ) (r : Found) : Type 0 where
+-- of `find`
+pub record Seeks (ws : List ℕ) (count : ℕ) (xs : List ℕ) (r : Option ℕ) : Type 0 where
   pub within : FoundWithin count r
   pub exact : (ts : List Term) (t : Term) → Runs ws ts → length ts ≡ count → IsRun xs t → FoundIn ts t r
 
--- of `listed`: whether a slot is found
+-- of `contains`: whether a slot is found
 pub record Finds (ws : List ℕ) (count : ℕ) (xs : List ℕ) (r : Bool) : Type 0 where
   pub exact : (ts : List Term) (t : Term) → Runs ws ts → length ts ≡ count → IsRun xs t → (r ≡ true) ↔ (t ∈ ts)
 

@@ -1,14 +1,16 @@
 -- The path to a noted term as it stands in the slots, and a place read one side after another.
-use Rattle.std.specs.Prelude.{ℕ, ◌-◌, ◌≤◌, ◌<◌, ◌≡◌, List, [], ◌∷◌, length, take}
+use Rattle.std.specs.Prelude.{ℕ, ◌-◌, ◌≤◌, ◌<◌, ◌≡◌, List, [], ◌∷◌, length, take, Option as Answer, Some, None}
+use Rattle.std.proofs.Math.Option.{some}
 use Rattle.terms.specs.Term.{Term, size}
 use Rattle.terms.specs.Held.{Holds}
-use Rattle.search.specs.Line.{Line, Side, l, r}
+use Rattle.search.specs.Line.{Line, Side}
+use Rattle.search.specs.Path.{subterm}
 use Rattle.search.specs.Search.{Noted, entry}
 use Rattle.search.specs.Place.{place_at}
 use Rattle.search.specs.Slots.{noted_at, Slots}
 use Rattle.search.specs.Ordered.{Result}
-use Rattle.search.specs.declared.path.Turn.{Turn}
-use Rattle.search.specs.declared.path.Turn.TheVariants.{Here, Left, Right}
+use Rattle.search.specs.Coded.{side_of}
+use Rattle.search.specs.declared.chain.Side as declared
 
 -- slot k has the term to which the line x leads from the term in slot j
 pub record Linked (ws : List ℕ) (ns : List Noted) (j k : ℕ) (x : Line) : Type 0 where
@@ -33,22 +35,21 @@ pub record Traces (ws : List ℕ) (last : ℕ) (path : List ℕ) (n : ℕ) : Typ
 -- the place i of the term t is on side d, in the part that starts at position n
 pub record OnSide (xs : List ℕ) (t : Term) (i : ℕ) (d : Side) (n at : ℕ) : Type 0 where
   pub part : Term
+  pub is : subterm (d ∷ []) t ≡ some part
   pub held : Holds xs n part
   pub inside : at - n < size part
   pub place : place_at t i ≡ d ∷ place_at part (at - n)
 
-abbrev pub Turned : List ℕ → ℕ → ℕ → Term → Turn → Type 0
-Turned xs from at t Here = place_at t (at - from) ≡ []
-Turned xs from at t (Left n) = OnSide xs t (at - from) l n at
-Turned xs from at t (Right n) = OnSide xs t (at - from) r n at
+abbrev pub Turned : List ℕ → ℕ → ℕ → Term → Answer (declared.Side × ℕ) → Type 0
+Turned xs from at t None = place_at t (at - from) ≡ []
+Turned xs from at t (Some (d, n)) = OnSide xs t (at - from) (side_of d) n at
 
--- a part starts after the term, and not after the place
-abbrev pub Nears : ℕ → ℕ → Turn → Type 0
-Nears from at Here = Unit {0}
-Nears from at (Left n) = (from < n) × (n ≤ at)
-Nears from at (Right n) = (from < n) × (n ≤ at)
+-- a part starts after the term, and not after the place; the term is its own part only at its root
+abbrev pub Nears : ℕ → ℕ → Answer (declared.Side × ℕ) → Type 0
+Nears from at None = at ≤ from
+Nears from at (Some (d, n)) = (from < n) × (n ≤ at)
 
 -- of `side_at`
-pub record Turns (xs : List ℕ) (from at : ℕ) (turn : Turn) : Type 0 where
+pub record Turns (xs : List ℕ) (from at : ℕ) (turn : Answer (declared.Side × ℕ)) : Type 0 where
   pub nears : Nears from at turn
   pub exact : (t : Term) → Holds xs from t → at - from < size t → Turned xs from at t turn

@@ -1,15 +1,17 @@
 // The bounded search, with the noted terms in slots: one for all right sides.
-ghost use Rattle.std.specs.Prelude.{◌+◌, ◌*◌, ◌≤◌, ◌<◌, length};
+ghost use Rattle.std.specs.Prelude.{◌*◌, ◌/◌, ◌≤◌, ◌<◌, length};
 ghost use Rattle.search.specs.Law.{semiring};
 ghost use Rattle.search.specs.Index.{SLOT};
-ghost use Rattle.search.specs.Resulted.{most_nodes};
-ghost use Rattle.search.specs.Searched.{Opens, Takes, Explores, Begins, Searches, Cuts};
+ghost use Rattle.search.specs.Searched.{Begins, Searches, Cuts};
 
-use crate::slots::{Origin, SLOT};
+use crate::replies::Reply;
+use crate::results::Results;
+use crate::search::LARGEST;
+use crate::slots::{HASH, Origin, Runs, SLOT};
 use crate::{index, replies, results, slots};
 
 // How far a search goes: lines in a path, size and depth of a result, terms that are opened.
-#[derive(Clone, Copy)]
+#[derive(Clone, Copy, PartialEq, Eq)]
 pub struct Limits {
     pub steps: u32,
     pub size: u32,
@@ -17,64 +19,8 @@ pub struct Limits {
     pub nodes: u32,
 }
 
-// The results of the term noted in slot `i` that are not among the first `noted`.
-fn open_slot(
-    ws: &[u32],
-    noted: usize,
-    i: usize,
-    limits: Limits,
-    res: &mut [u32],
-    order: &mut [u32],
-) -> usize
-    requires { (SLOT * noted ≤ length ws.now) × (noted ≤ 65535) × (i < 65535) × (SLOT * length order.old ≤ length res.old) × (length order.old ≤ 620) }
-    ensures { Opens semiring ws.now noted i limits res.new order.new result }
-{
-    let k = i as u32;
-    let s = slots::run_of(ws, k);
-    let size = limits.size as usize;
-    let depth = limits.depth as usize;
-    results::results_of(ws, noted, s, k, size, depth, res, order)
-}
-
-// What became of a result: it is noted now, and so many right sides that the search waits for are equal to it; or no slot is left for it.
-#[derive(Drop)]
-pub enum Taken {
-    Noted(usize),
-    Full,
-}
-
-// Takes the result in slot `k` of `res`, whose source is at a distance: it is noted unless no slot is left. A slot of `res` always has
-// a run of at most 31 numbers and a step.
-fn take_result(
-    ws: &mut [u32],
-    noted: usize,
-    slots: usize,
-    res: &[u32],
-    k: u32,
-    distance: u32,
-    rights: &[u32],
-    replies: &mut [u32],
-) -> Taken
-    requires { (noted ≤ slots) × (slots ≤ 65535) × (SLOT * slots ≤ length ws.old) × (distance < 4294967295) × (SLOT * length replies.old ≤ length rights.now) × (length replies.old ≤ 65535) }
-    ensures { Takes ws.old noted slots res.now k distance rights.now replies.old result ws.new replies.new }
-{
-    if slots <= noted {
-        return Taken::Full;
-    }
-    let s = slots::run_of(res, k);
-    if 31 < s.len() {
-        return Taken::Full;
-    }
-    let Origin::From(step) = slots::origin_of(res, k) else {
-        return Taken::Full;
-    };
-    slots::note(ws, noted, s, step, distance + 1);
-    let h = ws[SLOT * noted + 5];
-    Taken::Noted(replies::strike(rights, s, h, noted as u32, replies))
-}
-
 // Why a search stopped: every right side that it waited for is noted; nothing is left to open; a term has no slot left.
-#[derive(Clone, Copy)]
+#[derive(Clone, Copy, PartialEq, Eq)]
 pub enum Stop {
     All,
     Over,
@@ -82,132 +28,159 @@ pub enum Stop {
 }
 
 // How a search ended, with how many terms opened and how many noted.
-#[derive(Clone, Copy)]
+#[derive(Clone, Copy, PartialEq, Eq)]
 pub struct Ended {
     pub stop: Stop,
     pub opened: usize,
     pub noted: usize,
 }
 
-// Opens the noted terms in turn, from the first one on, and notes their results, until the `waiting` right sides whose number is 0 are
-// noted, each with its slot told. The results are not noted when their term is opened, and no two are the same, so that each is new in its
-// turn. The promise is for terms whose lines have room in `order`.
-fn explore(
-    rights: &[u32],
-    replies: &mut [u32],
-    waiting: usize,
+// What a search is for: the right sides, how far it goes, and how many slots there are for noted terms.
+#[derive(Clone, Copy)]
+struct Search<'a> {
+    rights: Runs<'a>,
     limits: Limits,
-    ws: &mut [u32],
     slots: usize,
-    res: &mut [u32],
-    order: &mut [u32],
-) -> Ended
-    requires { (0 < slots) × (slots ≤ 65535) × (SLOT * slots ≤ length ws.old) × (SLOT * length order.old ≤ length res.old) × (length order.old ≤ 620) × (SLOT * length replies.old ≤ length rights.now) × (length replies.old ≤ 65535) }
-    ensures { Explores semiring rights.now waiting limits slots (most_nodes order.old) ws.old ws.new replies.old replies.new result }
-{
-    let mut stop = Stop::Over;
-    let mut opened = 0;
-    let mut missing = waiting;
-    let mut noted = 1;
-    let mut i = 0;
-    'outer: while i < noted {
-        if limits.nodes as usize <= i {
-            break;
+    ghost some: { 0 < slots },
+    ghost few: { slots ≤ 65535 },
+}
+
+impl Search<'_> {
+    ghost use Rattle.search.specs.Resulted.{most_nodes};
+    ghost use Rattle.search.specs.Searched.{Opens, Takes, Explores};
+
+    // The results of the noted term in slot `i` that are not noted.
+    fn open<const NUMBERS: usize, const MOST: usize>(
+        self,
+        noted: Runs<'_>,
+        i: u32,
+        results: &mut Results<NUMBERS, MOST>,
+    )
+        ensures { Opens semiring noted.entry.slots.now noted.entry.count i self.entry.limits MOST results.new.slots results.new.order results.new.count }
+    {
+        let s = noted.run(i);
+        let size = self.limits.size as usize;
+        let depth = self.limits.depth as usize;
+        results::results_of(noted, s, i, size, depth, results);
+    }
+
+    // Takes the result in slot `k` of `res`, whose source is at a distance: it is noted, and so many right sides that the search waits for
+    // are equal to it, unless no slot is left. A slot of `res` always has a run of at most 31 numbers and a step.
+    fn take(
+        self,
+        noted: usize,
+        res: &[u32],
+        k: u32,
+        distance: u32,
+        replies: &mut [Reply],
+        ws: &mut [u32],
+    ) -> Option<usize>
+        requires { (noted ≤ self.slots) × (SLOT * self.slots ≤ length ws.old) × (distance < 4294967295) × (length replies.old ≤ self.rights.count) }
+        ensures { Takes ws.old noted self.entry.slots res.now k distance self.entry.rights.slots.now replies.old result ws.new replies.new }
+    {
+        let s = slots::run_of(res, k);
+        if self.slots <= noted || LARGEST < s.len() {
+            return None;
         }
-        let distance = slots::value_of(ws, i as u32);
-        if limits.steps <= distance {
-            break;
-        }
-        let count = open_slot(ws, noted, i, limits, res, order);
-        opened = i + 1;
-        let mut j = 0;
-        while j < count {
-            let k = order[j];
-            j += 1;
-            match take_result(ws, noted, slots, res, k, distance, rights, replies) {
-                Taken::Noted(struck) => {
-                    noted += 1;
-                    if missing <= struck {
-                        stop = Stop::All;
-                        break 'outer;
-                    }
-                    missing -= struck;
-                }
-                Taken::Full => {
+        let Origin::From(step) = slots::origin_of(res, k) else {
+            return None;
+        };
+        slots::note(ws, noted, s, step, distance + 1);
+        let h = ws[SLOT * noted + HASH];
+        Some(replies::strike(self.rights, s, h, noted as u32, replies))
+    }
+
+    // Opens the noted terms in turn, from the first one on, and notes their results, until the `waiting` right sides that are unnoted are
+    // noted, each with its slot told. The results are not noted when their term is opened, and no two are the same, so that each is new in
+    // its turn. The promise is for terms whose lines have room among the results.
+    fn explore<const NUMBERS: usize, const MOST: usize>(
+        self,
+        waiting: usize,
+        replies: &mut [Reply],
+        ws: &mut [u32],
+        results: &mut Results<NUMBERS, MOST>,
+    ) -> Ended
+        requires { (SLOT * self.slots ≤ length ws.old) × (length replies.old ≤ self.rights.count) }
+        ensures { Explores semiring self.entry.rights.slots.now waiting self.entry.limits self.entry.slots (most_nodes MOST) ws.old ws.new replies.old replies.new result }
+    {
+        let mut stop = Stop::Over;
+        let mut opened = 0;
+        let mut missing = waiting;
+        let mut noted = 1;
+        // Over all slots, since terms are noted as it goes. The labelled loop is left from the inner one: a form of the scope document.
+        'outer: for i in 0..self.slots {
+            if noted <= i || self.limits.nodes as usize <= i {
+                break;
+            }
+            let distance = slots::value_of(ws, i as u32);
+            if self.limits.steps <= distance {
+                break;
+            }
+            let known = Runs {
+                slots: ws,
+                count: noted,
+            };
+            self.open(known, i as u32, results);
+            opened = i + 1;
+            let found = &results.slots;
+            for &k in &results.order[..results.count] {
+                let Some(struck) = self.take(noted, found, k, distance, replies, ws) else {
                     stop = Stop::Full;
                     break 'outer;
+                };
+                noted += 1;
+                if missing <= struck {
+                    stop = Stop::All;
+                    break 'outer;
                 }
+                missing -= struck;
             }
         }
-        i += 1;
+        Ended {
+            stop,
+            opened,
+            noted,
+        }
     }
-    Ended {
-        stop,
-        opened,
-        noted,
+
+    // Explores with room for so many results, in buffers that are filled with zeros first.
+    fn explore_within<const NUMBERS: usize, const MOST: usize>(
+        self,
+        waiting: usize,
+        replies: &mut [Reply],
+        ws: &mut [u32],
+    ) -> Ended
+        requires { (SLOT * MOST ≤ NUMBERS) × (NUMBERS ≤ 24800) × (MOST ≤ 620) × (SLOT * self.slots ≤ length ws.old) × (length replies.old ≤ self.rights.count) }
+        ensures { Explores semiring self.entry.rights.slots.now waiting self.entry.limits self.entry.slots (most_nodes MOST) ws.old ws.new replies.old replies.new result }
+    {
+        let mut results = Results::<NUMBERS, MOST> {
+            slots: [0; NUMBERS],
+            order: [0; MOST],
+            count: 0,
+        };
+        self.explore(waiting, replies, ws, &mut results)
     }
 }
 
-// Explores among terms of at most 7 nodes. Each has at most 140 results, of 40 numbers: one for each place, each law and each direction.
-// The buffers are filled with zeros first, and to fill larger ones takes as long as a short search.
-fn explore_small(
-    rights: &[u32],
-    replies: &mut [u32],
-    waiting: usize,
-    limits: Limits,
-    ws: &mut [u32],
-    slots: usize,
-) -> Ended
-    requires { (0 < slots) × (slots ≤ 65535) × (SLOT * slots ≤ length ws.old) × (SLOT * length replies.old ≤ length rights.now) × (length replies.old ≤ 65535) }
-    ensures { Explores semiring rights.now waiting limits slots 7 ws.old ws.new replies.old replies.new result }
-{
-    let mut res = [0u32; 5600];
-    let mut order = [0u32; 140];
-    explore(
-        rights, replies, waiting, limits, ws, slots, &mut res, &mut order,
-    )
-}
-
-// Explores among terms of at most 31 nodes. Each has at most 620 results.
-fn explore_large(
-    rights: &[u32],
-    replies: &mut [u32],
-    waiting: usize,
-    limits: Limits,
-    ws: &mut [u32],
-    slots: usize,
-) -> Ended
-    requires { (0 < slots) × (slots ≤ 65535) × (SLOT * slots ≤ length ws.old) × (SLOT * length replies.old ≤ length rights.now) × (length replies.old ≤ 65535) }
-    ensures { Explores semiring rights.now waiting limits slots 31 ws.old ws.new replies.old replies.new result }
-{
-    let mut res = [0u32; 24800];
-    let mut order = [0u32; 620];
-    explore(
-        rights, replies, waiting, limits, ws, slots, &mut res, &mut order,
-    )
-}
+// Terms of so many nodes have few results.
+const SMALL: usize = 7;
 
 // Notes left and explores. Results of more than 31 nodes have no room in a slot: the promise is for limits whose size is at most that.
+// A place has at most 20 results, of 40 numbers, so that terms of at most 7 nodes have 140 and those of at most 31 have 620. The buffers
+// are filled with zeros first, and to fill larger ones takes as long as a short search.
 fn explore_from(
     left: &[u32],
-    rights: &[u32],
-    replies: &mut [u32],
+    rights: Runs<'_>,
+    replies: &mut [Reply],
     waiting: usize,
     limits: Limits,
     ws: &mut [u32],
 ) -> Ended
-    requires { (SLOT * length replies.old ≤ length rights.now) × (length replies.old ≤ 65535) }
-    ensures { Begins semiring left.now rights.now waiting limits ws.old ws.new replies.old replies.new result }
+    requires { length replies.old ≤ rights.count }
+    ensures { Begins semiring left.now rights.entry.slots.now waiting limits ws.old ws.new replies.old replies.new result }
 {
     let slots = index::slots_of(ws.len());
-    if slots == 0 {
-        return Ended {
-            stop: Stop::Full,
-            opened: 0,
-            noted: 0,
-        };
-    }
-    if 31 < left.len() {
+    if slots == 0 || LARGEST < left.len() {
         return Ended {
             stop: Stop::Full,
             opened: 0,
@@ -215,25 +188,29 @@ fn explore_from(
         };
     }
     slots::note_start(ws, left);
-    if left.len() <= 7 {
-        if limits.size <= 7 {
-            return explore_small(rights, replies, waiting, limits, ws, slots);
-        }
+    let search = Search {
+        rights,
+        limits,
+        slots,
+    };
+    if left.len() <= SMALL && limits.size as usize <= SMALL {
+        search.explore_within::<5600, 140>(waiting, replies, ws)
+    } else {
+        search.explore_within::<24800, 620>(waiting, replies, ws)
     }
-    explore_large(rights, replies, waiting, limits, ws, slots)
 }
 
 // Searches for paths from left to the right sides, as many as there are replies. Those that match directly need no slot; if there are
 // others, left is noted first, and one search serves them all.
 pub fn search_bounded_rewrite(
     left: &[u32],
-    rights: &[u32],
-    replies: &mut [u32],
+    rights: Runs<'_>,
+    replies: &mut [Reply],
     limits: Limits,
     ws: &mut [u32],
 ) -> Ended
-    requires { (SLOT * length replies.old ≤ length rights.now) × (length replies.old ≤ 65535) }
-    ensures { Searches semiring left.now rights.now limits ws.old ws.new replies.old replies.new result }
+    requires { length replies.old ≤ rights.count }
+    ensures { Searches semiring left.now rights.entry.slots.now limits ws.old ws.new replies.old replies.new result }
 {
     let waiting = replies::match_rights(left, rights, replies);
     if waiting == 0 {
@@ -251,13 +228,6 @@ pub fn search_bounded_rewrite(
 pub fn is_cut(ws: &[u32], ended: Ended, limits: Limits) -> bool
     ensures { Cuts ws.now ended limits result }
 {
-    if ended.noted <= ended.opened {
-        return false;
-    }
-    if index::slots_of(ws.len()) <= ended.opened {
-        return false;
-    }
-    let next = ended.opened as u32;
-    let distance = slots::value_of(ws, next);
-    distance < limits.steps
+    let noted = ended.noted.min(index::slots_of(ws.len()));
+    ended.opened < noted && slots::value_of(ws, ended.opened as u32) < limits.steps
 }

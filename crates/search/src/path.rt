@@ -1,6 +1,7 @@
 // The path to a noted term, read back from the slots, and its places, read one side after another.
 ghost use Rattle.search.specs.Traced.{Traces, Turns};
 
+use crate::chain::Side;
 use crate::slots;
 use crate::slots::Origin;
 use terms::term;
@@ -15,37 +16,28 @@ pub fn path_of(ws: &[u32], last: u32, path: &mut [u32]) -> usize
         return 0;
     }
     let mut k = last;
-    let mut at = count;
-    while 0 < at {
+    for at in (0..count).rev() {
         let Origin::From(step) = slots::origin_of(ws, k) else {
             return 0;
         };
-        at -= 1;
         path[at] = k;
         k = step.parent;
     }
     count
 }
 
-// Where a place of a term is: at its root, or in the part that starts at a position.
-#[derive(Drop)]
-pub enum Turn {
-    Here,
-    Left(usize),
-    Right(usize),
-}
-
-// Where the place `at` of the term that starts at `from` is.
-pub fn side_at(run: &[u32], from: usize, at: usize) -> Turn
+// The part of the term that starts at `from` in which the place `at` is, by its side and where it starts: none at the root.
+pub fn side_at(run: &[u32], from: usize, at: usize) -> Option<(Side, usize)>
     ensures { Turns run.now from at result }
 {
     if at <= from {
-        return Turn::Here;
+        return None;
     }
     let left = from + 1;
     let right = term::end_of(run, left);
-    if at < right {
-        return Turn::Left(left);
-    }
-    Turn::Right(right)
+    Some(if at < right {
+        (Side::Left, left)
+    } else {
+        (Side::Right, right)
+    })
 }

@@ -1,195 +1,155 @@
 // The results of an opened term that are not noted, in slots like those of noted terms, and in term order. They stand apart from the
 // search, which asks for them once for each term that it opens.
-ghost use Rattle.std.specs.Prelude.{◌+◌, ◌*◌, ◌≤◌, ◌<◌, length};
-ghost use Rattle.search.specs.Law.{semiring};
-ghost use Rattle.search.specs.Place.{lines_at};
-ghost use Rattle.search.specs.Bound.{BindsLaw};
+ghost use Rattle.std.specs.Prelude.{◌≡◌, ◌*◌, ◌≤◌};
 ghost use Rattle.search.specs.Index.{SLOT};
-ghost use Rattle.search.specs.Ordered.{Spotted, Keeps};
-ghost use Rattle.search.specs.Resulted.{tried_by, TooDeep, Adds, Resulted};
-ghost use Rattle.search.specs.declared.search.Binding.TheVariants.{Bound};
+ghost use Rattle.search.specs.Ordered.{judged, Spotted};
+ghost use Rattle.search.specs.Resulted.{TooDeep, Resulted};
 
-use crate::line::Filled;
-use crate::search::{Binding, Spans};
-use crate::slots::{Origin, Step};
-use crate::{line, search, slots};
+use crate::search::{Binding, DIRECTIONS, LARGEST, LAWS, Spans};
+use crate::slots::{Origin, Runs, Step};
+use crate::{line, slots};
+use std::cmp::Ordering;
 use terms::term;
-use terms::term::Comparison;
 
-// Where a result goes among those that are in term order.
+// How many lines there are at a place: one for each law and each direction.
+const LINES: usize = LAWS.len() * DIRECTIONS.len();
+
+// The results of one term, in slots like those of noted terms: the first `count` numbers of `order` name their slots, in term order.
 #[derive(Drop)]
-pub enum Spot {
-    At(usize),
-    Already,
+pub struct Results<const NUMBERS: usize, const MOST: usize> {
+    pub slots: [u32; NUMBERS],
+    pub order: [u32; MOST],
+    pub count: usize,
+    ghost room: { SLOT * MOST ≤ NUMBERS },
+    ghost few: { MOST ≤ 620 },
+    ghost counted: { count ≤ MOST },
 }
 
-// The place of a run among the results in the slots that `order` names, by halving the part where it may go.
-fn spot_of(res: &[u32], order: &[u32], s: &[u32]) -> Spot
+// How the run in a slot compares with another.
+fn compare_at(slots: &[u32], k: u32, s: &[u32]) -> Ordering
+    ensures { result ≡ judged slots.now s.now k }
+{
+    term::compare(slots::run_of(slots, k), s)
+}
+
+// The place of a run among the results in the slots that `order` names, by halving the part where it may go: none where it is there.
+fn spot_of(res: &[u32], order: &[u32], s: &[u32]) -> Option<usize>
     ensures { Spotted res.now order.now s.now result }
 {
-    let mut low = 0;
-    let mut high = order.len();
-    while low < high {
-        let p = low + (high - low) / 2;
-        let run = slots::run_of(res, order[p]);
-        match term::compare(s, run) {
-            Comparison::Less => high = p,
-            Comparison::Equal => return Spot::Already,
-            Comparison::Greater => low = p + 1,
-        }
-    }
-    Spot::At(low)
-}
-
-// Puts a result among the first `count`, which are in term order, unless it is there already or is one of the first `noted` in `ws`.
-fn keep(
-    ws: &[u32],
-    noted: usize,
-    s: &[u32],
-    step: Step,
-    res: &mut [u32],
-    order: &mut [u32],
-    count: usize,
-) -> usize
-    requires { (SLOT * noted ≤ length ws.now) × (noted ≤ 65535) × (length s.now ≤ 31) × (SLOT * count + SLOT ≤ length res.old) × (count < length order.old) × (count < 620) }
-    ensures { Keeps ws.now noted s.now step res.old order.old res.new order.new count result }
-{
-    if slots::listed(ws, noted, s) {
-        return count;
-    }
-    let Spot::At(p) = spot_of(&res[..], &order[..count], s) else {
-        return count;
-    };
-    slots::write_slot(res, count, s, Origin::From(step), 0);
-    let end = count + 1;
-    term::shift(&mut order[..end], p, count as u32);
-    end
+    order.binary_search_by(|&k| compare_at(res, k, s)).err()
 }
 
 // Whether the term of a run is deeper than a limit. A term of n nodes is at most half of n deep, so that most runs are not walked.
 fn too_deep(s: &[u32], limit: usize) -> bool
     ensures { TooDeep s.now limit result }
 {
-    if s.len() / 2 <= limit {
-        return false;
-    }
-    limit < term::depth(s)
+    limit < s.len() / 2 && limit < term::depth(s)
 }
 
-// Keeps the line of a step whose law is bound: its result goes among the first `count`, which are in term order, if the buffer has
-// room for it, it keeps the depth and it is not noted.
-fn keep_line(
-    ws: &[u32],
-    noted: usize,
-    step: Step,
-    s: &[u32],
-    z: Spans,
+// A term that is opened: its run and its slot, the terms that are noted already, and how deep a result may be.
+#[derive(Clone, Copy)]
+struct Opened<'a> {
+    run: &'a [u32],
+    slot: u32,
+    noted: Runs<'a>,
     depth: usize,
-    out: &mut [u32],
-    res: &mut [u32],
-    order: &mut [u32],
-    count: usize,
-) -> usize
-    requires { (SLOT * noted ≤ length ws.now) × (noted ≤ 65535) × (step.place < length s.now) × BindsLaw step.law step.direction s.now step.place (Bound z) × (length out.old ≤ 31) × (SLOT * count + SLOT ≤ length res.old) × (count < length order.old) × (count < 620) }
-    ensures { Adds ws.now noted s.now (length out.old) depth step.parent (tried_by step) 1 res.old order.old count res.new order.new result }
-{
-    let law = step.law;
-    let direction = step.direction;
-    let at = step.place as usize;
-    let Filled::To(m) = line::put_line(law, direction, s, at, z, out) else {
-        return count;
-    };
-    if too_deep(&out[..m], depth) {
-        return count;
-    }
-    keep(ws, noted, &out[..m], step, res, order, count)
 }
 
-// Tries each law at a place, forward before back. One with a letter left unbound is passed over, and so is one whose result has no room
-// and one back that makes what it made forward.
-fn lines_at(
-    ws: &[u32],
-    noted: usize,
-    s: &[u32],
-    place: u32,
-    parent: u32,
-    depth: usize,
-    out: &mut [u32],
-    res: &mut [u32],
-    order: &mut [u32],
-    count: usize,
-) -> usize
-    requires { (SLOT * noted ≤ length ws.now) × (noted ≤ 65535) × (place < length s.now) × (length out.old ≤ 31) × (SLOT * (count + 20) ≤ length res.old) × (count + 20 ≤ length order.old) × (count ≤ 600) }
-    ensures { Adds ws.now noted s.now (length out.old) depth parent (λ t. lines_at semiring t place) 20 res.old order.old count res.new order.new result }
-{
-    let at = place as usize;
-    let mut kept = count;
-    let mut n = 0;
-    while n < 20 {
-        let law = search::law_of(n / 2);
-        let direction = search::direction_of(n % 2);
-        n += 1;
-        if line::repeats(law, direction) {
-            continue;
+impl<const NUMBERS: usize, const MOST: usize> Results<NUMBERS, MOST> {
+    ghost use Rattle.std.specs.Prelude.{◌+◌, ◌<◌, length};
+    ghost use Rattle.search.specs.Law.{semiring};
+    ghost use Rattle.search.specs.Place.{lines_at};
+    ghost use Rattle.search.specs.Bound.{BindsLaw};
+    ghost use Rattle.search.specs.Ordered.{Keeps};
+    ghost use Rattle.search.specs.Resulted.{tried_by, Adds, Resulted};
+    ghost use Rattle.search.specs.declared.search.Binding.TheVariants.{Bound};
+
+    // Puts a result in its place in term order, unless it is there already or is noted.
+    fn keep(&mut self, noted: Runs<'_>, s: &[u32], step: Step)
+        requires { (length s.now ≤ 31) × (self.old.count < MOST) }
+        ensures { Keeps noted.entry.slots.now noted.entry.count s.now step self.old.slots self.old.order self.new.slots self.new.order self.old.count self.new.count }
+    {
+        if noted.contains(s) {
+            return;
         }
-        if line::outgrows(law, direction, s.len(), out.len()) {
-            continue;
-        }
-        let binding = line::bind_law(law, direction, s, at);
-        let Binding::Bound(z) = binding else {
-            continue;
+        let Some(place) = spot_of(&self.slots, &self.order[..self.count], s) else {
+            return;
         };
-        let step = Step {
-            law,
-            direction,
-            place,
-            parent,
-        };
-        kept = keep_line(ws, noted, step, s, z, depth, out, res, order, kept);
+        let slot = self.count;
+        slots::write_slot(&mut self.slots, slot, s, Origin::From(step), 0);
+        self.count += 1;
+        term::shift(&mut self.order[..slot + 1], place, slot as u32);
     }
-    kept
+
+    // Keeps the line of a step whose law is bound: its result, if the buffer has room for it, it keeps the depth and it is not noted.
+    fn keep_line(&mut self, term: Opened<'_>, step: Step, z: Spans, out: &mut [u32])
+        requires { (step.place < length term.run.now) × BindsLaw step.law step.direction term.run.now step.place (Bound z) × (length out.old ≤ 31) × (self.old.count < MOST) }
+        ensures { Adds term.entry.noted.slots.now term.entry.noted.count term.entry.run.now (length out.old) term.entry.depth step.parent (tried_by step) 1 self.old.slots self.old.order self.old.count self.new.slots self.new.order self.new.count }
+    {
+        let at = step.place as usize;
+        let Some(end) = line::put_line(step.law, step.direction, term.run, at, z, out) else {
+            return;
+        };
+        let result = &out[..end];
+        if !too_deep(result, term.depth) {
+            self.keep(term.noted, result, step);
+        }
+    }
+
+    // Tries each law at a place, forward before back. One with a letter left unbound is passed over, and so is one whose result has no
+    // room and one back that makes what it made forward.
+    fn lines_at(&mut self, term: Opened<'_>, place: u32, out: &mut [u32])
+        requires { (place < length term.run.now) × (length out.old ≤ 31) × (self.old.count + 20 ≤ MOST) }
+        ensures { Adds term.entry.noted.slots.now term.entry.noted.count term.entry.run.now (length out.old) term.entry.depth term.entry.slot (λ t. lines_at semiring t place) 20 self.old.slots self.old.order self.old.count self.new.slots self.new.order self.new.count }
+    {
+        for law in LAWS {
+            for direction in DIRECTIONS {
+                if line::repeats(law, direction)
+                    || line::outgrows(law, direction, term.run.len(), out.len())
+                {
+                    continue;
+                }
+                let binding = line::bind_law(law, direction, term.run, place as usize);
+                // In the form that the scope document names.
+                let Binding::Bound(z) = binding else {
+                    continue;
+                };
+                let step = Step {
+                    law,
+                    direction,
+                    place,
+                    parent: term.slot,
+                };
+                self.keep_line(term, step, z, out);
+            }
+        }
+    }
 }
 
-// The results of the term of a run that keep size and depth and are not noted, in term order: `order` names their slots. At each
-// place there are at most twenty lines, one for each law and each direction. A term of so many places that they may have no room is not
-// tried.
-pub fn results_of(
-    ws: &[u32],
-    noted: usize,
-    s: &[u32],
+// The results of the term of a run that keep size and depth and are not noted, in term order. A term of so many places that its lines may
+// have no room is not tried.
+pub fn results_of<'a, const NUMBERS: usize, const MOST: usize>(
+    noted: Runs<'a>,
+    s: &'a [u32],
     parent: u32,
     size: usize,
     depth: usize,
-    res: &mut [u32],
-    order: &mut [u32],
-) -> usize
-    requires { (SLOT * noted ≤ length ws.now) × (noted ≤ 65535) × (SLOT * length order.old ≤ length res.old) × (length order.old ≤ 620) }
-    ensures { Resulted ws.now noted s.now parent size depth res.new order.new result }
+    results: &mut Results<NUMBERS, MOST>,
+)
+    ensures { Resulted noted.entry.slots.now noted.entry.count s.now parent size depth MOST results.new.slots results.new.order results.new.count }
 {
-    let most = order.len() / 20;
-    if most < s.len() {
-        return 0;
+    results.count = 0;
+    if MOST / LINES < s.len() || LARGEST < size {
+        return;
     }
-    if 31 < size {
-        return 0;
+    let term = Opened {
+        run: s,
+        slot: parent,
+        noted,
+        depth,
+    };
+    let mut out = [0u32; LARGEST];
+    for place in 0..s.len() {
+        results.lines_at(term, place as u32, &mut out[..size]);
     }
-    let mut out = [0u32; 31];
-    let mut count = 0;
-    let mut i = 0;
-    while i < s.len() {
-        count = lines_at(
-            ws,
-            noted,
-            s,
-            i as u32,
-            parent,
-            depth,
-            &mut out[..size],
-            res,
-            order,
-            count,
-        );
-        i += 1;
-    }
-    count
 }

@@ -1,14 +1,13 @@
 // The laws, matching, and the direct match.
 ghost use Rattle.std.specs.Prelude.{◌≡◌, ◌++◌, ◌+◌, ◌≤◌, ◌<◌, length, take};
-ghost use Rattle.search.specs.Coded.{law_of, law_number, numbered_law, direction_number, numbered_direction, Row};
-ghost use Rattle.search.specs.Span.{span_of, with_span, no_spans, Within, letter_met, Meets, Matches};
+ghost use Rattle.search.specs.Coded.{law_of, law_number, numbered_law, direction_number, numbered_direction, Sides, Directed};
+ghost use Rattle.search.specs.Span.{span_of, with_span, Within, letter_met, Meets, Matches};
 ghost use Rattle.search.specs.Directly.{BindsSides, TakesFirst, Directs};
 
 use terms::term;
 use terms::term::{ADD, MUL, ONE, ZERO};
-use words::normal_form::copy;
 
-#[derive(Clone, Copy)]
+#[derive(Clone, Copy, PartialEq, Eq)]
 pub enum Law {
     AddAssoc,
     AddComm,
@@ -22,31 +21,14 @@ pub enum Law {
     MulZero,
 }
 
-#[derive(Clone, Copy)]
+#[derive(Clone, Copy, PartialEq, Eq)]
 pub enum Direction {
     Forward,
     Back,
 }
 
-// The place of a law in the law order.
-pub fn law_number(law: Law) -> u32
-    ensures { (result ≡ law_number law) × (result < 10) }
-{
-    match law {
-        Law::AddAssoc => 0,
-        Law::AddComm => 1,
-        Law::AddZeroRight => 2,
-        Law::MulAssoc => 3,
-        Law::MulOneLeft => 4,
-        Law::MulOneRight => 5,
-        Law::LeftDistrib => 6,
-        Law::RightDistrib => 7,
-        Law::ZeroMul => 8,
-        Law::MulZero => 9,
-    }
-}
-
-const ORDER: [Law; 10] = [
+// The laws in law order.
+pub const LAWS: [Law; 10] = [
     Law::AddAssoc,
     Law::AddComm,
     Law::AddZeroRight,
@@ -59,131 +41,137 @@ const ORDER: [Law; 10] = [
     Law::MulZero,
 ];
 
-// The law with a number: the first one past 9.
-pub fn law_of(n: u32) -> Law
-    ensures { result ≡ numbered_law n }
-{
-    let i = n as usize;
-    if i < 10 {
-        return ORDER[i];
+// The directions in the order in which they are tried.
+pub const DIRECTIONS: [Direction; 2] = [Direction::Forward, Direction::Back];
+
+// The place of a law in the law order.
+impl From<Law> for u32 {
+    ghost from_gives = { λ law n. (n ≡ law_number law) × (n < 10) };
+
+    fn from(law: Law) -> u32 {
+        law as u32
     }
-    Law::AddAssoc
 }
 
-pub fn direction_number(direction: Direction) -> u32
-    ensures { (result ≡ direction_number direction) × (result < 2) }
-{
-    match direction {
-        Direction::Forward => 0,
-        Direction::Back => 1,
+// The law with a number: the first one past 9.
+impl From<u32> for Law {
+    ghost from_gives = { λ n law. law ≡ numbered_law n };
+
+    fn from(n: u32) -> Law {
+        LAWS.get(n as usize).copied().unwrap_or(LAWS[0])
+    }
+}
+
+impl From<Direction> for u32 {
+    ghost from_gives = { λ direction n. (n ≡ direction_number direction) × (n < 2) };
+
+    fn from(direction: Direction) -> u32 {
+        direction as u32
     }
 }
 
 // The direction with a number: back past 0.
-pub fn direction_of(n: u32) -> Direction
-    ensures { result ≡ numbered_direction n }
-{
-    if n == 0 {
-        Direction::Forward
-    } else {
-        Direction::Back
+impl From<u32> for Direction {
+    ghost from_gives = { λ n direction. direction ≡ numbered_direction n };
+
+    fn from(n: u32) -> Direction {
+        if n == 0 {
+            Direction::Forward
+        } else {
+            Direction::Back
+        }
     }
 }
 
+// The most nodes of a term.
+pub const LARGEST: usize = 31;
+
+// The letters of a law. A letter of a term is below ZERO, and one of a law below LETTERS.
 const A: u32 = 0;
 
 const B: u32 = 1;
 
 const C: u32 = 2;
 
-// The sides of a law: at 0 and at 8 how many numbers the left and the right one have, and after that the side's run.
-pub fn row_of(law: Law) -> [u32; 16]
-    ensures { Row result (law_of law) }
+pub const LETTERS: u32 = 3;
+
+// The sides of a law, the left and the right one, as runs.
+pub fn sides_of(law: Law) -> (&'static [u32], &'static [u32])
+    ensures { Sides result.0.now result.1.now (law_of law) }
 {
     match law {
-        Law::AddAssoc => [5, ADD, A, ADD, B, C, 0, 0, 5, ADD, ADD, A, B, C, 0, 0],
-        Law::AddComm => [3, ADD, A, B, 0, 0, 0, 0, 3, ADD, B, A, 0, 0, 0, 0],
-        Law::AddZeroRight => [1, A, 0, 0, 0, 0, 0, 0, 3, ADD, A, ZERO, 0, 0, 0, 0],
-        Law::MulAssoc => [5, MUL, A, MUL, B, C, 0, 0, 5, MUL, MUL, A, B, C, 0, 0],
-        Law::MulOneLeft => [1, A, 0, 0, 0, 0, 0, 0, 3, MUL, ONE, A, 0, 0, 0, 0],
-        Law::MulOneRight => [1, A, 0, 0, 0, 0, 0, 0, 3, MUL, A, ONE, 0, 0, 0, 0],
-        Law::LeftDistrib => [7, ADD, MUL, A, B, MUL, A, C, 5, MUL, A, ADD, B, C, 0, 0],
-        Law::RightDistrib => [7, ADD, MUL, A, C, MUL, B, C, 5, MUL, ADD, A, B, C, 0, 0],
-        Law::ZeroMul => [1, ZERO, 0, 0, 0, 0, 0, 0, 3, MUL, ZERO, A, 0, 0, 0, 0],
-        Law::MulZero => [1, ZERO, 0, 0, 0, 0, 0, 0, 3, MUL, A, ZERO, 0, 0, 0, 0],
+        Law::AddAssoc => (&[ADD, A, ADD, B, C], &[ADD, ADD, A, B, C]),
+        Law::AddComm => (&[ADD, A, B], &[ADD, B, A]),
+        Law::AddZeroRight => (&[A], &[ADD, A, ZERO]),
+        Law::MulAssoc => (&[MUL, A, MUL, B, C], &[MUL, MUL, A, B, C]),
+        Law::MulOneLeft => (&[A], &[MUL, ONE, A]),
+        Law::MulOneRight => (&[A], &[MUL, A, ONE]),
+        Law::LeftDistrib => (&[ADD, MUL, A, B, MUL, A, C], &[MUL, A, ADD, B, C]),
+        Law::RightDistrib => (&[ADD, MUL, A, C, MUL, B, C], &[MUL, ADD, A, B, C]),
+        Law::ZeroMul => (&[ZERO], &[MUL, ZERO, A]),
+        Law::MulZero => (&[ZERO], &[MUL, A, ZERO]),
+    }
+}
+
+// The side of a law that is replaced, read in a direction, and the side that is put in for it.
+pub fn sides(law: Law, direction: Direction) -> (&'static [u32], &'static [u32])
+    ensures { Directed result.0.now result.1.now law direction }
+{
+    let (left, right) = sides_of(law);
+    match direction {
+        Direction::Forward => (left, right),
+        Direction::Back => (right, left),
     }
 }
 
 // A part of a run: where it starts and how many numbers it has. A part of no numbers stands for none.
-#[derive(Clone, Copy)]
+#[derive(Clone, Copy, PartialEq, Eq)]
 pub struct Span {
     pub at: usize,
     pub len: usize,
 }
 
 // The parts of a run that a law's letters stand for.
-#[derive(Clone, Copy)]
+#[derive(Clone, Copy, PartialEq, Eq)]
 pub struct Spans {
     pub a: Span,
     pub b: Span,
     pub c: Span,
 }
 
-// What matching finds.
-#[derive(Drop)]
+// What matching finds. An enum of its own, since that is its form in the scope document.
+#[derive(Clone, Copy, PartialEq, Eq)]
 pub enum Binding {
     Bound(Spans),
     Unbound,
 }
 
-pub fn no_spans() -> Spans
-    ensures { result ≡ no_spans }
-{
-    Spans {
-        a: Span { at: 0, len: 0 },
-        b: Span { at: 0, len: 0 },
-        c: Span { at: 0, len: 0 },
-    }
-}
+// No letter stands for a part.
+pub const NO_SPANS: Spans = Spans {
+    a: Span { at: 0, len: 0 },
+    b: Span { at: 0, len: 0 },
+    c: Span { at: 0, len: 0 },
+};
 
 // The part that a letter stands for.
 pub fn span_of(z: Spans, x: u32) -> Span
     ensures { result ≡ span_of z x }
 {
-    if x == 0 {
-        return z.a;
+    match x {
+        A => z.a,
+        B => z.b,
+        _ => z.c,
     }
-    if x == 1 {
-        return z.b;
-    }
-    z.c
 }
 
 // The parts with another one for a letter.
-fn with_span(z: Spans, x: u32, at: usize, len: usize) -> Spans
-    ensures { result ≡ with_span z x (record { at = at; len = len }) }
+fn with_span(z: Spans, x: u32, span: Span) -> Spans
+    ensures { result ≡ with_span z x span }
 {
-    let a = z.a;
-    let b = z.b;
-    let c = z.c;
-    if x == 0 {
-        return Spans {
-            a: Span { at, len },
-            b,
-            c,
-        };
-    }
-    if x == 1 {
-        return Spans {
-            a,
-            b: Span { at, len },
-            c,
-        };
-    }
-    Spans {
-        a,
-        b,
-        c: Span { at, len },
+    match x {
+        A => Spans { a: span, ..z },
+        B => Spans { b: span, ..z },
+        _ => Spans { c: span, ..z },
     }
 }
 
@@ -193,12 +181,7 @@ fn may_meet(s: &[u32], z: Spans, x: u32, at: usize, end: usize) -> bool
     ensures { Meets s.now z x at end (letter_met z x at end result) }
 {
     let old = span_of(z, x);
-    let from = old.at;
-    let len = old.len;
-    if len == 0 {
-        return true;
-    }
-    term::equal(&s[from..from + len], &s[at..end])
+    old.len == 0 || s[old.at..old.at + old.len] == s[at..end]
 }
 
 // Matches the pattern whose run is `p` against the term whose run starts at `at`, from what the letters stand for already.
@@ -208,25 +191,25 @@ pub fn bind(p: &[u32], s: &[u32], at: usize, z: Spans) -> Binding
 {
     let mut bound = z;
     let mut i = at;
-    let mut k = 0;
-    while k < p.len() {
-        let x = p[k];
-        k += 1;
-        if x < 3 {
+    for &x in p {
+        if x < LETTERS {
             let end = term::end_of(s, i);
             if !may_meet(s, bound, x, i, end) {
                 return Binding::Unbound;
             }
-            bound = with_span(bound, x, i, end - i);
+            bound = with_span(
+                bound,
+                x,
+                Span {
+                    at: i,
+                    len: end - i,
+                },
+            );
             i = end;
-        } else {
-            if s.len() <= i {
-                return Binding::Unbound;
-            }
-            if s[i] != x {
-                return Binding::Unbound;
-            }
+        } else if i < s.len() && s[i] == x {
             i += 1;
+        } else {
+            return Binding::Unbound;
         }
     }
     Binding::Bound(bound)
@@ -237,60 +220,45 @@ pub fn bind_sides(law: Law, both: &[u32], middle: usize) -> Binding
     requires { middle ≤ length both.now }
     ensures { BindsSides law both.now middle result }
 {
-    let row = row_of(law);
-    let left = 1 + row[0] as usize;
-    let right = 9 + row[8] as usize;
-    let sides = &row[..];
-    let Binding::Bound(z) = bind(&sides[1..left], both, 0, no_spans()) else {
+    let (left, right) = sides_of(law);
+    let Binding::Bound(z) = bind(left, both, 0, NO_SPANS) else {
         return Binding::Unbound;
     };
-    bind(&sides[9..right], both, middle, z)
+    bind(right, both, middle, z)
 }
 
-// Puts numbers after the first `n` of a buffer, which has room for them: the position after them.
+// Puts numbers after the first `n` of a buffer, which has room for them: the position after them. A buffer goes by positions, and not by
+// its parts, since the parts that letters stand for are positions too.
 pub fn append(out: &mut [u32], n: usize, src: &[u32]) -> usize
     requires { n + length src.now ≤ length out.old }
     ensures { (result ≡ n + length src.now) × (take result out.new ≡ take n out.old ++ src.now) }
 {
-    copy(out, n, src);
-    n + src.len()
-}
-
-// What the direct match finds.
-#[derive(Drop)]
-pub enum Direct {
-    By(Law),
-    Nothing,
+    let end = n + src.len();
+    out[n..end].copy_from_slice(src);
+    end
 }
 
 // The first law whose sides match the terms at the front of a list and at `middle`.
-fn first_law(both: &[u32], middle: usize) -> Direct
+fn first_law(both: &[u32], middle: usize) -> Option<Law>
     requires { middle ≤ length both.now }
     ensures { TakesFirst both.now middle result }
 {
-    let mut n: u32 = 0;
-    while n < 10 {
-        let law = law_of(n);
-        n += 1;
-        let Binding::Bound(_) = bind_sides(law, both, middle) else {
-            continue;
-        };
-        return Direct::By(law);
+    for law in LAWS {
+        if let Binding::Bound(_) = bind_sides(law, both, middle) {
+            return Some(law);
+        }
     }
-    Direct::Nothing
+    None
 }
 
 // The first law whose sides match two terms of at most 31 nodes. Their runs stand in one list, so that spans are positions of it.
-pub fn search_direct_axiom(left: &[u32], right: &[u32]) -> Direct
+pub fn search_direct_axiom(left: &[u32], right: &[u32]) -> Option<Law>
     ensures { Directs left.now right.now result }
 {
-    if 31 < left.len() {
-        return Direct::Nothing;
+    if LARGEST < left.len() || LARGEST < right.len() {
+        return None;
     }
-    if 31 < right.len() {
-        return Direct::Nothing;
-    }
-    let mut both = [0u32; 62];
+    let mut both = [0u32; 2 * LARGEST];
     let middle = append(&mut both, 0, left);
     append(&mut both, middle, right);
     first_law(&both, middle)

@@ -1,36 +1,40 @@
 -- `is_use` meets its contract: the runs before, behind, and the law's sides at the position.
 use native.Mathlib.Omega.{arith}
-use mathlib.Core.Path.{ap}
-use mathlib.Core.Bool.{not}
+use mathlib.Core.Path.{◌≡◌, refl, sym, ◌∙◌}
+use mathlib.Core.Bool.{true, false}
+use borrow.Author.Tests.{lt-leb, not-true, not-false}
+use Rattle.terms.proofs.Compared.{equals}
 use Rattle.search.proofs.Using.{use_short, use_before, use_long, use_after, use_fits}
 use borrow.Author.Rules.{rules}
+use Rattle.search.proofs.chain.is_use.Goals.{then-both-other-via-then-both-other, then-both-other-via-else-both-other+then-ne, then-end-middle, else-end-middle}
 use Rattle.search.proofs.chain.is_use.Goals as goal
 
 pub returns-then-both-other : goal.returns-then-both-other
-returns-then-both-other c = search (use_short, rules)
-
-pub returns-then-not-equal : goal.returns-then-not-equal
-returns-then-not-equal c =
+returns-then-both-other c =
     let a = c.args in
-    use_before a.law a.direction a.both.now a.middle a.at c.requires.1 (omega arith) _ c.equal.ensures (ap not c.if-not-equal.true)
+    elim c.then-both-other.branch [
+      | then-both-other-via-then-both-other w ↦ search (use_short, rules)
+      | then-both-other-via-else-both-other+then-ne w ↦
+          use_before a.law a.direction a.both.now a.middle a.at c.requires.1 (omega arith) _ (equals refl) (not-true _ (sym w.ne.ensures ∙ w.if-ne.true))
+    ]
 
-pub returns-then-middle-end : goal.returns-then-middle-end
-returns-then-middle-end c = search (use_long, rules)
-
-pub offset_bounds-both-rest : goal.offset_bounds-both-rest
-offset_bounds-both-rest c = omega (arith, c.end_of-rest.ensures.within (omega arith))
-
-pub slice_bounds-equal-count-4 : goal.slice_bounds-equal-count-4
-slice_bounds-equal-count-4 c = omega (arith, c.end_of-rest.ensures.within (omega arith))
-
-pub returns-then-not-equal-2 : goal.returns-then-not-equal-2
-returns-then-not-equal-2 c =
+pub returns-then-eq : goal.returns-then-eq
+returns-then-eq c =
     let a = c.args in
-    use_after a.law a.direction a.both.now a.middle a.at c.requires.1 (omega arith) _ c.equal.ensures _ c.end_of-end.ensures (omega arith) _
-    c.end_of-rest.ensures _ c.equal-2.ensures (ap not c.if-not-equal-2.true)
+    elim c.if-end-middle.branch [
+      | then-end-middle w ↦
+          use_fits a.law a.direction a.both.now a.middle a.at c.requires.1 (omega arith) _ (equals refl) _ c.end_of-end.ensures (omega arith) _
+          c.end_of-rest.ensures _ (equals w.eq.ensures) _ (not-false _ (sym c.ne.ensures ∙ c.if-ne.false)) (sym w.value-is ∙ c.if-eq.true) c.fits_both.ensures
+      | else-end-middle w ↦ let e : true ≡ false = sym c.if-eq.true ∙ w.value-is ∙ lt-leb _ _ w.if-end-middle.false in cc
+    ]
 
-pub returns : goal.returns
-returns c =
+pub returns-else-eq : goal.returns-else-eq
+returns-else-eq c =
     let a = c.args in
-    use_fits a.law a.direction a.both.now a.middle a.at c.requires.1 (omega arith) _ c.equal.ensures _ c.end_of-end.ensures (omega arith) _
-    c.end_of-rest.ensures _ c.equal-2.ensures _ (ap not c.if-not-equal.false) (ap not c.if-not-equal-2.false) c.fits_both.ensures
+    elim c.if-end-middle.branch [
+      | then-end-middle w ↦ rw c.if-eq.false (
+          use_after a.law a.direction a.both.now a.middle a.at c.requires.1 (omega arith) _ (equals refl) _ c.end_of-end.ensures (omega arith) _
+          c.end_of-rest.ensures _ (equals w.eq.ensures) (sym w.value-is ∙ c.if-eq.false))
+      | else-end-middle w ↦ rw c.if-eq.false (
+          use_long a.law a.direction a.both.now a.middle a.at c.requires.1 (omega arith) _ (equals refl) _ c.end_of-end.ensures w.if-end-middle.false)
+    ]

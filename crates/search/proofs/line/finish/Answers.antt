@@ -1,13 +1,10 @@
 -- `finish` meets its contract, by what comparing the new part with the old one tells.
-use Rattle.search.proofs.Splicing.{finish_same, finish_long, finish_rest}
-use borrow.Author.Rules.{rules}
+use Rattle.terms.proofs.Compared.{equals}
+use Rattle.search.proofs.Splicing.{finish_rest}
 use Rattle.search.proofs.line.finish.Goals as goal
 
-pub returns-then-equal : goal.returns-then-equal
-returns-then-equal c = search (finish_same, rules)
-
-pub returns-then-out-m : goal.returns-then-out-m
-returns-then-out-m c = search (finish_long, rules)
-
 pub returns : goal.returns
-returns c = search (finish_rest, rules)
+returns c =
+    let a = c.args in
+    let h = c.requires in
+    finish_rest a.s.now a.at a.end a.out.now a.n a.m c.append.new.out _ (equals c.eq.ensures) h.1 h.3 _ c.if-eq.false c.if-out-m.false c.append.ensures.0 c.append.ensures.1

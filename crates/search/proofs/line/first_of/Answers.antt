@@ -1,10 +1,8 @@
--- `first_of` meets its contract: each law has a number in either direction.
-use Rattle.search.proofs.Firsts.{direction_told}
-use borrow.Author.Rules.{rules}
+-- `first_of` meets its contract.
 use Rattle.search.proofs.line.first_of.Goals as goal
 
 pub returns-in-Forward : goal.returns-in-Forward
-returns-in-Forward c = search (direction_told, rules)
+returns-in-Forward c = rw c.in-Forward.is c.firsts-forward.ensures.0
 
 pub returns-in-Back : goal.returns-in-Back
-returns-in-Back c = search (direction_told, rules)
+returns-in-Back c = rw c.in-Back.is c.firsts-forward.ensures.1

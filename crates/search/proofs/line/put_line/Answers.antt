@@ -1,17 +1,6 @@
--- `put_line` meets its contract: the row of the law has the side that is put in.
-use Rattle.search.proofs.Matching.{end_within}
-use Rattle.search.proofs.Trying.{to_forward, to_back, tries_put}
-use borrow.Author.Rules.{rules}
+-- `put_line` meets its contract.
+use Rattle.search.proofs.Trying.{tries_put}
 use Rattle.search.proofs.line.put_line.Goals as goal
 
-pub splice-requires : goal.splice-requires
-splice-requires c = search (end_within, rules)
-
-pub splice-requires-in-Back : goal.splice-requires-in-Back
-splice-requires-in-Back c = search (end_within, rules)
-
-pub returns-in-Forward : goal.returns-in-Forward
-returns-in-Forward c = search (tries_put, to_forward, rules)
-
-pub returns-in-Back : goal.returns-in-Back
-returns-in-Back c = search (tries_put, to_back, rules)
+pub returns : goal.returns
+returns c = tries_put _ _ _ _ _ _ _ _ _ _ c.sides.ensures.put_in c.requires.1 c.end_of-end.ensures c.splice.ensures

@@ -1,13 +1,13 @@
 -- `repeats` meets its contract.
-use Rattle.search.proofs.Repeating.{not_repeated, comm_repeated}
+use mathlib.Core.Path.{sym, ◌∙◌}
+use denote.Enum.Bare.{same_true}
+use Rattle.search.specs.contracts.search.Law as law
+use Rattle.search.specs.contracts.search.Direction as direction
+use Rattle.search.proofs.Repeating.{comm_repeated}
 use borrow.Author.Rules.{rules}
 use Rattle.search.proofs.line.repeats.Goals as goal
 
-pub returns-in_default : goal.returns-in_default
-returns-in_default c = search (not_repeated, rules)
-
-pub returns-in_default-law : goal.returns-in_default-law
-returns-in_default-law c = search (not_repeated, rules)
-
-pub returns : goal.returns
-returns c = search (comm_repeated, rules)
+pub returns-then-eq : goal.returns-then-eq
+returns-then-eq c =
+    comm_repeated _ _ _ (same_true law.the_type (search rules) _ _ (sym c.eq.ensures ∙ c.if-eq.true))
+    (λ q. same_true direction.the_type (search rules) _ _ (sym c.eq-then-eq.ensures ∙ q))

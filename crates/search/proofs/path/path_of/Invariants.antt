@@ -8,7 +8,4 @@ use Rattle.search.proofs.Tracing.{Tracing}
 use Rattle.search.proofs.path.path_of.Given as goal
 
 abbrev pub invariant-loop-at : goal.invariant-loop-at
-invariant-loop-at l = (l.at ≤ l.count) × (l.count ≤ length l.path) × (length l.path ≡ length l.initial.path) × (l.count ≡ value_of l.ws l.last) × Tracing l.ws l.last l.k l.at (slice l.at l.count l.path)
-
-abbrev pub decreases-loop-at : goal.decreases-loop-at
-decreases-loop-at l = l.at
+invariant-loop-at l = (l.count ≤ length l.path) × (length l.path ≡ length l.initial.path) × (l.count ≡ value_of l.ws l.last) × Tracing l.ws l.last l.k l.at (slice l.at l.count l.path)

@@ -9,5 +9,5 @@ returns-then-at-from c = search (turn_here, rules)
 pub returns-then-at-right : goal.returns-then-at-right
 returns-then-at-right c = search (turn_left, rules)
 
-pub returns : goal.returns
-returns c = search (turn_right, rules)
+pub returns-else-at-right : goal.returns-else-at-right
+returns-else-at-right c = search (turn_right, rules)

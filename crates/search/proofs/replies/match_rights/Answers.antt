@@ -1,36 +1,18 @@
-use Prim.Native.Nat.{◌+◌}
-use native.Mathlib.Omega.{arith}
-use mathlib.Core.Path.{refl, ◌∙◌}
-use lib.ListN.{length-set}
-use Rattle.search.proofs.Replying.{matched_starts, matched_by, matched_none, matched_all}
+use Rattle.std.proofs.Common.{arith, ◌<◌, length}
+use Rattle.search.proofs.Replying.{matched_by, matched_none, matched_all}
 use Rattle.search.proofs.replies.match_rights.Goals as goal
-use Rattle.search.proofs.replies.match_rights.Goals.{in-By, in-Nothing}
-
-pub loop-r-init : goal.loop-r-init
-loop-r-init c = let a = c.args in (omega arith, omega arith, refl, matched_starts a.left.now a.rights.now a.replies.now)
+use Rattle.search.proofs.replies.match_rights.Goals.{in-Some, in-None}
 
 pub loop-r-preserved : goal.loop-r-preserved
 loop-r-preserved c =
     let l = c.loop-r in
     let v = l.invariant in
-    let p = c.loop-r-test.true in
-    elim c.match-direct.branch [
-      | in-By w ↦
-          let n = w.law_number.result + 1 in
-          rw (w.replies-is, w.waiting-is) (
-            omega (arith, length-set l.replies l.r n),
-            omega arith,
-            length-set l.replies l.r n ∙ v.2,
-            matched_by v.3 p c.run_of.ensures c.search_direct_axiom-direct.ensures w.in-By.is w.law_number.ensures.0,
-          )
-      | in-Nothing w ↦
-          rw (w.replies-is, w.waiting-is) (
-            omega (arith, length-set l.replies l.r 0),
-            omega arith,
-            length-set l.replies l.r 0 ∙ v.2,
-            matched_none v.3 p c.run_of.ensures c.search_direct_axiom-direct.ensures w.in-Nothing.is,
-          )
+    let p : l.r < length l.replies = omega (arith, c.loop-r-test.true, l.auto.replies) in
+    let d = c.search_direct_axiom.ensures in
+    elim c.match-search_direct_axiom.branch [
+      | in-Some w ↦ rw (w.replies-is, w.waiting-is) (omega arith, matched_by v.1 p c.run.ensures d w.in-Some.is)
+      | in-None w ↦ rw (w.replies-is, w.waiting-is) (omega arith, matched_none v.1 p c.run.ensures d w.in-None.is)
     ]
 
 pub returns : goal.returns
-returns c = let v = c.loop-r.invariant in matched_all v.3 (omega arith) v.2
+returns c = let l = c.loop-r in matched_all l.invariant.1 (omega arith) l.auto.replies

@@ -3,8 +3,8 @@ use Rattle.search.proofs.Resulting.{flat, walked}
 use borrow.Author.Rules.{rules}
 use Rattle.search.proofs.results.too_deep.Goals as goal
 
-pub returns-then-s-limit : goal.returns-then-s-limit
-returns-then-s-limit c = search (flat, rules)
+pub returns-then-limit-s : goal.returns-then-limit-s
+returns-then-limit-s c = search (walked, rules)
 
-pub returns : goal.returns
-returns c = search (walked, rules)
+pub returns-else-limit-s : goal.returns-else-limit-s
+returns-else-limit-s c = search (flat, rules)

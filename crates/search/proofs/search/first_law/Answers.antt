@@ -1,15 +1,13 @@
-use Rattle.search.proofs.Directing.{passing_starts, passed_over, law_taken, no_law}
-use borrow.Author.Rules.{rules}
+-- `first_law` meets its contract.
+use mathlib.Core.Path.{refl}
+use Rattle.search.proofs.Directing.{passed_over, law_taken, no_law}
 use Rattle.search.proofs.search.first_law.Goals as goal
 
-pub loop-n-init : goal.loop-n-init
-loop-n-init c = search (passing_starts, rules)
+pub returns-in-Bound : goal.returns-in-Bound
+returns-in-Bound c = let l = c.loop-law in law_taken _ _ l.law-index l.invariant _ _ c.loop-law-test.true refl c.bind_sides.ensures _ c.in-Bound.is
 
-pub loop-n-preserved : goal.loop-n-preserved
-loop-n-preserved c = search (passed_over, rules)
-
-pub returns-in-loop-n : goal.returns-in-loop-n
-returns-in-loop-n c = search (law_taken, rules)
+pub loop-law-preserved : goal.loop-law-preserved
+loop-law-preserved c = let l = c.loop-law in passed_over _ _ l.law-index l.invariant _ _ c.loop-law-test.true refl c.bind_sides.ensures c.in_default.is
 
 pub returns : goal.returns
-returns c = search (no_law, rules)
+returns c = let l = c.loop-law in no_law _ _ l.law-index l.invariant c.loop-law-test.false

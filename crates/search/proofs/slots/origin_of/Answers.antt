@@ -1,6 +1,6 @@
 -- `origin_of` meets its contract: no noted term stands past the end of the slots.
+use Rattle.std.proofs.Common.{rules}
 use Rattle.search.proofs.Tracing.{origin_missed}
-use borrow.Author.Rules.{rules}
 use Rattle.search.proofs.slots.origin_of.Goals as goal
 
 pub returns-then-ws-at : goal.returns-then-ws-at

@@ -1,19 +1,13 @@
 -- `run_of` meets its contract: no slot that has a run is cut short.
-use native.Mathlib.Omega.{arith}
-use Prim.Native.Nat.{◌*◌}
-use Rattle.search.specs.Index.{SLOT}
-use Rattle.search.proofs.Tracing.{shows_no_slot, shows_no_run, shows_run}
-use borrow.Author.Rules.{rules}
+use Rattle.std.proofs.Common.{arith}
+use Rattle.search.proofs.Tracing.{shows_none, shows_run}
 use Rattle.search.proofs.slots.run_of.Goals as goal
 
-pub returns-then-ws-b : goal.returns-then-ws-b
-returns-then-ws-b c = search (shows_no_slot, rules)
+pub returns-then-ws-from : goal.returns-then-ws-from
+returns-then-ws-from c = let a = c.args in shows_none a.ws.now a.k (omega arith)
 
-pub overflow_cast-n : goal.overflow_cast-n
-overflow_cast-n c = omega (arith, c.type_inv.ws (SLOT * c.args.k))
+pub returns-in-Some : goal.returns-in-Some
+returns-in-Some c = let h = c.in-Some.ensures.lookup in rw h.0.2 (shows_run c.args.ws.now c.args.k h.0.1)
 
-pub returns-then-ws-b-2 : goal.returns-then-ws-b-2
-returns-then-ws-b-2 c = search (shows_no_run, rules)
-
-pub returns : goal.returns
-returns c = search (shows_run, rules)
+pub returns-in-None : goal.returns-in-None
+returns-in-None c = let a = c.args in shows_none a.ws.now a.k (grind (arith, c.in-None.ensures.lookup))

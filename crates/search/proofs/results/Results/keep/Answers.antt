@@ -1,0 +1,21 @@
+-- `keep` meets its contract: the result is noted, or it is there already, or its slot is written and its number put in.
+use native.Mathlib.Omega.{arith}
+use Rattle.search.proofs.Keeping.{keeps_known, keeps_already, keeps_more}
+use borrow.Author.Rules.{rules}
+use Rattle.search.proofs.results.Results.keep.Goals as goal
+
+pub returns-then-contains : goal.returns-then-contains
+returns-then-contains g c = search (keeps_known, rules)
+
+pub returns-in_default : goal.returns-in_default
+returns-in_default g c =
+    let a = c.args in
+    keeps_already a.noted.slots.now a.noted.count a.s.now a.step a.self.now.slots a.self.now.order a.self.now.count c.contains.result c.contains.ensures
+    c.if-contains.false c.spot_of.result c.spot_of.ensures c.in_default.is
+
+pub returns : goal.returns
+returns g c =
+    let a = c.args in
+    keeps_more a.noted.slots.now a.noted.count a.s.now a.step a.self.now.slots a.self.now.order a.self.now.count c.contains.result c.contains.ensures
+    c.if-contains.false c.spot_of.result c.spot_of.ensures c.in-Some.place c.in-Some.is (omega arith) c.write_slot.new.ws c.shift.new.s
+    c.write_slot.ensures c.shift.ensures c.shift.auto.s

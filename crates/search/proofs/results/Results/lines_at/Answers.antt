@@ -1,0 +1,48 @@
+-- `lines_at` meets its contract.
+use Prim.Native.Nat.{◌+◌, ◌*◌}
+use native.Mathlib.Omega.{arith}
+use mathlib.Core.Path.{◌≡◌, ◌∙◌}
+use Rattle.search.proofs.InTurn.{turns_none, step_lines, law_in_turn, direction_in_turn, step_kept, step_passed, step_outgrown, step_repeated, steps_all}
+use Rattle.search.proofs.results.Results.lines_at.Goals.{then-repeats-via-then-repeats, then-repeats-via-else-repeats+then-outgrows}
+use Rattle.search.proofs.results.Results.lines_at.Goals as goal
+
+pub loop-law-init : goal.loop-law-init
+loop-law-init g c = let a = c.args in turns_none (step_lines a.place a.term.slot)
+
+pub loop-direction-preserved-then-repeats : goal.loop-direction-preserved-then-repeats
+loop-direction-preserved-then-repeats g c =
+    let i = c.loop-law.law-index in
+    let j = c.loop-direction.direction-index in
+    let h = c.loop-direction-test.true in
+    let e : 2 * i + (j + 1) ≡ 2 * i + j + 1 = omega arith in
+    rw e (
+    elim c.then-repeats.branch [
+      | then-repeats-via-then-repeats w ↦
+          step_repeated c.args.place (2 * i + j) c.loop-direction.invariant _ _ (law_in_turn i j h) (direction_in_turn i j h) _ c.repeats.ensures w.if-repeats.true
+      | then-repeats-via-else-repeats+then-outgrows w ↦
+          step_outgrown c.args.place (2 * i + j) c.loop-direction.invariant _ _ (law_in_turn i j h) (direction_in_turn i j h) c.requires.0 _
+          (c.loop-direction.auto.out ∙ c.loop-law.auto.out) _ w.outgrows.ensures w.if-outgrows.true
+    ])
+
+pub loop-direction-preserved-in_default : goal.loop-direction-preserved-in_default
+loop-direction-preserved-in_default g c =
+    let i = c.loop-law.law-index in
+    let j = c.loop-direction.direction-index in
+    let h = c.loop-direction-test.true in
+    let e : 2 * i + (j + 1) ≡ 2 * i + j + 1 = omega arith in
+    rw e (
+    step_passed c.args.place (2 * i + j) c.loop-direction.invariant _ _ (law_in_turn i j h) (direction_in_turn i j h) c.requires.0 _ c.bind_law-binding.ensures
+    c.in_default.is)
+
+pub loop-direction-preserved : goal.loop-direction-preserved
+loop-direction-preserved g c =
+    let i = c.loop-law.law-index in
+    let j = c.loop-direction.direction-index in
+    let h = c.loop-direction-test.true in
+    let e : 2 * i + (j + 1) ≡ 2 * i + j + 1 = omega arith in
+    rw e (
+    step_kept c.args.place (2 * i + j) c.loop-direction.invariant _ _ (law_in_turn i j h) (direction_in_turn i j h)
+    (c.loop-direction.auto.out ∙ c.loop-law.auto.out) c.keep_line.ensures)
+
+pub returns : goal.returns
+returns g c = let l = c.loop-law in steps_all c.args.place (2 * l.law-index) l.invariant (omega arith) (omega arith)
