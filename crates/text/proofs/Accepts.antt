@@ -2,68 +2,43 @@
 use Prim.Native.Nat.{ℕ, ◌≤◌, ◌<◌, min}
 use native.Mathlib.Omega.{arith}
 use mathlib.Core.Logic.{⊎_elim}
-use mathlib.Core.Bool.{Bool, true, false, ◌&&◌}
-use mathlib.Core.List.{List, [], ◌∷◌, map}
+use mathlib.Core.Bool.{Bool, true, false, not, ◌&&◌}
+use mathlib.Core.List.{List, [], ◌∷◌, ◌++◌, map}
 use mathlib.Core.Path.{◌≡◌, refl, sym, ap, subst, ◌∙◌}
 use lib.Dec.{T, leb}
-use lib.ListN.{length, take}
-use lib.Seq.{sets, length-sets}
+use lib.ListN.{length}
 use borrow.Author.Tests.{le-leb, lt-leb}
 use Rattle.terms.specs.Compare.{order_numbers}
 use Rattle.terms.specs.Equation.{Equation, orient}
-use Rattle.terms.specs.Term.{Term, size, order}
+use Rattle.terms.specs.Term.{Term, size, order, same}
+use Rattle.terms.specs.Letters.{letters}
 use Rattle.terms.specs.Run.{run}
 use Rattle.terms.specs.Held.{Fine, IsRun}
+use Rattle.terms.specs.Promises.{ordering_of, Compares, Equals}
+use Rattle.std.specs.declared.cmp.Ordering as answered
+use Rattle.std.specs.declared.cmp.Ordering.TheVariants.{Less, Equal, Greater}
+use Rattle.std.specs.Ordering.{is_ge}
 use Rattle.terms.specs.Theory.Order.{below?}
 use Rattle.terms.specs.Theory.Run.{run_order}
 use Rattle.terms.specs.Theory.Held.{fine_letters, size_of}
 use Rattle.terms.specs.Theory.Equation.{orient_either}
-use Rattle.words.specs.Candidate.{sides, Room, Keeps}
+use Rattle.words.specs.Candidate.{Room, Keeps}
 use Rattle.words.specs.Decoded.{both}
-use Rattle.words.specs.declared.candidate.Lengths.{Lengths}
 use Rattle.words.proofs.Coded.{code_orient}
-use Rattle.words.proofs.Parts.{front_stored}
 use Rattle.search.specs.Line.{Limits}
 use Rattle.search.specs.Runs.{HeldRuns, Shows, HoldsRun}
 use Rattle.search.specs.Searched.{limits_of}
 use Rattle.search.specs.declared.bounded_search.Limits as limits
 use Rattle.search.proofs.Holding.{none_held, held_more}
-use Rattle.text.specs.declared.job.rights.Test.{Test}
-use Rattle.text.specs.declared.job.rights.Test.TheVariants.{Few, Differs, After}
-use Rattle.text.specs.declared.job.accept.Reading.TheVariants.{Refused, Accepted}
+use Rattle.std.specs.Prelude.{Ok, Err}
+use Rattle.text.specs.declared.refusal.Refusal.TheVariants as refusal
 use Rattle.text.specs.Answer.{refused, accepted, ◌>>=◌, require}
-use Rattle.text.specs.Job.{in_range, oriented}
-use Rattle.text.specs.FindJob.{every, several, in_place, all_small, accept_each, job_of}
+use Rattle.text.specs.Job.{in_range, oriented, few}
+use Rattle.text.specs.FindJob.{every, comes_before, several, in_place, all_small, accept_each, job_of}
 use Rattle.text.specs.LayoutRead.{capped}
-use Rattle.text.specs.Accepting.{asked, AllPass, Orients, Takes, AcceptsSides}
+use Rattle.text.specs.Accepting.{FewLetters, AllPass, Orients, Takes, AcceptsSides}
 use Rattle.text.specs.Theory.Jobs.{in_range_true}
 use Rattle.text.specs.Theory.FindJobs.{all_kept}
-
--- the limits
-
-module _ (m : Limits) where
-  pub steps_over : 16 < m.steps → in_range m ≡ false
-  unfolding in_range
-  steps_over h = rw (lt-leb m.steps 16 h)
-
-  module _ (a : m.steps ≤ 16) where
-    pub size_over : 31 < m.size → in_range m ≡ false
-    unfolding in_range
-    size_over h = rw (le-leb m.steps 16 a, lt-leb m.size 31 h)
-
-    module _ (b : m.size ≤ 31) where
-      pub depth_over : 15 < m.depth → in_range m ≡ false
-      unfolding in_range
-      depth_over h = rw (le-leb m.steps 16 a, le-leb m.size 31 b, lt-leb m.depth 15 h)
-
-      module _ (c : m.depth ≤ 15) where
-        pub nodes_over : 4096 < m.nodes → in_range m ≡ false
-        unfolding in_range
-        nodes_over h = rw (le-leb m.steps 16 a, le-leb m.size 31 b, le-leb m.depth 15 c, lt-leb m.nodes 4096 h)
-
-        pub none_over : m.nodes ≤ 4096 → in_range m ≡ true
-        unfolding in_range
-        none_over h = rw (le-leb m.steps 16 a, le-leb m.size 31 b, le-leb m.depth 15 c, le-leb m.nodes 4096 h)
 
 -- a number that is taken for 4,097 is above every limit's largest, as 4,097 is
 
@@ -97,29 +72,38 @@ capped_small m e =
 run_carries : (s t : Term) → Fine s → Fine t → order_numbers (run s) (run t) ≡ order s t
 run_carries s t f g = run_order s t (fine_letters s f) (fine_letters t g)
 
-module _ {xs ys left right left' right' : List ℕ} {k : Lengths} (h : Keeps xs ys left right k left' right') {s t : Term} (u : IsRun xs s) (v : IsRun ys t) where
-  kept_runs : Room 31 xs ys left right → (IsRun (take k.left left') (orient order s t).left) × (IsRun (take k.right right') (orient order s t).right)
+module _ {xs ys : List ℕ} {e : Equation (List ℕ)} (h : Keeps xs ys 31 e) {s t : Term} (u : IsRun xs s) (v : IsRun ys t) where
+  kept_runs : Room 31 xs ys 31 → (IsRun e.left (orient order s t).left) × (IsRun e.right (orient order s t).right)
   kept_runs room =
       let fine = orient_either (λ a b. Fine a × Fine b) order s t (u.fine, v.fine) (v.fine, u.fine) in
-      let e : sides k left' right' ≡ both run (orient order s t) =
+      let same : e ≡ both run (orient order s t) =
       h.exact 31 room ∙ rw (u.whole, v.whole) (sym (code_orient run Fine run_carries u.fine v.fine)) in (
-        record { fine = fine.0; whole = ap (λ (z : Equation (List ℕ)). z.left) e },
-        record { fine = fine.1; whole = ap (λ (z : Equation (List ℕ)). z.right) e },
+        record { fine = fine.0; whole = ap (λ (z : Equation (List ℕ)). z.left) same },
+        record { fine = fine.1; whole = ap (λ (z : Equation (List ℕ)). z.right) same },
       )
 
--- the smaller of left and the only right side is kept as left, and the other goes to slot 0
-module _ {xs ys zs left other left' other' rights rights' : List ℕ} {k : Lengths} where
-  pub kept_in_order : Shows rights 0 ys → 31 ≤ length other → Keeps xs ys left other k left' other' → length left' ≡ length left
-      → zs ≡ take k.right other' → HoldsRun rights rights' 0 zs → Orients xs left rights k.left left' rights'
-  kept_in_order shown room keeps same e H =
+-- the smaller of left and the only right side is left, and the other goes to slot 0
+module _ {xs ys zs rights rights' : List ℕ} {e : Equation (List ℕ)} where
+  pub kept_in_order : Shows rights 0 ys → Keeps xs ys 31 e → zs ≡ e.right → HoldsRun rights rights' 0 zs → Orients xs rights e.left rights'
+  kept_in_order shown keeps same H =
       record {
-        exact = λ s t u runs small l.
+        exact = λ s t u runs small.
             let right = runs.spelled 0 (omega arith) in
             let w = shown.exact t right in
-            let kept =
-            kept_runs keeps u w (record { first = omega (arith, size_of u); second = omega (arith, size_of w, right.small); left_room = l; right_room = room }) in
-            (omega (arith, keeps.within.left_side), kept.0, held_more [] (orient order s t).right H (none_held rights) (rw e kept.1));
+            let kept = kept_runs keeps u w (record { first = omega (arith, size_of u); second = omega (arith, size_of w, right.small); sides = omega arith }) in
+            (kept.0, held_more [] (orient order s t).right H (none_held rights) (rw same kept.1));
       }
+
+-- what is asked of left and a right side: at most six letters; that they differ; that right does not come before left
+
+abbrev pub few_with : Term → Term → Bool
+few_with s t = few (letters s ++ letters t)
+
+abbrev pub differs_from : Term → Term → Bool
+differs_from s t = not (same s t)
+
+abbrev pub after : Term → Term → Bool
+after s t = not (comes_before t s)
 
 -- refusals 3 to 6 and 10
 
@@ -129,21 +113,21 @@ module _ (s : Term) (ts : List Term) (m : Limits) where
   one_large h = rw h
 
   module _ (small : (leb (size s) 31 && all_small ts) ≡ true) where
-    letters_many : every (asked Few s) ts ≡ false → accept_each s ts m ≡ refused 4
+    letters_many : every (few_with s) ts ≡ false → accept_each s ts m ≡ refused 4
     unfolding accept_each ◌>>=◌ require
     letters_many h = rw small (rw h)
 
-    module _ (few : every (asked Few s) ts ≡ true) where
+    module _ (few : every (few_with s) ts ≡ true) where
       limits_over : in_range m ≡ false → accept_each s ts m ≡ refused 5
       unfolding accept_each ◌>>=◌ require
       limits_over h = rw small (rw few (rw h))
 
       module _ (ranged : in_range m ≡ true) where
-        one_same : every (asked Differs s) ts ≡ false → accept_each s ts m ≡ refused 6
+        one_same : every (differs_from s) ts ≡ false → accept_each s ts m ≡ refused 6
         unfolding accept_each ◌>>=◌ require
         one_same h = rw small (rw few (rw ranged (rw h)))
 
-        module _ (differ : every (asked Differs s) ts ≡ true) where
+        module _ (differ : every (differs_from s) ts ≡ true) where
           one_before : in_place s ts ≡ false → accept_each s ts m ≡ refused 10
           unfolding accept_each ◌>>=◌ require
           one_before h = rw small (rw few (rw ranged (rw differ (rw h))))
@@ -170,23 +154,45 @@ several_true [] h k = absurd (omega (arith, h))
 several_true (t ∷ []) h k = absurd (k refl)
 several_true (t ∷ u ∷ us) h k = refl
 
-in_place_several : (s : Term) (ts : List Term) → several ts ≡ true → in_place s ts ≡ every (asked After s) ts
+in_place_several : (s : Term) (ts : List Term) → several ts ≡ true → in_place s ts ≡ every (after s) ts
 unfolding in_place
 in_place_several s ts h = rw (h, in_place)
 
-in_place_after : (s : Term) (ts : List Term) → every (asked After s) ts ≡ true → in_place s ts ≡ true
+in_place_after : (s : Term) (ts : List Term) → every (after s) ts ≡ true → in_place s ts ≡ true
 unfolding in_place
 in_place_after s ts h = go (several ts)
   where
-    go : (b : Bool) → elim b [ true ↦ every (asked After s) ts | false ↦ true ] ≡ true
+    go : (b : Bool) → elim b [ true ↦ every (after s) ts | false ↦ true ] ≡ true
     go true = h
     go false = refl
 
 -- what the code found of left, the right sides and the limits
 
-found : {test : Test} {xs rights : List ℕ} {n : ℕ} {f b : Bool} → AllPass test xs rights n f → f ≡ b
-    → {s : Term} {ts : List Term} → IsRun xs s → HeldRuns rights ts → length ts ≡ n → every (asked test s) ts ≡ b
-found h k {s} {ts} u v e = sym (h.exact s ts u v e) ∙ k
+abbrev pub Found : (Term → Term → Bool) → List ℕ → List ℕ → ℕ → Bool → Type 0
+Found p xs rights n r = (s : Term) (ts : List Term) → IsRun xs s → HeldRuns rights ts → length ts ≡ n → r ≡ every (p s) ts
+
+not_before : (o : answered.Ordering) (s t : Term) → ordering_of o ≡ order t s → is_ge o ≡ after s t
+unfolding comes_before
+not_before Less s t e = rw (← e, comes_before)
+not_before Equal s t e = rw (← e, comes_before)
+not_before Greater s t e = rw (← e, comes_before)
+
+-- the code's tests of left and each right side in turn
+module _ {Tells : List ℕ → Bool → Type 0} {xs rights : List ℕ} {n : ℕ} {r : Bool} (h : AllPass Tells rights n r) where
+  pub letters_found : ((ys : List ℕ) (b : Bool) → Tells ys b → FewLetters xs ys b) → Found few_with xs rights n r
+  letters_found d s ts u v e = h.exact (few_with s) (λ ys t b w told. (d ys b told).exact s t u w) ts v e
+
+  pub differ_found : ((ys : List ℕ) (b : Bool) → Tells ys b → (q : Bool) × Equals xs ys q × (b ≡ not q)) → Found differs_from xs rights n r
+  differ_found d s ts u v e =
+      h.exact (differs_from s) (λ ys t b w told. let k = d ys b told in k.2 ∙ ap not (k.1.terms s t u w)) ts v e
+
+  pub after_found : ((ys : List ℕ) (b : Bool) → Tells ys b → (o : answered.Ordering) × Compares ys xs o × (b ≡ is_ge o)) → Found after xs rights n r
+  after_found d s ts u v e =
+      h.exact (after s) (λ ys t b w told. let k = d ys b told in k.2 ∙ not_before k.0 s t (k.1.terms t s w u)) ts v e
+
+found : (p : Term → Term → Bool) {xs rights : List ℕ} {n : ℕ} {f b : Bool} → Found p xs rights n f → f ≡ b
+    → {s : Term} {ts : List Term} → IsRun xs s → HeldRuns rights ts → length ts ≡ n → every (p s) ts ≡ b
+found p h k {s} {ts} u v e = sym (h s ts u v e) ∙ k
 
 ranged : (m : limits.Limits) (y : Limits) {g b : Bool} → g ≡ in_range (limits_of m) → limits_of m ≡ capped y → g ≡ b → in_range y ≡ b
 ranged m y i e h = sym (in_range_capped y) ∙ ap in_range (sym e) ∙ sym i ∙ h
@@ -194,41 +200,39 @@ ranged m y i e h = sym (in_range_capped y) ∙ ap in_range (sym e) ∙ sym i ∙
 small_enough : (s : Term) (ts : List Term) → size s ≤ 31 → all_small ts ≡ true → (leb (size s) 31 && all_small ts) ≡ true
 small_enough s ts h k = rw (le-leb (size s) 31 h, k)
 
-module _ (m : limits.Limits) {xs rights : List ℕ} {n : ℕ} {f : Bool} (letters : AllPass Few xs rights n f) {left left' : List ℕ} where
-  pub refuse_letters : {rights' : List ℕ} → f ≡ false → AcceptsSides xs n m left rights (Refused 4) left' rights'
-  refuse_letters h = record { exact = λ s ts y u v c a b e. letters_many s ts y (small_enough s ts a b) (found letters h u v c) }
+module _ (m : limits.Limits) {xs rights : List ℕ} {n : ℕ} {f : Bool} (letters : Found few_with xs rights n f) where
+  pub refuse_letters : {rights' : List ℕ} → f ≡ false → AcceptsSides xs n m rights (Err refusal.TooManyLetters) rights'
+  refuse_letters h = record { exact = λ s ts y u v c a b e. letters_many s ts y (small_enough s ts a b) (found few_with letters h u v c) }
 
   module _ (i : f ≡ true) {g : Bool} (limits : g ≡ in_range (limits_of m)) where
-    pub refuse_limits : {rights' : List ℕ} → g ≡ false → AcceptsSides xs n m left rights (Refused 5) left' rights'
+    pub refuse_limits : {rights' : List ℕ} → g ≡ false → AcceptsSides xs n m rights (Err refusal.LimitOver) rights'
     refuse_limits h =
-        record { exact = λ s ts y u v c a b e. limits_over s ts y (small_enough s ts a b) (found letters i u v c) (ranged m y limits e h) }
+        record { exact = λ s ts y u v c a b e. limits_over s ts y (small_enough s ts a b) (found few_with letters i u v c) (ranged m y limits e h) }
 
-    module _ (j : g ≡ true) {d : Bool} (differ : AllPass Differs xs rights n d) where
-      pub refuse_same : {rights' : List ℕ} → d ≡ false → AcceptsSides xs n m left rights (Refused 6) left' rights'
+    module _ (j : g ≡ true) {d : Bool} (differ : Found differs_from xs rights n d) where
+      pub refuse_same : {rights' : List ℕ} → d ≡ false → AcceptsSides xs n m rights (Err refusal.SameSides) rights'
       refuse_same h =
           record {
             exact = λ s ts y u v c a b e.
-                one_same s ts y (small_enough s ts a b) (found letters i u v c) (ranged m y limits e j) (found differ h u v c);
+                one_same s ts y (small_enough s ts a b) (found few_with letters i u v c) (ranged m y limits e j) (found differs_from differ h u v c);
           }
 
       module _ (k : d ≡ true) where
-        module _ (some_rights : 0 < n) {p : Bool} (after : AllPass After xs rights n p) where
-          pub accept_after : n ≤ 16 → 31 ≤ length left → p ≡ true → left' ≡ sets left 0 xs
-              → AcceptsSides xs n m left rights (Accepted (record { left = length xs; rights = n; limits = m })) left' rights
-          accept_after few_rights room h stored =
+        module _ (some_rights : 0 < n) {p : Bool} (later : Found after xs rights n p) where
+          pub accept_after : n ≤ 16 → p ≡ true → AcceptsSides xs n m rights (Ok (record { left = xs; rights = n; limits = m })) rights
+          accept_after few_rights h =
               record {
                 exact = λ s ts y u v c a b e.
                     let in-limits = ranged m y limits e j in
-                    let none_before = found after h u v c in
+                    let none_before = found after later h u v c in
                     let jobs =
-                    each_accepted s ts y (small_enough s ts a b) (found letters i u v c) in-limits (found differ k u v c) (in_place_after s ts none_before) in
+                    each_accepted s ts y (small_enough s ts a b) (found few_with letters i u v c) in-limits (found differs_from differ k u v c) (in_place_after s ts none_before) in
                     record {
                       side = s;
                       others = ts;
                       limits = y;
                       accepted = jobs ∙ ap accepted (all_kept s y ts (subst T (sym none_before) tt));
-                      room = omega (arith, size_of u, ap length stored, length-sets left 0 xs);
-                      run = rw (stored, front_stored left xs (omega (arith, size_of u))) u;
+                      run = u;
                       runs = v;
                       count = c;
                       some_rights = some_rights;
@@ -237,33 +241,32 @@ module _ (m : limits.Limits) {xs rights : List ℕ} {n : ℕ} {f : Bool} (letter
                     };
               }
 
-          pub refuse_before : (n ≡ 1 → ⊥) → {rights' : List ℕ} → p ≡ false → AcceptsSides xs n m left rights (Refused 10) left' rights'
+          pub refuse_before : (n ≡ 1 → ⊥) → {rights' : List ℕ} → p ≡ false → AcceptsSides xs n m rights (Err refusal.RightBeforeLeft) rights'
           refuse_before more h =
               record {
                 exact = λ s ts y u v c a b e.
-                    one_before s ts y (small_enough s ts a b) (found letters i u v c) (ranged m y limits e j) (found differ k u v c)
-                    (in_place_several s ts (several_true ts (omega arith) (λ q. more (sym c ∙ q))) ∙ found after h u v c);
+                    one_before s ts y (small_enough s ts a b) (found few_with letters i u v c) (ranged m y limits e j) (found differs_from differ k u v c)
+                    (in_place_several s ts (several_true ts (omega arith) (λ q. more (sym c ∙ q))) ∙ found after later h u v c);
               }
 
-        pub accept_one : n ≡ 1 → 31 ≤ length left → {r : ℕ} {rights' : List ℕ} → Orients xs left rights r left' rights'
-            → AcceptsSides xs n m left rights (Accepted (record { left = r; rights = n; limits = m })) left' rights'
-        accept_one one room {r} {rights'} orients = record { exact = go }
+        pub accept_one : n ≡ 1 → {r rights' : List ℕ} → Orients xs rights r rights'
+            → AcceptsSides xs n m rights (Ok (record { left = r; rights = n; limits = m })) rights'
+        accept_one one {r} {rights'} orients = record { exact = go }
           where
             go : (s : Term) (ts : List Term) (y : Limits) → IsRun xs s → HeldRuns rights ts → length ts ≡ n → size s ≤ 31 → all_small ts ≡ true → limits_of m ≡ capped y
-                → Takes (accept_each s ts y) (record { left = r; rights = n; limits = m }) left' rights'
+                → Takes (accept_each s ts y) (record { left = r; rights = n; limits = m }) rights'
             go s [] y u v c a b e = absurd (omega (arith, c, one))
             go s (t ∷ []) y u v c a b e =
-                let kept = orients.exact s t u v a room in
+                let kept = orients.exact s t u v a in
                 let in-limits = ranged m y limits e j in
                 record {
                   side = (orient order s t).left;
                   others = (orient order s t).right ∷ [];
                   limits = y;
-                  accepted = each_accepted s (t ∷ []) y (small_enough s (t ∷ []) a b) (found letters i u v c) in-limits (found differ k u v c) (in_place_one s t)
+                  accepted = each_accepted s (t ∷ []) y (small_enough s (t ∷ []) a b) (found few_with letters i u v c) in-limits (found differs_from differ k u v c) (in_place_one s t)
                       ∙ ap (λ j. accepted (j ∷ [])) (oriented_sides s t y);
-                  room = kept.0;
-                  run = kept.1;
-                  runs = kept.2;
+                  run = kept.0;
+                  runs = kept.1;
                   count = sym one;
                   some_rights = omega (arith, one);
                   few_rights = omega (arith, one);

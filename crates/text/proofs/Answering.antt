@@ -8,8 +8,8 @@ use Rattle.terms.specs.Term.{Term, letter, zero, one, add, mul}
 use Rattle.terms.specs.Held.{IsRun}
 use Rattle.terms.specs.Letters.{letters, rising}
 use Rattle.terms.specs.Promises.{Fills, Lists}
-use Rattle.terms.specs.declared.term.Listed.{Listed}
-use Rattle.terms.specs.declared.term.Listed.TheVariants.{All, TooMany}
+use Rattle.std.specs.Prelude.{Option}
+use Rattle.std.specs.Prelude.{Some, None}
 use Rattle.terms.proofs.Gathered.{fills_front}
 use Rattle.terms.proofs.Held.{size_pos}
 use Rattle.search.specs.Line.{Line}
@@ -25,18 +25,18 @@ use Rattle.text.specs.Walk.{Walk}
 use Rattle.text.specs.Answering.{Sides, Led}
 
 -- the letters of an accepted job fill the front of six numbers
-module _ {left right names names' : List ℕ} {l : Listed} {j : Job} (S : Sides left right j) (L : Lists left right names l names') where
+module _ {left right names names' : List ℕ} {l : Option ℕ} {j : Job} (S : Sides left right j) (L : Lists left right names l names') where
   filled : Fills (rising (letters j.left ++ letters j.right)) names l names'
   filled = L.terms j.left j.right S.left_run S.right_run
 
-  pub letters_fit : length names ≡ 6 → l ≡ TooMany → ⊥
+  pub letters_fit : length names ≡ 6 → l ≡ None → ⊥
   letters_fit six e =
-      let f : Fills (rising (letters j.left ++ letters j.right)) names TooMany names' = rw e at filled in
+      let f : Fills (rising (letters j.left ++ letters j.right)) names None names' = rw e at filled in
       omega (arith, f.0, S.known.sides.few)
 
-  pub letters_listed : {n : ℕ} → l ≡ All n → take n names' ≡ rising (letters j.left ++ letters j.right)
+  pub letters_listed : {n : ℕ} → l ≡ Some n → take n names' ≡ rising (letters j.left ++ letters j.right)
   letters_listed {n} e =
-      let f : Fills (rising (letters j.left ++ letters j.right)) names (All n) names' = rw e at filled in
+      let f : Fills (rising (letters j.left ++ letters j.right)) names (Some n) names' = rw e at filled in
       fills_front (rising (letters j.left ++ letters j.right)) names names' f
 
 -- a path of at most 16 lines, read back from the slots

@@ -21,7 +21,7 @@ use Rattle.search.specs.Serve as serve
 use Rattle.search.specs.Coded.{name_of}
 use Rattle.search.specs.Runs.{origin_of, term_at, Originates, Shows}
 use Rattle.search.specs.Slots.{noted_at, Comes}
-use Rattle.search.specs.Replied.{reply_of, Replied}
+use Rattle.search.specs.Replied.{Replied}
 use Rattle.search.specs.Searched.{stop_of}
 use Rattle.search.specs.Theory.Grows.{Knows}
 use Rattle.search.specs.Theory.LookUp.{Meets}
@@ -42,11 +42,12 @@ use Rattle.text.specs.Answer.{refused, accepted, printed}
 use Rattle.text.specs.FindJob.{job_of, jobs_of}
 use Rattle.text.specs.Job.{Job}
 use Rattle.text.specs.Find.{outcome_text, searched, alone, block}
-use Rattle.text.specs.Put.{Put, top}
-use Rattle.text.specs.Answering.{Sides, Led, one_search, Known, Met, Unmet, AllKnown, without, runs_out}
+use Rattle.text.specs.Writer.{Writes}
+use Rattle.text.specs.declared.writer.Writer.{Writer}
+use Rattle.text.specs.Answering.{Sides, Led, one_search, Known, Met, Unmet, AllKnown, runs_out}
 use Rattle.text.specs.Theory.BlockServed as theory
 use Rattle.text.specs.Theory.BlockServed.{block_served}
-use Rattle.text.proofs.Overlay.{put_as, put_none, put_each_more}
+use Rattle.text.proofs.Writing.{put_as, put_none, put_each_more}
 use Rattle.text.proofs.Starting.{first_noted}
 
 -- a block is the answer to its job alone, printed
@@ -150,20 +151,20 @@ module _ {left right : List ℕ} {ended : Ended} {cut : Bool} {slots : ℕ} {j :
 
 -- ---- by the number of a right side
 
-module _ {left right ws : List ℕ} {reply slots : ℕ} {ended : Ended} {cut : Bool} {j : Job} (K : Known left right reply ended cut ws slots j) where
+module _ {left right ws : List ℕ} {reply : Reply} {slots : ℕ} {ended : Ended} {cut : Bool} {j : Job} (K : Known left right reply ended cut ws slots j) where
   abbrev found : List Noted
   found = (one_search slots j K.others).noted
 
-  direct_alone : (w : Law) → reply_of reply ≡ Direct w
+  direct_alone : (w : Law) → reply ≡ Direct w
       → alone slots j ≡ accepted (outcome_text semiring j (proved (whole_line (name_of w) j.right ∷ []) 0 0))
   direct_alone w e =
       let r : Replied semiring j.left j.right (terms found) (Direct w) = rw e at K.replied in
       (block_served slots j K.others K.among (differ K.sides)).matched (name_of w) r
 
-  pub known_direct : (w : Law) → reply_of reply ≡ Direct w → outcome_text semiring j (proved (whole_line (name_of w) j.right ∷ []) 0 0) ≡ block slots j
+  pub known_direct : (w : Law) → reply ≡ Direct w → outcome_text semiring j (proved (whole_line (name_of w) j.right ∷ []) 0 0) ≡ block slots j
   known_direct w e = sym (block_answer slots j (direct_alone w e))
 
-  pub known_met : (k : ℕ) → reply_of reply ≡ NotedIn k → Met ws k slots j
+  pub known_met : (k : ℕ) → reply ≡ NotedIn k → Met ws k slots j
   known_met k e =
       let r : Replied semiring j.left j.right (terms found) (NotedIn k) = rw e at K.replied in
       record {
@@ -175,7 +176,7 @@ module _ {left right ws : List ℕ} {reply slots : ℕ} {ended : Ended} {cut : B
         is = sym (noted_term found k) ∙ r.2;
       }
 
-  pub known_unmet : reply_of reply ≡ Unnoted → Unmet ended cut slots j
+  pub known_unmet : reply ≡ Unnoted → Unmet ended cut slots j
   known_unmet e =
       let r : Replied semiring j.left j.right (terms found) Unnoted = rw e at K.replied in
       record { others = K.others; among = K.among; ws = ws; ends = K.ends; indirect = r.0; missing = r.1; cut_is = K.cut_is }
@@ -185,16 +186,16 @@ abbrev pub Alone : Bool → ℕ → Job → Type 0
 Alone true slots j = alone slots j ≡ refused 7
 Alone false slots j = alone slots j ≡ accepted (block slots j)
 
-known_alone : {left right ws : List ℕ} (reply : ℕ) {slots : ℕ} {ended : Ended} {cut : Bool} {j : Job} → Known left right reply ended cut ws slots j
+known_alone : {left right ws : List ℕ} (reply : Reply) {slots : ℕ} {ended : Ended} {cut : Bool} {j : Job} → Known left right reply ended cut ws slots j
     → Alone (runs_out reply ended) slots j
-known_alone reply {slots = slots} {ended} {j} K = go (reply_of reply) refl
+known_alone reply {slots = slots} {ended} {j} K = go reply refl
   where
     by_stop : (v : serve.Served) (t : Stop) → theory.UnmetBlock (stop_of t) slots j v → Alone (elim t [ All ↦ true | Over ↦ false | Full ↦ true ]) slots j
     by_stop v All h = absurd h
     by_stop v Over h = block_alone slots j h
     by_stop v Full h = h
 
-    go : (r : Reply) → reply_of reply ≡ r → Alone (without r ended) slots j
+    go : (r : Reply) → reply ≡ r → Alone (runs_out r ended) slots j
     go Unnoted e = by_stop _ ended.stop (unmet_alone K.sides (known_unmet K e))
     go (Direct w) e = block_alone slots j (direct_alone K w e)
     go (NotedIn k) e = met_alone K.sides (known_met K k e)
@@ -202,27 +203,27 @@ known_alone reply {slots = slots} {ended} {j} K = go (reply_of reply) refl
 -- ---- all right sides, one after the other
 
 -- what putting the block of a right side promises
-abbrev PutsBlock : (left right : List ℕ) (reply : ℕ) (ended : Ended) (cut : Bool) (ws o : List ℕ) (a b : ℕ) (o₁ : List ℕ) → Type 0
-PutsBlock left right reply ended cut ws o a b o₁ =
-    (j : Job) (slots : ℕ) → Known left right reply ended cut ws slots j → Put (block slots j) o a b o₁
+abbrev PutsBlock : (left right : List ℕ) (reply : Reply) (ended : Ended) (cut : Bool) (ws : List ℕ) (o o₁ : Writer) → Type 0
+PutsBlock left right reply ended cut ws o o₁ =
+    (j : Job) (slots : ℕ) → Known left right reply ended cut ws slots j → Writes (block slots j) o o₁
 
 -- the blocks of the first i right sides are put
-abbrev pub PutsBlocks : (left rights replies : List ℕ) (ended : Ended) (cut : Bool) (ws : List ℕ) (i : ℕ) (o : List ℕ) (a b : ℕ) (o₁ : List ℕ) → Type 0
-PutsBlocks left rights replies ended cut ws i o a b o₁ =
+abbrev pub PutsBlocks : (left rights : List ℕ) (replies : List Reply) (ended : Ended) (cut : Bool) (ws : List ℕ) (i : ℕ) (o o₁ : Writer) → Type 0
+PutsBlocks left rights replies ended cut ws i o o₁ =
     (s : Term) (ts : List Term) (m : line.Limits) (slots : ℕ) → AllKnown left rights replies ended cut ws slots s ts m
-    → Put (flat_map (block slots) (take i (jobs_of s ts m))) o a b o₁
+    → Writes (flat_map (block slots) (take i (jobs_of s ts m))) o o₁
 
-module _ (left rights replies : List ℕ) (ended : Ended) (cut : Bool) (ws : List ℕ) where
-  pub blocks_start : (o : List ℕ) (a : ℕ) → length o < top → a ≤ top → PutsBlocks left rights replies ended cut ws 0 o a a o
+module _ (left rights : List ℕ) (replies : List Reply) (ended : Ended) (cut : Bool) (ws : List ℕ) where
+  pub blocks_start : (o : Writer) → PutsBlocks left rights replies ended cut ws 0 o o
   unfolding flat_map
-  blocks_start o a h k s ts m slots A = put_none o a h k
+  blocks_start o s ts m slots A = put_none o
 
   module _ {s : Term} {ts : List Term} {m : line.Limits} {slots : ℕ} (A : AllKnown left rights replies ended cut ws slots s ts m) where
     count : length (jobs_of s ts m) ≡ length replies
     count = length-map ts (job_of s m) ∙ A.count
 
     known_at : (i : ℕ) → i < length replies → {xs : List ℕ} → IsRun xs (term_at ts i)
-        → Known left xs (get_or replies i 0) ended cut ws slots (job_of s m (term_at ts i))
+        → Known left xs (get_or replies i Unnoted) ended cut ws slots (job_of s m (term_at ts i))
     known_at i h r =
         let k : i < length ts = omega (arith, A.count) in
         let listed = getD_in zero ts i k in
@@ -240,20 +241,20 @@ module _ (left rights replies : List ℕ) (ended : Ended) (cut : Bool) (ws : Lis
         }
 
     -- the first right side's job alone
-    pub alone_first : 0 < length ts → Alone (runs_out (get_or replies 0 0) ended) slots (job_of s m (term_at ts 0))
+    pub alone_first : 0 < length ts → Alone (runs_out (get_or replies 0 Unnoted) ended) slots (job_of s m (term_at ts 0))
     alone_first h =
-        known_alone (get_or replies 0 0) (known_at 0 (omega (arith, A.count)) (record { fine = (A.runs.spelled 0 h).held.fine; whole = refl }))
+        known_alone (get_or replies 0 Unnoted) (known_at 0 (omega (arith, A.count)) (record { fine = (A.runs.spelled 0 h).held.fine; whole = refl }))
 
-  pub blocks_more : {o o₁ o₂ xs : List ℕ} {a b c : ℕ} (i : ℕ) → i < length replies → Shows rights i xs
-      → PutsBlocks left rights replies ended cut ws i o a b o₁ → PutsBlock left xs (get_or replies i 0) ended cut ws o₁ b c o₂
-      → PutsBlocks left rights replies ended cut ws (i + 1) o a c o₂
-  blocks_more {o₁ = o₁} {o₂ = o₂} {b = b} {c = c} i h R P Q s ts m slots A =
+  pub blocks_more : {xs : List ℕ} {o o₁ o₂ : Writer} (i : ℕ) → i < length replies → Shows rights i xs
+      → PutsBlocks left rights replies ended cut ws i o o₁ → PutsBlock left xs (get_or replies i Unnoted) ended cut ws o₁ o₂
+      → PutsBlocks left rights replies ended cut ws (i + 1) o o₂
+  blocks_more {o₁ = o₁} {o₂ = o₂} i h R P Q s ts m slots A =
       put_each_more (block slots) (job_of s m zero) (jobs_of s ts m) i (omega (arith, count A)) (P s ts m slots A)
-      (subst (λ j. Put (block slots j) o₁ b c o₂) (sym (get_or-map (job_of s m) ts i zero))
+      (subst (λ j. Writes (block slots j) o₁ o₂) (sym (get_or-map (job_of s m) ts i zero))
       (Q (job_of s m (term_at ts i)) slots (known_at A i h (R.exact (term_at ts i) (A.runs.spelled i (omega (arith, A.count)))))))
 
-  pub blocks_all : {o o₁ : List ℕ} {a b : ℕ} (i : ℕ) → length replies ≤ i → PutsBlocks left rights replies ended cut ws i o a b o₁
+  pub blocks_all : {o o₁ : Writer} (i : ℕ) → length replies ≤ i → PutsBlocks left rights replies ended cut ws i o o₁
       → (s : Term) (ts : List Term) (m : line.Limits) (slots : ℕ) → AllKnown left rights replies ended cut ws slots s ts m
-      → Put (flat_map (block slots) (jobs_of s ts m)) o a b o₁
+      → Writes (flat_map (block slots) (jobs_of s ts m)) o o₁
   blocks_all i h P s ts m slots A =
       put_as (ap (flat_map (block slots)) (take_all i (jobs_of s ts m) (omega (arith, count A)))) (P s ts m slots A)

@@ -7,8 +7,9 @@ use native.Mathlib.Omega.{arith}
 use borrow.Author.Tests.{lt-ltb, le-ltb}
 use Rattle.terms.specs.Theory.Order.{below?}
 use Rattle.text.specs.Bytes.{decimal, number}
-use Rattle.text.specs.Put.{Put}
-use Rattle.text.proofs.Overlay.{then, put_as}
+use Rattle.text.specs.Writer.{Writes}
+use Rattle.text.specs.declared.writer.Writer.{Writer}
+use Rattle.text.proofs.Writing.{then, put_as}
 
 decimal_small : (k n : ℕ) → n < 10 → decimal k n ≡ (48 + n) ∷ []
 unfolding decimal
@@ -40,10 +41,10 @@ number_more n h =
     ∙ decimal_more (n - 1) n h
     ∙ ap (λ (l : List ℕ). l ++ ((48 + n % 10) ∷ [])) (enough (n - 1) (n / 10) (n / 10) (omega arith) (omega arith))
 
-pub put_small : {o o₁ : List ℕ} {a r : ℕ} (n : ℕ) → n < 10 → Put ((48 + n % 10) ∷ []) o a r o₁ → Put (number n) o a r o₁
+pub put_small : {o o₁ : Writer} (n : ℕ) → n < 10 → Writes ((48 + n % 10) ∷ []) o o₁ → Writes (number n) o o₁
 put_small n h p = let e : n % 10 ≡ n = omega arith in put_as (ap (λ (k : ℕ). (48 + k) ∷ []) e ∙ sym (number_small n h)) p
 
 -- the last digit behind the others
-pub put_more_digits : {o o₁ o₂ : List ℕ} {a b r : ℕ} (n : ℕ) → 10 ≤ n → Put (number (n / 10)) o a b o₁ → Put ((48 + n % 10) ∷ []) o₁ b r o₂
-    → Put (number n) o a r o₂
+pub put_more_digits : {o o₁ o₂ : Writer} (n : ℕ) → 10 ≤ n → Writes (number (n / 10)) o o₁ → Writes ((48 + n % 10) ∷ []) o₁ o₂
+    → Writes (number n) o o₂
 put_more_digits n h p q = put_as (sym (number_more n h)) (then p q)

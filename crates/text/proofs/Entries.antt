@@ -1,9 +1,11 @@
 -- The entries, by what became of the job.
-use Prim.Native.Nat.{ℕ, ◌≤◌, ◌<◌}
+use Prim.Native.Nat.{ℕ, ◌+◌, ◌^◌, ◌≤◌, ◌<◌}
 use native.Mathlib.Omega.{arith}
-use mathlib.Core.Path.{◌≡◌, refl}
+use mathlib.Core.Path.{◌≡◌, refl, ap}
 use mathlib.Core.List.{List, [], ◌∷◌, ◌++◌}
-use lib.ListN.{length, take}
+use lib.ListN.{length, drop, length-append}
+use Rattle.std.specs.Prelude.{Result, Ok, Err, IfOk}
+use Rattle.std.specs.Borrow.{Bor, MutBor}
 use Rattle.terms.specs.Lists.{◌∈◌}
 use Rattle.terms.specs.Term.{Term, size}
 use Rattle.terms.specs.Letters.{letters, rising}
@@ -13,63 +15,77 @@ use Rattle.words.specs.Rename.{canonical_terms}
 use Rattle.search.specs.Line as line
 use Rattle.search.specs.Runs.{HeldRuns, Shows}
 use Rattle.search.specs.Searched.{limits_of, slots_of}
+use Rattle.text.specs.declared.refusal.Refusal.{Refusal}
+use Rattle.text.specs.Refusal.{number_of, number_returned}
 use Rattle.text.specs.Answer.{Answer, ◌>>=◌, refused, accepted, fitting}
-use Rattle.text.specs.Job.{Job, read_job, Fit, Accepted}
+use Rattle.text.specs.Job.{Job, read_job, Accepted}
 use Rattle.text.specs.FindJob.{read_find, jobs_of}
 use Rattle.text.specs.Accepting.{Takes, TakesOne}
 use Rattle.text.specs.Find.{together, find}
 use Rattle.text.specs.Words.{words_text, words_entry}
 use Rattle.text.specs.Rename.{term_lines, renamed_words, rename_entry}
-use Rattle.text.specs.Entry.{returned, Call, before_search, FindCall}
+use Rattle.text.specs.Entry.{returned, Call, Gives, AnswersJob, before_search, FindCall, FindGives}
 use Rattle.text.specs.Theory.JobText.{job_accepted}
 use Rattle.text.specs.Theory.Entry.{among, Numbered, searched_numbered, each_in}
 use Rattle.text.specs.declared.job.accept.Read.{Read}
-use Rattle.text.proofs.Measured.{refuses}
 
 -- what is known of an accepted job
 accepted_job : (bs : List ℕ) (j : Job) → read_job bs ≡ accepted j → Accepted j
 accepted_job bs j e = rw e at (job_accepted bs)
 
--- a refused job is refused by its number, whatever was asked for
-module _ (bs out : List ℕ) {n : ℕ} (e : read_job bs ≡ refused n) where
-  pub words_refused : Call (words_entry bs (length out)) out n out
+-- what is given beneath an entry is what a call of the entry gives
+pub call_of : (answer : Answer (List ℕ)) (out : List ℕ) (r : Result ℕ Refusal) {out' : List ℕ} → Gives answer out r out' → Call answer out (number_returned r) out'
+call_of answer out (Ok n) (t, e, k, f) = record { number = rw (e, k) refl; output = rw e f }
+call_of answer out (Err e) (f, g) = record { number = rw f refl; output = rw f g }
+
+-- an answer is no longer than the output
+pub gives_fitting : (answer : Answer (List ℕ)) (out : List ℕ) (r : Result ℕ Refusal) (out' : List ℕ) → Gives answer out r out' → length out' < 2 ^ 63
+    → IfOk r (λ n. n + 100 < 2 ^ 64)
+gives_fitting answer out (Ok n) out' (t, e, k, f) h = omega (arith, h, k, ap length f, length-append t (drop (length t) out))
+gives_fitting answer out (Err e) out' g h = tt
+
+-- a refused job is refused by its number, whatever was asked for; an accepted one is answered from the runs of its sides, right's in slot 0
+module _ {Post : (left right : Bor (List ℕ)) → MutBor (List ℕ) → Result ℕ Refusal → MutBor (List ℕ) → Type 0} (job : List ℕ) where
+  pub job_refused : (out : List ℕ) {e : Refusal} → read_job job ≡ refused (number_of e) → AnswersJob Post job out (Err e) out
+  unfolding ◌>>=◌
+  job_refused out h = record { exact = λ answer gives. rw h (refl, refl) }
+
+  pub job_answered : {rights : List ℕ} {j : Read} → TakesOne (read_job job) j rights → (left right : Bor (List ℕ)) → left.now ≡ j.left → Shows rights 0 right.now
+      → (o o' : MutBor (List ℕ)) (r : Result ℕ Refusal) → Post left right o r o' → AnswersJob Post job o.now r o'.now
+  unfolding ◌>>=◌
+  job_answered h left right e shown o o' r post =
+      record {
+        exact = λ answer gives.
+            rw h.accepted
+            (gives h.job left right o o' r (accepted_job job h.job h.accepted) (rw e h.left_run) (shown.exact h.job.right h.right_run) refl post);
+      }
+
+module _ {Post : (left right : Bor (List ℕ)) → MutBor (List ℕ) → Result ℕ Refusal → MutBor (List ℕ) → Type 0} (job out : List ℕ) (r : Result ℕ Refusal) {out' : List ℕ} (h : AnswersJob Post job out r out') where
+  -- what is promised of the function that answers WORDS
+  pub words_given :
+      ((left right : Bor (List ℕ)) (o o' : MutBor (List ℕ)) (q : Result ℕ Refusal) → Post left right o q o'
+      → (s t : Term) → IsRun left.now s → IsRun right.now t → size s ≤ 31 → size t ≤ 31 → Gives (fitting (length o.now) (words_text (words s) (words t))) o.now q o'.now)
+      → Gives (words_entry job (length out)) out r out'
   unfolding words_entry ◌>>=◌
-  words_refused = rw e (refuses n out)
+  words_given answer =
+      h.exact (λ j. fitting (length out) (words_text (words j.left) (words j.right)))
+      (λ j left right o o' q known u v l post. rw (← l) (answer left right o o' q post j.left j.right u v known.sides.small_left known.sides.small_right))
 
-  pub rename_refused : Call (rename_entry bs (length out)) out n out
+  -- and RENAME
+  pub rename_given :
+      ((left right : Bor (List ℕ)) (o o' : MutBor (List ℕ)) (q : Result ℕ Refusal) → Post left right o q o'
+      → (s t : Term) → IsRun left.now s → IsRun right.now t → size s ≤ 31 → size t ≤ 31 → length (rising (letters s ++ letters t)) ≤ 6
+      → Gives (fitting (length o.now) (term_lines (canonical_terms s t) ++ renamed_words (words s) (words t))) o.now q o'.now)
+      → Gives (rename_entry job (length out)) out r out'
   unfolding rename_entry ◌>>=◌
-  rename_refused = rw e (refuses n out)
+  rename_given answer =
+      h.exact (λ j. fitting (length out) (term_lines (canonical_terms j.left j.right) ++ renamed_words (words j.left) (words j.right)))
+      (λ j left right o o' q known u v l post.
+      rw (← l) (answer left right o o' q post j.left j.right u v known.sides.small_left known.sides.small_right known.sides.few))
 
-pub find_refused : (bs out work : List ℕ) {n : ℕ} → read_find bs ≡ refused n → FindCall bs out work n out work
+pub find_refused : (bs out work : List ℕ) {e : Refusal} → read_find bs ≡ refused (number_of e) → FindGives bs out work (Err e) out work
 unfolding find ◌>>=◌
-find_refused bs out work {n} e = record { call = rw e (refuses n out); workspace = λ h. refl }
-
--- an accepted one is answered from the runs of its sides, right's in slot 0
-module _ (bs : List ℕ) {left rights xs ys : List ℕ} {j : Read} (h : TakesOne (read_job bs) j left rights) (e : xs ≡ take j.left left) (shown : Shows rights 0 ys) where
-  fit : Fit h.job.left h.job.right
-  fit = (accepted_job bs h.job h.accepted).sides
-
-  left_run : IsRun xs h.job.left
-  left_run = rw e h.left_run
-
-  right_run : IsRun ys h.job.right
-  right_run = shown.exact h.job.right h.right_run
-
-  module _ {r : ℕ} (out : List ℕ) {out' : List ℕ} where
-    pub words_answered :
-        ((s t : Term) → IsRun xs s → IsRun ys t → size s ≤ 31 → size t ≤ 31 → Call (fitting (length out) (words_text (words s) (words t))) out r out')
-        → Call (words_entry bs (length out)) out r out'
-    unfolding words_entry ◌>>=◌
-    words_answered answer =
-        rw h.accepted (answer h.job.left h.job.right left_run right_run fit.small_left fit.small_right)
-
-    pub rename_answered :
-        ((s t : Term) → IsRun xs s → IsRun ys t → size s ≤ 31 → size t ≤ 31 → length (rising (letters s ++ letters t)) ≤ 6
-        → Call (fitting (length out) (term_lines (canonical_terms s t) ++ renamed_words (words s) (words t))) out r out')
-        → Call (rename_entry bs (length out)) out r out'
-    unfolding rename_entry ◌>>=◌
-    rename_answered answer =
-        rw h.accepted (answer h.job.left h.job.right left_run right_run fit.small_left fit.small_right fit.few)
+find_refused bs out work h = record { gives = rw h (refl, refl); workspace = λ i. refl }
 
 -- accepted jobs of FIND are refused by 7 or 8 at most, which are no numbers of refusals that come before the search
 early : {r : ℕ} → r ∈ before_search → (r < 100) × (7 ≤ r → r ≤ 8 → ⊥)
@@ -87,14 +103,19 @@ find_late bs {js} slots room e =
     rw e (late (◌>>=◌ (together slots js) (fitting room)) (searched_numbered (7 ∷ 8 ∷ []) (search among) (search among) slots room js))
 
 -- they are answered from left's run and those of the right sides
-module _ (bs : List ℕ) {left rights xs : List ℕ} {j : Read} (h : Takes (read_find bs) j left rights) (e : xs ≡ take j.left left) where
-  pub find_answered : {r : ℕ} (out : List ℕ) {out' work work' : List ℕ}
+module _ (bs : List ℕ) {rights xs : List ℕ} {j : Read} (h : Takes (read_find bs) j rights) (e : xs ≡ j.left) where
+  pub find_answered : (r : Result ℕ Refusal) (out : List ℕ) {out' work work' : List ℕ}
       → ((bs : List ℕ) (s : Term) (ts : List Term) (m : line.Limits) → read_find bs ≡ accepted (jobs_of s ts m) → IsRun xs s → HeldRuns rights ts
-      → length ts ≡ j.rights → limits_of j.limits ≡ m → Call (find bs (slots_of (length work)) (length out)) out r out')
-      → FindCall bs out work r out' work'
-  find_answered out {work = work} answer =
-      let call = answer bs h.side h.others h.limits h.accepted (rw e h.run) h.runs h.count h.is in
+      → length ts ≡ j.rights → limits_of j.limits ≡ m → Gives (find bs (slots_of (length work)) (length out)) out r out')
+      → FindGives bs out work r out' work'
+  find_answered r out {work = work} answer =
+      let gives = answer bs h.side h.others h.limits h.accepted (rw e h.run) h.runs h.count h.is in
+      let call = call_of (find bs (slots_of (length work)) (length out)) out r gives in
       record {
-        call = call;
+        gives = gives;
         workspace = λ i. absurd (find_late bs (slots_of (length work)) (length out) h.accepted (rw call.number at i));
       }
+
+-- so is the entry's call
+pub find_called : (bs out work : List ℕ) (r : Result ℕ Refusal) {out' work' : List ℕ} → FindGives bs out work r out' work' → FindCall bs out work (number_returned r) out' work'
+find_called bs out work r h = record { call = call_of (find bs (slots_of (length work)) (length out)) out r h.gives; workspace = h.workspace }

@@ -15,7 +15,6 @@ use Rattle.search.specs.Law.{semiring}
 use Rattle.search.specs.Line as line
 use Rattle.search.specs.Cut as search-cut
 use Rattle.search.specs.Runs.{term_at, HeldRuns}
-use Rattle.search.specs.Replied.{reply_of}
 use Rattle.search.specs.Searched.{limits_of, slots_of, Answers, Searches, Cuts}
 use Rattle.search.specs.declared.replies.Reply.{Reply}
 use Rattle.search.specs.declared.replies.Reply.TheVariants.{Unnoted, Direct, Noted}
@@ -27,10 +26,12 @@ use Rattle.text.specs.Answer.{refused, accepted, ◌>>=◌, fitting}
 use Rattle.text.specs.Job.{Accepted}
 use Rattle.text.specs.FindJob.{read_find, job_of, jobs_of}
 use Rattle.text.specs.Find.{block, together, find}
-use Rattle.text.specs.Entry.{Call}
-use Rattle.text.specs.Answering.{AllKnown, without, runs_out}
+use Rattle.std.specs.Prelude.{Result, Err}
+use Rattle.text.specs.Entry.{Gives}
+use Rattle.text.specs.declared.refusal.Refusal.{Refusal}
+use Rattle.text.specs.declared.refusal.Refusal.TheVariants.{OutOfSlots}
+use Rattle.text.specs.Answering.{AllKnown, runs_out}
 use Rattle.text.specs.Theory.FindJobs.{AllAccepted, jobs_accepted}
-use Rattle.text.proofs.Measured.{refuses}
 use Rattle.text.proofs.Blocks.{Alone, alone_first}
 
 -- ---- whether a right side has no answer
@@ -39,18 +40,15 @@ use Rattle.text.proofs.Blocks.{Alone, alone_first}
 abbrev out_at : Stop → Bool
 out_at t = elim t [ All ↦ true | Over ↦ false | Full ↦ true ]
 
-module _ (reply : ℕ) {r : Reply} (is : r ≡ reply_of reply) (ended : Ended) where
+module _ (ended : Ended) where
   -- one that is noted, or matched directly, has one
-  pub out_noted : (r ≡ Unnoted → ⊥) → false ≡ runs_out reply ended
-  out_noted n = go r n ∙ ap (λ q. without q ended) is
-    where
-      go : (q : Reply) → (q ≡ Unnoted → ⊥) → false ≡ without q ended
-      go Unnoted h = absurd (h refl)
-      go (Direct w) h = refl
-      go (Noted n) h = refl
+  pub out_noted : (r : Reply) → (r ≡ Unnoted → ⊥) → false ≡ runs_out r ended
+  out_noted Unnoted h = absurd (h refl)
+  out_noted (Direct w) h = refl
+  out_noted (Noted n) h = refl
 
-  pub out_unnoted : {t : Stop} → r ≡ Unnoted → ended.stop ≡ t → out_at t ≡ runs_out reply ended
-  out_unnoted e f = ap out_at (sym f) ∙ ap (λ q. without q ended) (sym e ∙ is)
+  pub out_unnoted : (r : Reply) {t : Stop} → r ≡ Unnoted → ended.stop ≡ t → out_at t ≡ runs_out r ended
+  out_unnoted r e f = ap out_at (sym f) ∙ ap (λ q. runs_out q ended) (sym e)
 
 -- ---- the jobs of an accepted text
 
@@ -62,7 +60,7 @@ module _ (bs : List ℕ) (s : Term) (ts : List Term) (m : line.Limits) (read : r
   accepted_at t i = each_accepted (job_of s m t) (in_map (job_of s m) i)
 
   -- what the search leaves of them
-  pub all_known : {left rights ws ws' replies replies' : List ℕ} {limits : Limits} {ended : Ended} {cut : Bool}
+  pub all_known : {left rights ws ws' : List ℕ} {replies replies' : List Reply} {limits : Limits} {ended : Ended} {cut : Bool}
       → Searches semiring left rights limits ws ws' replies replies' ended → Cuts ws' ended limits cut → length ws' ≡ length ws → 0 < length ts
       → IsRun left s → HeldRuns rights ts → length ts ≡ length replies → limits_of limits ≡ m
       → AllKnown left rights replies' ended cut ws' (slots_of (length ws)) s ts m
@@ -84,9 +82,9 @@ module _ (bs : List ℕ) (s : Term) (ts : List Term) (m : line.Limits) (read : r
 
   -- ---- the answer
 
-  module _ {left rights replies ws : List ℕ} {ended : Ended} {cut : Bool} {slots : ℕ} (A : AllKnown left rights replies ended cut ws slots s ts m) where
+  module _ {left rights ws : List ℕ} {replies : List Reply} {ended : Ended} {cut : Bool} {slots : ℕ} (A : AllKnown left rights replies ended cut ws slots s ts m) where
     abbrev out_first : Bool
-    out_first = runs_out (get_or replies 0 0) ended
+    out_first = runs_out (get_or replies 0 Unnoted) ended
 
     together_refused : (us : List Term) → length us ≡ 1 → Alone true slots (job_of s m (term_at us 0)) → together slots (jobs_of s us m) ≡ refused 7
     unfolding together
@@ -103,17 +101,17 @@ module _ (bs : List ℕ) (s : Term) (ts : List Term) (m : line.Limits) (read : r
 
     module _ (out : List ℕ) where
       -- the only right side runs out
-      pub find_out : length ts ≡ 1 → true ≡ out_first → Call (find bs slots (length out)) out 7 out
+      pub find_out : length ts ≡ 1 → true ≡ out_first → Gives (find bs slots (length out)) out (Err OutOfSlots) out
       unfolding find ◌>>=◌
       find_out one e =
           let h : Alone true slots (job_of s m (term_at ts 0)) = subst (λ b. Alone b slots (job_of s m (term_at ts 0))) (sym e) (alone_first left rights replies ended cut ws A (omega arith)) in
-          rw (read, together_refused ts one h) (refuses 7 out)
+          (rw (read, together_refused ts one h) refl, refl)
 
       -- otherwise the blocks are the answer, if there is room for them
-      pub find_blocks : {r : ℕ} {out' : List ℕ} → 0 < length ts → (length ts ≡ 1 → false ≡ out_first)
-          → Call (fitting (length out) (flat_map (block slots) (jobs_of s ts m))) out r out' → Call (find bs slots (length out)) out r out'
+      pub find_blocks : (r : Result ℕ Refusal) (out' : List ℕ) → 0 < length ts → (length ts ≡ 1 → false ≡ out_first)
+          → Gives (fitting (length out) (flat_map (block slots) (jobs_of s ts m))) out r out' → Gives (find bs slots (length out)) out r out'
       unfolding find ◌>>=◌
-      find_blocks some_rights e call =
+      find_blocks r out' some_rights e call =
           let h : length ts ≡ 1 → Alone false slots (job_of s m (term_at ts 0)) =
           λ one. subst (λ b. Alone b slots (job_of s m (term_at ts 0))) (sym (e one)) (alone_first left rights replies ended cut ws A some_rights) in
           rw (read, together_blocks ts some_rights h) call

@@ -1,12 +1,14 @@
 -- The pieces of the proof text: the parts and contexts of terms, and the names that are applied to them.
 use Prim.Native.Nat.{ℕ, suc, ◌+◌, ◌-◌, ◌≤◌, ◌<◌}
 use native.Mathlib.Omega.{arith}
-use native.Mathlib.Nat.{add-zero, zero-add}
-use mathlib.Core.Path.{◌≡◌, refl, sym, ap, ◌∙◌}
+use native.Mathlib.Nat.{add-zero, zero-add, sub-zero}
+use mathlib.Core.Option.{none, some}
+use Rattle.std.specs.Prelude.{Option as Answer, Some, None}
+use mathlib.Core.Path.{◌≡◌, refl, sym, ap, subst, ◌∙◌}
 use mathlib.Core.Bool.{Bool, true, false, cond}
 use mathlib.Core.List.{List, [], ◌∷◌, ◌++◌, append_assoc, append-nil}
 use lib.Dec.{ltb}
-use lib.ListN.{length, get_or}
+use lib.ListN.{length, get_or, drop}
 use borrow.Author.Tests.{lt-ltb, le-ltb}
 use Rattle.terms.specs.Term.{Term, letter, zero, one, add, mul, size}
 use Rattle.terms.specs.Run.{ADD, run}
@@ -16,15 +18,21 @@ use Rattle.terms.proofs.Positions.{drop_head}
 use Rattle.terms.proofs.Held.{holds_add, holds_mul}
 use Rattle.search.specs.Law.{Law, Name}
 use Rattle.search.specs.Line.{Direction, back, Side, l, r}
+use Rattle.search.specs.Path.{subterm}
+use Rattle.search.specs.Position.{position}
 use Rattle.search.specs.Place.{place_at}
-use Rattle.search.proofs.Turning.{turn_here}
+use Rattle.search.specs.Coded.{side_of}
+use Rattle.search.specs.Traced.{OnSide, Turned, Turns}
+use Rattle.search.specs.Used.{Enters, PartOn}
+use Rattle.search.specs.declared.chain.Side as declared
 use Rattle.text.specs.Bytes.{ascii}
 use Rattle.text.specs.Proof.{ref, app, lam, call, hole, part, term, applied, context, at_place, one_line, binders}
 use Rattle.text.specs.Rendered.{operator}
-use Rattle.text.specs.Put.{Put}
-use Rattle.text.specs.Framed.{side_of, frame, ends, opens, closes, Enclosed, Encloses}
-use Rattle.text.proofs.Overlay.{then, put_as}
-use Rattle.text.proofs.Rendered.{held_past}
+use Rattle.text.specs.Writer.{Writes}
+use Rattle.text.specs.declared.writer.Writer.{Writer}
+use Rattle.text.specs.Framed.{frame, ends, opens, closes}
+use Rattle.text.proofs.Writing.{then, put_as}
+use Rattle.text.proofs.Rendered.{held_past, held_tail}
 
 -- ---- atoms
 
@@ -66,28 +74,37 @@ node (mul u v) k h =
     let p = holds_mul h in
     record { held_left = p.1; held_right = p.2; before = λ names. rw p.0 (simp append_assoc); after = λ names. rw p.0 (simp append_assoc) }
 
--- the side of the hole by a flag
-module _ {xs : List ℕ} {i : ℕ} {t : Term} (n : Node xs i t) (names : List ℕ) (b : Bool) where
-  pub context_right : b ≡ true → operator (get_or xs i 0) ++ (term names (part l t) ++ ascii ") (ref hole))") ≡ context names (side_of b) t
-  context_right e = rw e (n.before names)
-
-  pub context_left : b ≡ false → operator (get_or xs i 0) ++ (ascii "(ref hole)) " ++ (term names (part r t) ++ ascii ")")) ≡ context names (side_of b) t
-  context_left e = rw e (n.after names)
-
 -- ---- parts
 
-module _ {xs : List ℕ} {i : ℕ} where
-  pub part_past : (b : Bool) → length xs ≤ i → (t : Term) → Holds xs i t → Holds xs i (part (side_of b) t)
-  part_past b k t h = absurd (held_past k h)
+subterm_part : (d : Side) (t : Term) {p : Term} → subterm (d ∷ []) t ≡ some p → part d t ≡ p
+unfolding subterm part
+subterm_part d (letter n) e = let z : ◌≡◌ {A = ℕ} 0 1 = cc in absurd (omega arith)
+subterm_part d zero e = let z : ◌≡◌ {A = ℕ} 0 1 = cc in absurd (omega arith)
+subterm_part d one e = let z : ◌≡◌ {A = ℕ} 0 1 = cc in absurd (omega arith)
+subterm_part l (add u v) e = cc
+subterm_part r (add u v) e = cc
+subterm_part l (mul u v) e = cc
+subterm_part r (mul u v) e = cc
 
-  pub part_atom : (b : Bool) → get_or xs i 0 < ADD → (t : Term) → Holds xs i t → Holds xs i (part (side_of b) t)
-  part_atom b k t h = rw ((atom t k h).own (side_of b)) h
+-- an atom is its own part
+own_part : (d : Side) (t : Term) → position (d ∷ []) t ≡ none → part d t ≡ t
+unfolding position part
+own_part d (letter n) e = refl
+own_part d zero e = refl
+own_part d one e = refl
+own_part l (add u v) e = let z : ◌≡◌ {A = ℕ} 0 1 = cc in absurd (omega arith)
+own_part r (add u v) e = let z : ◌≡◌ {A = ℕ} 0 1 = cc in absurd (omega arith)
+own_part l (mul u v) e = let z : ◌≡◌ {A = ℕ} 0 1 = cc in absurd (omega arith)
+own_part r (mul u v) e = let z : ◌≡◌ {A = ℕ} 0 1 = cc in absurd (omega arith)
 
-  pub part_left : (b : Bool) → b ≡ false → ADD ≤ get_or xs i 0 → (t : Term) → Holds xs i t → Holds xs (i + 1) (part (side_of b) t)
-  part_left b e k t h = rw e (node t k h).held_left
+module _ {xs : List ℕ} {d : Side} {found : Answer ℕ} (P : PartOn xs 0 d found) (t : Term) (h : Holds xs 0 t) where
+  pub part_found : (at : ℕ) → found ≡ Some at → Holds (drop at xs) 0 (part d t)
+  part_found at e =
+      let E = subst (Enters xs 0 t d) e (P.exact t h) in
+      rw (subterm_part d t E.is) (held_tail E.held)
 
-  pub part_right : (b : Bool) (m : ℕ) → b ≡ true → ADD ≤ get_or xs i 0 → Ends xs (i + 1) m → (t : Term) → Holds xs i t → Holds xs m (part (side_of b) t)
-  part_right b m e k E t h = let n = node t k h in rw (e, E.exact (part l t) n.held_left) n.held_right
+  pub part_missing : found ≡ None → Holds xs 0 (part d t)
+  part_missing e = rw (own_part d t (subst (Enters xs 0 t d) e (P.exact t h) [])) h
 
 pub part_size : (d : Side) (t : Term) → size (part d t) ≤ size t
 unfolding part size
@@ -98,57 +115,6 @@ part_size l (add u v) = omega arith
 part_size r (add u v) = omega arith
 part_size l (mul u v) = omega arith
 part_size r (mul u v) = omega arith
-
--- ---- the part that has a place
-
--- the places of a sum or product below the root
-record Below (xs : List ℕ) (i : ℕ) (t : Term) : Type 0 where
-  count : size t ≡ 1 + size (part l t) + size (part r t)
-  held_left : Holds xs (i + 1) (part l t)
-  held_right : Holds xs (i + 1 + size (part l t)) (part r t)
-  places : (j : ℕ) → place_at t (suc j) ≡ cond (ltb j (size (part l t))) (l ∷ place_at (part l t) j) (r ∷ place_at (part r t) (j - size (part l t)))
-
-below : {xs : List ℕ} {i : ℕ} (t : Term) → Holds xs i t → 1 < size t → Below xs i t
-unfolding size place_at part
-below (letter n) h k = absurd (omega arith)
-below zero h k = absurd (omega arith)
-below one h k = absurd (omega arith)
-below (add u v) h k = let p = holds_add h in record { count = refl; held_left = p.1; held_right = p.2; places = λ j. refl }
-below (mul u v) h k = let p = holds_mul h in record { count = refl; held_left = p.1; held_right = p.2; places = λ j. refl }
-
-module _ (xs : List ℕ) (i at : ℕ) where
-  pub encloses_none : at ≤ i → Encloses xs i at (record { right = false; from = i })
-  encloses_none h = record { nears = λ k. absurd (omega arith); exact = λ t k p q. absurd (omega arith) }
-
-  -- the left part ends at e
-  module _ (h : i < at) (e : ℕ) (E : Ends xs (i + 1) e) where
-    module _ {t : Term} (p : Below xs i t) where
-      middle : e ≡ i + 1 + size (part l t)
-      middle = E.exact (part l t) p.held_left
-
-      turned : place_at t (at - i) ≡ cond (ltb (at - (i + 1)) (size (part l t))) (l ∷ place_at (part l t) (at - (i + 1))) (r ∷ place_at (part r t) (at - (i + 1) - size (part l t)))
-      turned = let n : at - i ≡ suc (at - (i + 1)) = omega arith in ap (place_at t) n ∙ p.places (at - (i + 1))
-
-      on_left : at < e → Enclosed xs i at l (i + 1) t
-      on_left q =
-          let n : at - (i + 1) < size (part l t) = omega (arith, middle) in
-          record { held = p.held_left; inside = n; turns = turned ∙ rw (lt-ltb (at - (i + 1)) (size (part l t)) n) }
-
-      on_right : e ≤ at → at - i < size t → Enclosed xs i at r e t
-      on_right q k =
-          let n : size (part l t) ≤ at - (i + 1) = omega (arith, middle) in
-          let m : at - (i + 1) - size (part l t) ≡ at - e = omega (arith, middle) in
-          record {
-            held = rw middle p.held_right;
-            inside = omega (arith, middle, p.count);
-            turns = turned ∙ rw (le-ltb (at - (i + 1)) (size (part l t)) n, m);
-          }
-
-    pub encloses_left : at < e → Encloses xs i at (record { right = false; from = i + 1 })
-    encloses_left q = record { nears = λ k. (omega arith, omega arith); exact = λ t k p z. on_left (below t p (omega arith)) q }
-
-    pub encloses_right : e ≤ at → Encloses xs i at (record { right = true; from = e })
-    encloses_right q = record { nears = λ k. (omega (arith, E.forward), q); exact = λ t k p z. on_right (below t p (omega arith)) q z }
 
 -- ---- names applied
 
@@ -164,18 +130,36 @@ module _ (names : List ℕ) where
   unfolding one_line frame call app ref lam ascii
   frame_text ws x p d n u v = simp append_assoc
 
-  module _ (ws : List Law) (d : Direction) (n : Name) {xs : List ℕ} {i at : ℕ} {u : Term} (v : Term) {o o₁ : List ℕ} {a b : ℕ} where
+  module _ (ws : List Law) (d : Direction) (n : Name) {xs : List ℕ} {at : ℕ} {turn : Answer (declared.Side × ℕ)} (T : Turns xs 0 at turn) {u : Term} (v : Term) (h : Holds xs 0 u) (q : at < size u) where
+    turned : Turned xs 0 at u turn
+    turned = T.exact u h (rw (sub-zero at) q)
+
     -- a line at the root
-    pub line_here : at ≤ i → Holds xs i u → at - i < size u → Put (at_place names ws d n u v) o a b o₁ → Put (one_line names ws (place_at u (at - i)) d n u v) o a b o₁
+    pub line_here : {o o₁ : Writer} → turn ≡ None → Writes (at_place names ws d n u v) o o₁ → Writes (one_line names ws (place_at u at) d n u v) o o₁
     unfolding one_line
-    line_here h k q p = rw ((turn_here xs i at h).exact u k q) p
+    line_here e p = let f : place_at u at ≡ [] = rw (sub-zero at) at (subst (Turned xs 0 at u) e turned) in rw f p
 
     -- a line in a part
-    pub line_below : {x : Side} {from : ℕ} {o₂ o₃ : List ℕ} {c e : ℕ} → Enclosed xs i at x from u → Put (frame names x u v) o a b o₁
-        → Put (one_line names ws (place_at (part x u) (at - from)) d n (part x u) (part x v)) o₁ b c o₂ → Put (ascii ")") o₂ c e o₃
-        → Put (one_line names ws (place_at u (at - i)) d n u v) o a e o₃
-    line_below {x} {from} E p q k =
-        put_as (frame_text ws x (place_at (part x u) (at - from)) d n u v ∙ ap (λ z. one_line names ws z d n u v) (sym E.turns)) (then p (then q k))
+    module _ (x : declared.Side) (from : ℕ) (e : turn ≡ Some (x, from)) where
+      on_side : OnSide xs u (at - 0) (side_of x) from at
+      on_side = subst (Turned xs 0 at u) e turned
+
+      part_is : part (side_of x) u ≡ on_side.part
+      part_is = subterm_part (side_of x) u on_side.is
+
+      pub below_held : Holds (drop from xs) 0 (part (side_of x) u)
+      below_held = rw part_is (held_tail on_side.held)
+
+      pub below_inside : at - from < size (part (side_of x) u)
+      below_inside = rw part_is on_side.inside
+
+      pub line_below : {o o₁ o₂ o₃ : Writer} → Writes (frame names (side_of x) u v) o o₁
+          → Writes (one_line names ws (place_at (part (side_of x) u) (at - from)) d n (part (side_of x) u) (part (side_of x) v)) o₁ o₂ → Writes (ascii ")") o₂ o₃
+          → Writes (one_line names ws (place_at u at) d n u v) o o₃
+      line_below p k z =
+          let turns : place_at u at ≡ side_of x ∷ place_at (part (side_of x) u) (at - from) =
+          rw part_is (rw (sub-zero at) at on_side.place) in
+          put_as (frame_text ws (side_of x) (place_at (part (side_of x) u) (at - from)) d n u v ∙ ap (λ z. one_line names ws z d n u v) (sym turns)) (then p (then k z))
 
   pub ends_text : (s u v : Term) (p q : List ℕ)
       → ends names s u v ++ (p ++ (ascii ") " ++ (q ++ ascii ")"))) ≡ call (ascii "eq_trans") (term names s ∷ term names u ∷ term names v ∷ p ∷ q ∷ [])

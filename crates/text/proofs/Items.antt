@@ -14,8 +14,9 @@ use Rattle.terms.specs.Term.{Term, letter, zero, one, add, mul}
 use Rattle.text.specs.Bytes.{number, parted}
 use Rattle.text.specs.TermText.{write_letter, items, write_term}
 use Rattle.text.specs.Items.{sign_of, item, gap}
-use Rattle.text.specs.Put.{Put, top}
-use Rattle.text.proofs.Overlay.{then, put_as, put_none}
+use Rattle.text.specs.Writer.{Writes}
+use Rattle.text.specs.declared.writer.Writer.{Writer}
+use Rattle.text.proofs.Writing.{then, put_as, put_none}
 use Rattle.text.proofs.Decimal.{number_small}
 
 -- ---- one item
@@ -24,11 +25,11 @@ pub sign_mul : (n : ℕ) → (n ≡ ZERO → ⊥) → (n ≡ ONE → ⊥) → (n
 unfolding sign_of
 sign_mul n f g h = rw (ne_eqb n ZERO f, sign_of) (rw (ne_eqb n ONE g) (rw (ne_eqb n ADD h)))
 
-pub put_digit : {o o₁ o₂ : List ℕ} {a b r : ℕ} (n : ℕ) → n < 10 → Put (code "v" ∷ []) o a b o₁ → Put ((48 + n) ∷ []) o₁ b r o₂ → Put (write_letter n) o a r o₂
+pub put_digit : {o o₁ o₂ : Writer} (n : ℕ) → n < 10 → Writes (code "v" ∷ []) o o₁ → Writes ((48 + n) ∷ []) o₁ o₂ → Writes (write_letter n) o o₂
 unfolding write_letter
 put_digit n h p q = then p (put_as (sym (number_small n h)) q)
 
-pub put_written : {o o₁ o₂ : List ℕ} {a b r : ℕ} (n : ℕ) → Put (code "v" ∷ []) o a b o₁ → Put (number n) o₁ b r o₂ → Put (write_letter n) o a r o₂
+pub put_written : {o o₁ o₂ : Writer} (n : ℕ) → Writes (code "v" ∷ []) o o₁ → Writes (number n) o₁ o₂ → Writes (write_letter n) o o₂
 unfolding write_letter
 put_written n p q = then p q
 
@@ -40,28 +41,28 @@ sign_item : (n : ℕ) → ZERO ≤ n → sign_of n ∷ [] ≡ item n
 unfolding item
 sign_item n h = rw (le-ltb n ZERO h, item)
 
-pub put_letter_item : {o o₁ : List ℕ} {a r : ℕ} (n : ℕ) → n < ZERO → Put (write_letter n) o a r o₁ → Put (item n) o a r o₁
+pub put_letter_item : {o o₁ : Writer} (n : ℕ) → n < ZERO → Writes (write_letter n) o o₁ → Writes (item n) o o₁
 put_letter_item n h p = put_as (letter_item n h) p
 
-pub put_sign_item : {o o₁ : List ℕ} {a r : ℕ} (n : ℕ) → ZERO ≤ n → Put (sign_of n ∷ []) o a r o₁ → Put (item n) o a r o₁
+pub put_sign_item : {o o₁ : Writer} (n : ℕ) → ZERO ≤ n → Writes (sign_of n ∷ []) o o₁ → Writes (item n) o o₁
 put_sign_item n h p = put_as (sign_item n h) p
 
 -- ---- pieces, each with a byte before it but the first
 
-pub put_no_gap : (s i : ℕ) (o : List ℕ) (a : ℕ) → i ≡ 0 → length o < top → a ≤ top → Put (gap s i) o a a o
+pub put_no_gap : (s i : ℕ) (o : Writer) → i ≤ 0 → Writes (gap s i) o o
 unfolding gap
-put_no_gap s i o a e h k = put_as (sym (ap (gap s) e)) (put_none o a h k)
+put_no_gap s i o h = let e : i ≡ 0 = omega arith in put_as (sym (ap (gap s) e)) (put_none o)
 
 pub gap_some : (s i : ℕ) → 0 < i → gap s i ≡ s ∷ []
 unfolding gap
 gap_some s zero h = let z : ⊥ = omega arith in absurd z
 gap_some s (suc i) h = refl
 
-pub put_some_gap : {o o₁ : List ℕ} {a r : ℕ} (s i : ℕ) → (i ≡ 0 → ⊥) → Put (s ∷ []) o a r o₁ → Put (gap s i) o a r o₁
-put_some_gap s i h p = put_as (sym (gap_some s i (omega arith))) p
+pub put_some_gap : {o o₁ : Writer} (s i : ℕ) → 0 < i → Writes (s ∷ []) o o₁ → Writes (gap s i) o o₁
+put_some_gap s i h p = put_as (sym (gap_some s i h)) p
 
 -- a letter of one digit, not the first
-pub put_digit_letter : {o o₁ : List ℕ} {a r : ℕ} (s i n : ℕ) → 0 < i → n < 10 → Put (s ∷ code "v" ∷ (48 + n) ∷ []) o a r o₁ → Put (gap s i ++ write_letter n) o a r o₁
+pub put_digit_letter : {o o₁ : Writer} (s i n : ℕ) → 0 < i → n < 10 → Writes (s ∷ code "v" ∷ (48 + n) ∷ []) o o₁ → Writes (gap s i ++ write_letter n) o o₁
 unfolding write_letter
 put_digit_letter s i n h k p = put_as (ap₂ ◌++◌ (sym (gap_some s i h)) (ap (λ l. code "v" ∷ l) (sym (number_small n k)))) p
 
@@ -80,14 +81,14 @@ parted_more s [] q = refl
 parted_more s (p ∷ ps) q = parted_behind s p ps q
 
 -- the pieces of no number
-pub put_no_piece : (s : ℕ) (f : ℕ → List ℕ) (xs o : List ℕ) (a : ℕ) → length o < top → a ≤ top → Put (parted s (map f (take 0 xs))) o a a o
+pub put_no_piece : (s : ℕ) (f : ℕ → List ℕ) (xs : List ℕ) (o : Writer) → Writes (parted s (map f (take 0 xs))) o o
 unfolding parted
-put_no_piece s f xs o a h k = put_none o a h k
+put_no_piece s f xs o = put_none o
 
 -- the pieces of one number more
-pub put_piece : {o o₁ o₂ : List ℕ} {a b c : ℕ} (s : ℕ) (f : ℕ → List ℕ) (xs : List ℕ) (i : ℕ) → i < length xs
-    → Put (parted s (map f (take i xs))) o a b o₁ → Put (gap s i ++ f (get_or xs i 0)) o₁ b c o₂
-    → Put (parted s (map f (take (i + 1) xs))) o a c o₂
+pub put_piece : {o o₁ o₂ : Writer} (s : ℕ) (f : ℕ → List ℕ) (xs : List ℕ) (i : ℕ) → i < length xs
+    → Writes (parted s (map f (take i xs))) o o₁ → Writes (gap s i ++ f (get_or xs i 0)) o₁ o₂
+    → Writes (parted s (map f (take (i + 1) xs))) o o₂
 put_piece s f xs i h p q = put_as (sym (append_assoc (parted s (map f (take i xs))) (gap s i) (f (get_or xs i 0))) ∙ law) (then p q)
   where
     size : length (map f (take i xs)) ≡ i
@@ -112,7 +113,7 @@ items_run (mul s t) h =
     ap (λ l. (code "*" ∷ []) ∷ l) (ap₂ ◌++◌ (items_run s h.0) (items_run t h.1) ∙ sym (map-append item (run s) (run t)))
 
 -- when every number of a term's run is put, its text is
-pub put_whole : {o o₁ : List ℕ} {a r : ℕ} (xs : List ℕ) (i : ℕ) (t : Term) → length xs ≤ i → Put (parted (code " ") (map item (take i xs))) o a r o₁ → IsRun xs t
-    → Put (write_term t) o a r o₁
+pub put_whole : {o o₁ : Writer} (xs : List ℕ) (i : ℕ) (t : Term) → length xs ≤ i → Writes (parted (code " ") (map item (take i xs))) o o₁ → IsRun xs t
+    → Writes (write_term t) o o₁
 unfolding write_term
 put_whole xs i t h p e = put_as (ap (parted (code " ")) (ap (map item) (take_all i xs h ∙ e.whole) ∙ sym (items_run t e.fine))) p

@@ -1,103 +1,105 @@
 -- The lines of a job, one after the other.
-use Prim.Native.Nat.{ℕ, ◌+◌, ◌≤◌, ◌<◌}
+use Prim.Native.Nat.{ℕ, ◌<◌}
 use Prim.Native.String.{String}
 use native.Mathlib.Omega.{arith}
 use mathlib.Core.Logic.{⊎_elim}
 use mathlib.Core.Option.{Option, none, some, bind}
 use mathlib.Core.List.{List, [], ◌∷◌}
 use mathlib.Core.Path.{◌≡◌, refl, sym, ap, subst, ◌∙◌}
-use lib.ListN.{length, drop, drop_of_length-le}
-use lib.Seq.{slice, drop-cons}
+use lib.ListN.{length}
 use Rattle.terms.specs.Theory.Order.{below?}
 use Rattle.search.specs.Line.{Limits}
-use Rattle.search.specs.declared.bounded_search.Limits as limits
-use Rattle.text.specs.declared.job.Number.{Number}
-use Rattle.text.specs.declared.job.Number.TheVariants.{Is, TooLarge, Malformed}
-use Rattle.text.specs.declared.job.Value.TheVariants.{Between, Missing}
-use Rattle.text.specs.declared.job.lines.Limit.{Limit}
-use Rattle.text.specs.declared.job.lines.Limit.TheVariants as limit
-use Rattle.text.specs.declared.job.lines.RightLines.{RightLines}
+use Rattle.std.specs.Prelude.{Result, Ok, Err}
+use Rattle.text.specs.declared.job.NumberError.{NumberError}
+use Rattle.text.specs.declared.job.NumberError.TheVariants.{TooLarge, Malformed}
 use Rattle.text.specs.Bytes.{ascii, end, read_number, Split}
 use Rattle.text.specs.Layout.{keyed, limit_line, limit_lines}
 use Rattle.text.specs.FindJob.{Repeated, Layouts, layouts}
-use Rattle.text.specs.Reading.{Valued, Values, limited}
-use Rattle.text.specs.LayoutRead.{LimitAt, LimitIn, LimitedBy, RightsIn, LaidOut}
+use Rattle.text.specs.Reading.{Valued, Unkeyed, limited}
+use Rattle.text.specs.RightLines.{rights_in, RightsIn}
+use Rattle.text.specs.LayoutRead.{LimitAt, Unlimited, LimitedBy}
 use Rattle.text.proofs.Numbers.{allowed, too_large, malformed}
-use Rattle.text.proofs.RightLines.{all, all_none, all_some}
+use Rattle.text.proofs.RightLines.{all, all_none, all_some, values_read}
 
 -- the line of one limit
 
--- what a number says of the limit
-abbrev limit_of : ℕ → Number → Limit
-limit_of next (Is n) = limit.Is n next
-limit_of next TooLarge = limit.Is 4097 next
-limit_of next Malformed = limit.Malformed
-
-module _ (s : List ℕ) (from : ℕ) (key : List ℕ) where
-  pub no_limit : Values s from key Missing → LimitIn s from key limit.Malformed
+module _ (s key : List ℕ) where
+  pub no_limit : Unkeyed s key → Unlimited s key
   unfolding limit_line bind
   no_limit h k e = rw (h k e)
 
-  module _ (start e : ℕ) (v : Values s from key (Between start e)) where
-    limit_is : (n : ℕ) → read_number (slice start e s) ≡ some n → (k : String) → ascii k ≡ key
-        → limit_line k (drop from s) ≡ some (record { number = n; rest = drop (e + 1) s })
+  module _ (value rest : List ℕ) (v : Valued s key value rest) where
+    -- what a number says of the limit
+    abbrev Told : Result ℕ NumberError → Type 0
+    Told (Ok n) = LimitAt s key n rest
+    Told (Err TooLarge) = LimitAt s key 4097 rest
+    Told (Err Malformed) = Unlimited s key
+
+    limit_is : (n : ℕ) → read_number value ≡ some n → (k : String) → ascii k ≡ key → limit_line k s ≡ some (record { number = n; rest = rest })
     unfolding limit_line bind
     limit_is n p k f = rw (v.parts k f, p)
 
-    limit_read : (o : Option ℕ) → read_number (slice start e s) ≡ o → LimitIn s from key (limit_of (e + 1) (limited 4096 o))
+    limit_read : (o : Option ℕ) → read_number value ≡ o → Told (limited 4096 o)
     unfolding limit_line bind
     limit_read none p = rw (malformed 4096) (λ k f. rw (v.parts k f, p))
     limit_read (some n) p =
         ⊎_elim
-        (λ l. rw (too_large 4096 n l) (record { ends = omega (arith, v.ends); number = n; is = omega arith; parts = limit_is n p }))
-        (λ h. rw (allowed 4096 n h) (record { ends = omega (arith, v.ends); number = n; is = omega arith; parts = limit_is n p }))
+        (λ l. rw (too_large 4096 n l) (record { shorter = omega (arith, v.shorter); number = n; is = omega arith; parts = limit_is n p }))
+        (λ h. rw (allowed 4096 n h) (record { shorter = omega (arith, v.shorter); number = n; is = omega arith; parts = limit_is n p }))
         (below? 4096 n)
 
-    pub limit_told : (x r : Number) → x ≡ limited 4096 (read_number (slice start e s)) → x ≡ r → LimitIn s from key (limit_of (e + 1) r)
-    limit_told x r p q =
-        subst (λ t. LimitIn s from key (limit_of (e + 1) t)) (sym p ∙ q) (limit_read (read_number (slice start e s)) refl)
+    pub limit_told : (x r : Result ℕ NumberError) → x ≡ limited 4096 (read_number value) → x ≡ r → Told r
+    limit_told x r p q = subst Told (sym p ∙ q) (limit_read (read_number value) refl)
 
 -- the lines of the limits
 
-module _ (s : List ℕ) (from : ℕ) where
-  pub no_steps : LimitIn s from (ascii "steps=") limit.Malformed → limit_lines (drop from s) ≡ none
+module _ (s : List ℕ) where
+  pub no_steps : Unlimited s (ascii "steps=") → limit_lines s ≡ none
   unfolding limit_lines bind
   no_steps h = rw (h "steps=" refl)
 
-  module _ {m p : ℕ} (a : LimitAt s from (ascii "steps=") m p) where
-    pub no_size : LimitIn s p (ascii "size=") limit.Malformed → limit_lines (drop from s) ≡ none
+  module _ {m : ℕ} {p : List ℕ} (a : LimitAt s (ascii "steps=") m p) where
+    pub no_size : Unlimited p (ascii "size=") → limit_lines s ≡ none
     unfolding limit_lines bind
     no_size h = rw (a.parts "steps=" refl) (rw (h "size=" refl))
 
-    module _ {n q : ℕ} (b : LimitAt s p (ascii "size=") n q) where
-      pub no_depth : LimitIn s q (ascii "depth=") limit.Malformed → limit_lines (drop from s) ≡ none
+    module _ {n : ℕ} {q : List ℕ} (b : LimitAt p (ascii "size=") n q) where
+      pub no_depth : Unlimited q (ascii "depth=") → limit_lines s ≡ none
       unfolding limit_lines bind
       no_depth h = rw (a.parts "steps=" refl) (rw (b.parts "size=" refl) (rw (h "depth=" refl)))
 
-      module _ {i t : ℕ} (c : LimitAt s q (ascii "depth=") i t) where
-        pub no_nodes : LimitIn s t (ascii "nodes=") limit.Malformed → limit_lines (drop from s) ≡ none
+      module _ {i : ℕ} {t : List ℕ} (c : LimitAt q (ascii "depth=") i t) where
+        pub no_nodes : Unlimited t (ascii "nodes=") → limit_lines s ≡ none
         unfolding limit_lines bind
         no_nodes h = rw (a.parts "steps=" refl) (rw (b.parts "size=" refl) (rw (c.parts "depth=" refl) (rw (h "nodes=" refl))))
 
-        module _ {j u : ℕ} (d : LimitAt s t (ascii "nodes=") j u) where
+        module _ {j : ℕ} {u : List ℕ} (d : LimitAt t (ascii "nodes=") j u) where
           abbrev read : Limits
           read = record { steps = a.number; size = b.number; depth = c.number; nodes = d.number }
 
-          all_lines : limit_lines (drop from s) ≡ end read (drop u s)
+          all_lines : limit_lines s ≡ end read u
           unfolding limit_lines bind
           all_lines = rw (a.parts "steps=" refl) (rw (b.parts "size=" refl) (rw (c.parts "depth=" refl) (rw (d.parts "nodes=" refl))))
 
-          pub more_lines : u < length s → limit_lines (drop from s) ≡ none
+          ends : (bs : List ℕ) → length bs ≡ 0 → end read bs ≡ some read
           unfolding end
-          more_lines h = all_lines ∙ rw (drop-cons s u 0 h)
+          ends [] h = refl
+          ends (b ∷ bs) h = absurd (omega (arith, h))
 
-          pub limits_end : length s ≤ u → LimitedBy (drop from s) (record { steps = m; size = n; depth = i; nodes = j })
+          goes_on : (bs : List ℕ) → (length bs ≡ 0 → ⊥) → end read bs ≡ none
           unfolding end
+          goes_on [] h = absurd (h refl)
+          goes_on (b ∷ bs) h = refl
+
+          pub more_lines : (length u ≡ 0 → ⊥) → limit_lines s ≡ none
+          more_lines h = all_lines ∙ goes_on u h
+
+          pub limits_end : length u ≡ 0 → LimitedBy s (record { steps = m; size = n; depth = i; nodes = j })
           limits_end h =
               record {
                 limits = read;
                 is = λ k. record { steps = a.is k; size = b.is k; depth = c.is k; nodes = d.is k };
-                lines = all_lines ∙ rw (drop_of_length-le s h);
+                lines = all_lines ∙ ends u h;
               }
 
 -- all the lines
@@ -127,41 +129,30 @@ module _ (left rest : List ℕ) where
   laid_some (v ∷ vs) m h e = rw e
 
 module _ (s : List ℕ) where
-  pub no_left : Values s 0 (ascii "left=") Missing → layouts s ≡ none
+  pub no_left : Unkeyed s (ascii "left=") → layouts s ≡ none
   unfolding layouts bind
   no_left h = rw (h "left=" refl)
 
-  module _ {a b : ℕ} (l : Valued s 0 (ascii "left=") a b) where
+  module _ {left lines : List ℕ} (l : Valued s (ascii "left=") left lines) where
     -- the first right line and the others are all right lines
-    layouts_laid : layouts s ≡ laid (slice a b s) (all "right=" (drop (b + 1) s))
+    layouts_laid : layouts s ≡ laid left (all "right=" lines)
     unfolding layouts bind
-    layouts_laid = go (keyed "right=" (drop (b + 1) s)) refl
+    layouts_laid = go (keyed "right=" lines) refl
       where
-        go : (o : Option Split) → keyed "right=" (drop (b + 1) s) ≡ o → layouts s ≡ laid (slice a b s) (all "right=" (drop (b + 1) s))
-        go none e = rw (l.parts "left=" refl) (rw (e, all_none "right=" (drop (b + 1) s) e))
-        go (some r) e = rw (l.parts "left=" refl) (rw (e, all_some "right=" (drop (b + 1) s) e))
+        go : (o : Option Split) → keyed "right=" lines ≡ o → layouts s ≡ laid left (all "right=" lines)
+        go none e = rw (l.parts "left=" refl) (rw (e, all_none "right=" lines e))
+        go (some r) e = rw (l.parts "left=" refl) (rw (e, all_some "right=" lines e))
 
-    module _ {places₀ places : List ℕ} {r : RightLines} (R : RightsIn s (b + 1) places₀ places r) where
-      layouts_read : layouts s ≡ laid (slice a b s) (record { values = R.values; rest = drop r.end s })
-      layouts_read = layouts_laid ∙ ap (laid (slice a b s)) R.lines
+    module _ {n : ℕ} {rest : List ℕ} (R : RightsIn lines n rest) where
+      layouts_read : layouts s ≡ laid left (record { values = R.values; rest = rest })
+      layouts_read = layouts_laid ∙ ap (laid left) R.lines
 
-      pub no_right : r.count ≡ 0 → layouts s ≡ none
-      no_right h = layouts_read ∙ laid_none (slice a b s) (drop r.end s) R.values (sym R.counted ∙ h)
+      pub no_right : n ≡ 0 → layouts s ≡ none
+      no_right h = layouts_read ∙ laid_none left rest R.values (sym R.counted ∙ h)
 
-      pub no_limits : limit_lines (drop r.end s) ≡ none → layouts s ≡ none
-      no_limits h = layouts_read ∙ laid_open (slice a b s) (drop r.end s) R.values h
+      pub no_limits : limit_lines rest ≡ none → layouts s ≡ none
+      no_limits h = layouts_read ∙ laid_open left rest R.values h
 
-      pub laid_out : {m : limits.Limits} → 0 < r.count → LimitedBy (drop r.end s) m
-          → LaidOut s places (record { left = record { from = a; to = b }; rights = r.count; limits = m })
-      laid_out h k =
-          record {
-            left_starts = l.starts;
-            left_ends = l.ends;
-            rights = R.values;
-            some_rights = h;
-            counted = R.counted;
-            placed = R.placed;
-            limits = k.limits;
-            is = k.is;
-            lines = layouts_read ∙ laid_some (slice a b s) (drop r.end s) R.values k.limits (omega (arith, h, R.counted)) k.lines;
-          }
+      pub laid_out : {m : Limits} → 0 < n → limit_lines rest ≡ some m → layouts s ≡ some (record { left = left; rights = rights_in lines n; limits = m })
+      laid_out {m} h k =
+          rw (values_read lines n rest R) (layouts_read ∙ laid_some left rest R.values m (omega (arith, h, R.counted)) k)

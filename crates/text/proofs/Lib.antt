@@ -1,7 +1,6 @@
 -- Laws that the proofs share.
 -- reading
 pub mod Marking
-pub mod Parts
 pub mod Numbers
 pub mod Lines
 pub mod Reading
@@ -13,6 +12,7 @@ pub mod Accepts
 pub mod Jobs
 -- writing
 pub mod Overlay
+pub mod Writing
 pub mod Decimal
 pub mod Items
 pub mod WordTexts

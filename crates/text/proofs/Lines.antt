@@ -1,87 +1,99 @@
--- Lines and keys of a text, a byte at a time.
-use Prim.Native.Nat.{ℕ, ◌+◌, ◌≤◌, ◌<◌}
-use Prim.Native.String.{String}
-use native.Mathlib.Numerals.{add-one}
-use native.Mathlib.Omega.{arith}
-use mathlib.Core.Bool.{true, false}
-use mathlib.Core.Option.{Option, none, some, bind}
-use mathlib.Core.List.{List, ◌∷◌}
-use mathlib.Core.Path.{◌≡◌, ap, sym, ◌∙◌}
-use lib.ListN.{length, drop, get_or, drop_of_length-le}
-use lib.Seq.{slice-cons, slice_empty, drop-cons}
-use borrow.Author.Tests.{eq-eqb, ne_eqb}
-use Rattle.text.specs.declared.job.Found.{Found}
-use Rattle.text.specs.declared.job.Found.TheVariants.{At, Nothing}
-use Rattle.text.specs.declared.job.Value.TheVariants.{Between, Missing}
-use Rattle.text.specs.Bytes.{Split, ascii, after, up_to, line}
+-- Texts cut behind a key and at a byte, as the library's methods cut them.
+use Rattle.std.proofs.Common.{ℕ, suc, ◌+◌, ◌-◌, ◌<◌, ◌≤◌, Bool, true, false, cond, not, Some, None, List, [], ◌∷◌, ◌++◌, ◌≡◌, refl, ap, ◌∙◌, length, take, drop, arith, length-take, length-drop, add-one, one-add}
+use Rattle.std.proofs.lemmas.List.{take_all}
+use borrow.Author.Tests.{lt-ltb, ltb-true}
+use Rattle.std.specs.Option.{MatchOption}
+use Prim.Native.Nat.compare
+use denote.Bor.{Bor}
+use Rattle.std.specs.declared.option.Option as answered
+use mathlib.Core.Logic.{◌≢◌}
+use lib.Dec.{eqb, ltb}
+use Rattle.std.proofs.Math.Option.{Option, none, some, bind}
+use Rattle.std.specs.List.{position_or_len, position}
+use Rattle.text.specs.Bytes.{Split, after, line, up_to}
 use Rattle.text.specs.Layout.{keyed}
-use Rattle.text.specs.Reading.{Lines, Keys, Values}
+use Rattle.text.specs.Reading.{CutAt, Valued, Unkeyed}
+use Rattle.text.specs.Theory.Keyed.{after_only, after_key}
 
--- a line with a byte more in front
-abbrev longer : ℕ → Option Split → Option Split
-longer b o = elim o [ none ↦ none | some c ↦ some (record { front = b ∷ c.front; rest = c.rest }) ]
+pub after_some : (p rest s : List ℕ) → s ≡ p ++ rest → after p s ≡ some rest
+after_some p rest s e = ap (after p) e ∙ after_key p rest
 
-module _ (s : List ℕ) (i : ℕ) where
-  pub no_line : length s ≤ i → Lines s i Nothing
-  unfolding line up_to
-  no_line h = rw (drop_of_length-le s h)
+pub after_none : (p s : List ℕ) → ((rest : List ℕ) → s ≢ p ++ rest) → after p s ≡ none
+after_none p s h = go (after p s) refl
+  where
+    go : (o : Option (List ℕ)) → after p s ≡ o → o ≡ none
+    go none e = refl
+    go (some v) e = absurd (h v (after_only p s e))
 
-  module _ (h : i < length s) where
-    pub line_ends : get_or s i 0 ≡ 10 → Lines s i (At i)
-    unfolding line up_to
-    line_ends e = record { starts = omega arith; ends = h; parts = rw (add-one, drop-cons s i 0 h, e, slice_empty i s) }
+module _ (b : ℕ) where
+  -- where the byte stands first, or the length
+  abbrev first : List ℕ → ℕ
+  first s = position_or_len (λ x. eqb x b) s
 
-    module _ (other : get_or s i 0 ≡ 10 → ⊥) where
-      passed : line (drop i s) ≡ longer (get_or s i 0) (line (drop (i + 1) s))
-      unfolding line up_to
-      passed = rw (add-one, drop-cons s i 0 h, ne_eqb (get_or s i 0) 10 other, up_to)
+  abbrev cut : List ℕ → ℕ → Split
+  cut s i = record { front = take i s; rest = drop (suc i) s }
 
-      pub line_goes_on : (r : Found) → Lines s (i + 1) r → Lines s i r
-      line_goes_on (At e) l =
-          let lt : i < e = omega (arith, l.starts) in
-          record {
-            starts = omega (arith, l.starts);
-            ends = l.ends;
-            parts = passed ∙ ap (longer (get_or s i 0)) l.parts ∙ rw (add-one, slice-cons i e s 0 lt (omega (arith, l.ends)));
-          }
-      line_goes_on Nothing l = passed ∙ ap (longer (get_or s i 0)) l
+  up_to_first : (s : List ℕ) → up_to b s ≡ cond (ltb (first s) (length s)) (some (cut s (first s))) none
+  unfolding up_to
+  up_to_first [] = refl
+  up_to_first (x ∷ xs) = go (eqb x b) (up_to_first xs)
+    where
+      go : (t : Bool) → up_to b xs ≡ cond (ltb (first xs) (length xs)) (some (cut xs (first xs))) none
+          → elim t [
+            | true ↦ some (record { front = []; rest = xs })
+            | false ↦ elim (up_to b xs) [ none ↦ none | some c ↦ some (record { front = x ∷ c.front; rest = c.rest }) ]
+          ]
+          ≡ (let n = cond (not t) (1 + first xs) 0 in cond (ltb n (length (x ∷ xs))) (some (cut (x ∷ xs) n)) none)
+      go true e = rw (lt-ltb 0 (suc (length xs)) (omega arith))
+      go false e = rw (e, one-add, compare.suc-suc) (more (ltb (first xs) (length xs)))
+        where
+          more : (t : Bool)
+              → elim (cond t (some (cut xs (first xs))) none) [ none ↦ none | some c ↦ some (record { front = x ∷ c.front; rest = c.rest }) ]
+              ≡ cond t (some (cut (x ∷ xs) (suc (first xs)))) none
+          more true = refl
+          more false = refl
 
-module _ (s key : List ℕ) (i j : ℕ) where
-  pub key_ends : length key ≤ j → after (drop j key) (drop i s) ≡ some (drop i s)
-  unfolding after
-  key_ends h = rw (drop_of_length-le key h)
+  pub up_to_at : (s : List ℕ) (i : ℕ) → position (λ x. eqb x b) s ≡ Some i → CutAt s b (take i s) (drop (i + 1) s)
+  up_to_at s i e = go (ltb (first s) (length s)) refl e
+    where
+      go : (t : Bool) → ltb (first s) (length s) ≡ t → cond t (Some (first s)) None ≡ Some i → CutAt s b (take i s) (drop (i + 1) s)
+      go true h k =
+          let f : first s ≡ i = cc in
+          let l : first s < length s = ltb-true _ _ h in
+          rw (← f, add-one) (record {
+            shorter = omega (arith, length-take (first s) s, length-drop (suc (first s)) s);
+            parts = up_to_first s ∙ rw h;
+          })
+      go false h k = cc
 
-  module _ (h : j < length key) where
-    pub text_ends : length s ≤ i → after (drop j key) (drop i s) ≡ none
-    unfolding after
-    text_ends k = rw (drop-cons key j 0 h, drop_of_length-le s k)
+  pub up_to_none : (s : List ℕ) → position (λ x. eqb x b) s ≡ None → up_to b s ≡ none
+  up_to_none s e = go (ltb (first s) (length s)) refl e
+    where
+      go : (t : Bool) → ltb (first s) (length s) ≡ t → cond t (Some (first s)) None ≡ None → up_to b s ≡ none
+      go true h k = cc
+      go false h k = up_to_first s ∙ rw h
 
-    module _ (k : i < length s) where
-      pub bytes_differ : (get_or s i 0 ≡ get_or key j 0 → ⊥) → after (drop j key) (drop i s) ≡ none
-      unfolding after
-      bytes_differ n =
-          rw (drop-cons key j 0 h, drop-cons s i 0 k, ne_eqb (get_or key j 0) (get_or s i 0) (λ e. n (sym e)), after)
+-- the rest of a list, as a range to its end
+pub to_end : (s : List ℕ) (i : ℕ) → take (length s - i) (drop i s) ≡ drop i s
+to_end s i = take_all (length s - i) (drop i s) (omega (arith, length-drop i s))
 
-      pub bytes_agree : get_or s i 0 ≡ get_or key j 0 → after (drop j key) (drop i s) ≡ after (drop (j + 1) key) (drop (i + 1) s)
-      unfolding after
-      bytes_agree e =
-          rw (add-one j, add-one i, drop-cons key j 0 h, drop-cons s i 0 k, eq-eqb (get_or key j 0) (get_or s i 0) (sym e), after)
+-- the line with a key
 
-module _ (s : List ℕ) (from : ℕ) (key : List ℕ) where
-  read_key : (o : Option (List ℕ)) → after key (drop from s) ≡ o → (k : String) → ascii k ≡ key → keyed k (drop from s) ≡ bind o line
-  unfolding keyed
-  read_key o e k f = rw (f, e)
+pub no_key : (s key : List ℕ) → after key s ≡ none → Unkeyed s key
+unfolding keyed bind
+no_key s key e k f = rw (f, e)
 
-  pub no_key : Keys s from key false → Values s from key Missing
-  unfolding bind
-  no_key e = read_key none e
+module _ (s key rest : List ℕ) (e : after key s ≡ some rest) where
+  no_end : up_to 10 rest ≡ none → Unkeyed s key
+  unfolding keyed bind line
+  no_end h k f = rw (f, e) h
 
-  module _ (e : Keys s from key true) where
-    pub value_ends : (at : ℕ) → Lines s (from + length key) (At at) → Values s from key (Between (from + length key) at)
-    unfolding bind
-    value_ends at l =
-        record { starts = l.starts; ends = l.ends; parts = λ k f. read_key (some (drop (from + length key) s)) e.rest k f ∙ l.parts }
+  value_ends : length rest ≤ length s → (v more : List ℕ) → CutAt rest 10 v more → Valued s key v more
+  unfolding keyed bind line
+  value_ends l v more c = record { shorter = omega (arith, l, c.shorter); parts = λ k f. rw (f, e) c.parts }
 
-    pub value_open : Lines s (from + length key) Nothing → Values s from key Missing
-    unfolding bind
-    value_open l k f = read_key (some (drop (from + length key) s)) e.rest k f ∙ l
+  pub value_of : length rest ≤ length s → (o : answered.Option (Bor (List ℕ) × Bor (List ℕ)))
+      → MatchOption o (up_to 10 rest ≡ none) (λ v. CutAt rest 10 v.0.now v.1.now)
+      → MatchOption o (Unkeyed s key) (λ v. Valued s key v.0.now v.1.now)
+  value_of l None h = no_end h
+  value_of l (Some v) h = value_ends l v.0.now v.1.now h

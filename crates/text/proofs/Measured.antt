@@ -7,12 +7,11 @@ use native.Mathlib.Omega.{arith}
 use lib.ListN.{length, drop}
 use borrow.Author.Tests.{le-leb, lt-leb}
 use Rattle.text.specs.Answer.{◌>>=◌, require, refused, accepted, fitting}
-use Rattle.text.specs.Entry.{Call}
+use Rattle.std.specs.Prelude.{Ok, Err}
+use Rattle.text.specs.Entry.{Call, Gives}
+use Rattle.text.specs.declared.refusal.Refusal.TheVariants.{ShortOutput}
 use Rattle.text.specs.Put.{Put}
 use Rattle.text.proofs.Overlay.{overlay_empty, overlay_fits}
-
-answers : (text out out' : List ℕ) (r : ℕ) → r ≡ 100 + length text → out' ≡ text ++ drop (length text) out → Call (accepted text) out r out'
-answers text out out' r e f = record { number = e; output = f }
 
 -- a call that refuses by number
 pub refuses : (n : ℕ) (out : List ℕ) → Call (refused n) out n out
@@ -32,22 +31,20 @@ module _ {text o : List ℕ} {n : ℕ} (out : List ℕ) (measured : Put text [] 
   stays : o ++ out ≡ out
   stays = ap (λ (l : List ℕ). l ++ out) (measured.bytes ∙ overlay_empty 0 text)
 
-  fits : {m : ℕ} {out' : List ℕ} → n ≤ length out → Put text out 0 m out' → Call (fitting (length out) text) out (100 + n) out'
+  fits : {m : ℕ} {out' : List ℕ} → n ≤ length out → Put text out 0 m out' → Gives (fitting (length out) text) out (Ok n) out'
   fits {m} {out'} h p =
       let s : n ≡ length text = omega (arith, measured.next, p.room) in
       let f : length text ≤ length out = omega arith in
-      rw (fitting_room (length out) text f)
-      (answers text out out' (100 + n) (ap (λ k. 100 + k) s)
-      (p.bytes ∙ overlay_fits out 0 text (omega arith) ∙ ap (λ k. text ++ drop k out) (zero-add (length text))))
+      (text, fitting_room (length out) text f, s, p.bytes ∙ overlay_fits out 0 text (omega arith) ∙ ap (λ k. text ++ drop k out) (zero-add (length text)))
 
-  lacks : length out < n → Call (fitting (length out) text) out 8 out
+  lacks : length out < n → Gives (fitting (length out) text) out (Err ShortOutput) out
   lacks h =
       let f : length out < length text = omega (arith, measured.next) in
-      rw (fitting_none (length out) text f) (refuses 8 out)
+      (fitting_none (length out) text f, refl)
 
   -- the same, where the output is still written as its front of no bytes and the rest
-  pub fits_behind : {m : ℕ} {out' : List ℕ} → n ≤ length (o ++ out) → Put text (o ++ out) 0 m out' → Call (fitting (length out) text) out (100 + n) out'
+  pub fits_behind : {m : ℕ} {out' : List ℕ} → n ≤ length (o ++ out) → Put text (o ++ out) 0 m out' → Gives (fitting (length out) text) out (Ok n) out'
   fits_behind {m} {out'} h p = fits (omega (arith, ap length stays)) (subst (λ (l : List ℕ). Put text l 0 m out') stays p)
 
-  pub lacks_behind : length (o ++ out) < n → Call (fitting (length out) text) out 8 (o ++ out)
-  lacks_behind h = subst (λ (l : List ℕ). Call (fitting (length out) text) out 8 l) (sym stays) (lacks (omega (arith, ap length stays)))
+  pub lacks_behind : length (o ++ out) < n → Gives (fitting (length out) text) out (Err ShortOutput) (o ++ out)
+  lacks_behind h = subst (λ (l : List ℕ). Gives (fitting (length out) text) out (Err ShortOutput) l) (sym stays) (lacks (omega (arith, ap length stays)))

@@ -1,6 +1,5 @@
--- Decimal numbers, a digit at a time, in a part of a text and against the largest number allowed.
+-- Decimal numbers, a digit at a time, against the largest number allowed.
 use Prim.Native.Nat.{ℕ, ◌+◌, ◌*◌, ◌≤◌, ◌<◌, ◌-◌}
-use native.Mathlib.Numerals.{add-one}
 use native.Mathlib.Omega.{arith}
 use mathlib.Core.Bool.{Bool, true, false, ◌&&◌}
 use mathlib.Core.Logic.{⊎_elim}
@@ -9,24 +8,23 @@ use mathlib.Core.List.{List, [], ◌∷◌}
 use mathlib.Core.Path.{◌≡◌, refl, sym, ◌∙◌}
 use lib.Dec.{leb}
 use lib.ListN.{length, get_or}
-use lib.Seq.{slice, slice-cons}
-use borrow.Author.Tests.{le-leb, lt-leb, ne_eqb}
+use borrow.Author.Tests.{eq-eqb, le-leb, lt-leb, ne_eqb}
 use Rattle.terms.specs.Theory.Order.{below?}
-use Rattle.text.specs.declared.job.Number.TheVariants.{Is, TooLarge, Malformed}
+use Rattle.std.specs.Prelude.{Ok, Err}
+use Rattle.text.specs.declared.job.NumberError.TheVariants.{TooLarge, Malformed}
 use Rattle.text.specs.Bytes.{digits, read_number}
 use Rattle.text.specs.Reading.{limited}
-use Rattle.text.proofs.Parts.{no_part, one_part, two_part}
 
 module _ (most n : ℕ) where
-  pub allowed : n ≤ most → limited most (some n) ≡ Is n
+  pub allowed : n ≤ most → limited most (some n) ≡ Ok n
   unfolding limited
   allowed h = rw (le-leb n most h, limited)
 
-  pub too_large : most < n → limited most (some n) ≡ TooLarge
+  pub too_large : most < n → limited most (some n) ≡ Err TooLarge
   unfolding limited
   too_large h = rw (lt-leb n most h, limited)
 
-pub malformed : (most : ℕ) → limited most none ≡ Malformed
+pub malformed : (most : ℕ) → limited most none ≡ Err Malformed
 unfolding limited
 malformed most = refl
 
@@ -44,41 +42,48 @@ past (b ∷ bs) most m n h k =
     tested (leb 48 b && leb b 57) most (digits (m * 10 + (b - 48)) bs) (digits (n * 10 + (b - 48)) bs)
     (past bs most (m * 10 + (b - 48)) (n * 10 + (b - 48)) (omega arith) (omega arith))
 
-module _ (s : List ℕ) (i to : ℕ) (h : i < to) (k : to ≤ length s) (n : ℕ) where
-  low : get_or s i 0 < 48 → digits n (slice i to s) ≡ none
+module _ (b : ℕ) (bs : List ℕ) (n : ℕ) where
+  low : b < 48 → digits n (b ∷ bs) ≡ none
   unfolding digits
-  low p = rw (slice-cons i to s 0 h k, lt-leb 48 (get_or s i 0) p, digits)
+  low p = rw (lt-leb 48 b p, digits)
 
-  high : 48 ≤ get_or s i 0 → 57 < get_or s i 0 → digits n (slice i to s) ≡ none
+  high : 48 ≤ b → 57 < b → digits n (b ∷ bs) ≡ none
   unfolding digits
-  high q p = rw (slice-cons i to s 0 h k, le-leb 48 (get_or s i 0) q, lt-leb (get_or s i 0) 57 p, digits)
+  high q p = rw (le-leb 48 b q, lt-leb b 57 p, digits)
 
-  pub foul : (48 ≤ get_or s i 0 → get_or s i 0 ≤ 57 → ⊥) → digits n (slice i to s) ≡ none
-  foul f = ⊎_elim low (λ q. ⊎_elim (high q) (λ p. absurd (f q p)) (below? 57 (get_or s i 0))) (below? (get_or s i 0) 48)
+  pub foul : (48 ≤ b → b ≤ 57 → ⊥) → digits n (b ∷ bs) ≡ none
+  foul f = ⊎_elim low (λ q. ⊎_elim (high q) (λ p. absurd (f q p)) (below? 57 b)) (below? b 48)
 
-  pub next : 48 ≤ get_or s i 0 → get_or s i 0 ≤ 57 → digits n (slice i to s) ≡ digits (n * 10 + (get_or s i 0 - 48)) (slice (i + 1) to s)
+  pub next : 48 ≤ b → b ≤ 57 → digits n (b ∷ bs) ≡ digits (n * 10 + (b - 48)) bs
   unfolding digits
-  next p q = rw (add-one, slice-cons i to s 0 h k, le-leb 48 (get_or s i 0) p, le-leb (get_or s i 0) 57 q, digits)
+  next p q = rw (le-leb 48 b p, le-leb b 57 q, digits)
 
-pub done : (s : List ℕ) (i to n : ℕ) → i ≡ to → digits n (slice i to s) ≡ some n
+pub done : (bs : List ℕ) (n : ℕ) → length bs ≤ 0 → digits n bs ≡ some n
 unfolding digits
-done s i to n e = rw (no_part s i to e)
+done [] n h = refl
+done (b ∷ bs) n h = absurd (omega (arith, h))
 
--- a part is a number: none if it is empty or starts with a needless zero, what its digits make otherwise
-module _ (s : List ℕ) (i to : ℕ) (k : to ≤ length s) where
-  pub empty : i ≡ to → read_number (slice i to s) ≡ none
-  unfolding read_number
-  empty e = rw (no_part s i to e)
+-- a text is a number: none if it is empty or starts with a needless zero, what its digits make otherwise
 
-  pub single : i < to → to ≤ i + 1 → read_number (slice i to s) ≡ digits 0 (slice i to s)
-  unfolding read_number
-  single h l = rw (one_part s i to k h l)
+pub empty : (bs : List ℕ) → length bs ≤ 0 → read_number bs ≡ none
+unfolding read_number
+empty [] h = refl
+empty (b ∷ bs) h = absurd (omega (arith, h))
 
-  module _ (l : i + 1 < to) where
-    pub needless : get_or s i 0 ≡ 48 → read_number (slice i to s) ≡ none
-    unfolding read_number
-    needless e = rw (two_part s i to k l, e)
+pub needless : (bs : List ℕ) → 1 < length bs → get_or bs 0 0 ≡ 48 → read_number bs ≡ none
+unfolding read_number
+needless [] h e = refl
+needless (b ∷ []) h e = absurd (omega (arith, h))
+needless (b ∷ c ∷ bs) h e = rw (eq-eqb b 48 e, read_number)
 
-    pub several : (get_or s i 0 ≡ 48 → ⊥) → read_number (slice i to s) ≡ digits 0 (slice i to s)
-    unfolding read_number
-    several n = rw (two_part s i to k l, ne_eqb (get_or s i 0) 48 n, read_number)
+pub single : (bs : List ℕ) → length bs ≡ 1 → read_number bs ≡ digits 0 bs
+unfolding read_number
+single [] h = absurd (omega (arith, h))
+single (b ∷ []) h = refl
+single (b ∷ c ∷ bs) h = absurd (omega (arith, h))
+
+pub several : (bs : List ℕ) → 1 < length bs → (get_or bs 0 0 ≡ 48 → ⊥) → read_number bs ≡ digits 0 bs
+unfolding read_number
+several [] h f = absurd (omega (arith, h))
+several (b ∷ []) h f = absurd (omega (arith, h))
+several (b ∷ c ∷ bs) h f = rw (ne_eqb b 48 f, read_number)

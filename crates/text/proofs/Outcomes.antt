@@ -14,12 +14,13 @@ use Rattle.text.specs.Answer.{field}
 use Rattle.text.specs.Find.{uses}
 use Rattle.text.specs.Printing.{figures}
 use Rattle.text.specs.Walk.{Walk}
-use Rattle.text.specs.Put.{Put}
-use Rattle.text.proofs.Overlay.{then, put_as}
+use Rattle.text.specs.Writer.{Writes}
+use Rattle.text.specs.declared.writer.Writer.{Writer}
+use Rattle.text.proofs.Writing.{then, put_as}
 
 -- the lines with the figures, and what follows them
-pub figures_then : (e : ℕ) (xs : List Line) {t o o₁ o₂ : List ℕ} {a b c : ℕ} → Put (figures e xs) o a b o₁ → Put t o₁ b c o₂
-    → Put (field "steps=" (number (length xs)) ++ (field "expanded=" (number e) ++ (field "uses=" (parted (code ",") (uses semiring xs)) ++ t))) o a c o₂
+pub figures_then : (e : ℕ) (xs : List Line) {t : List ℕ} {o o₁ o₂ : Writer} → Writes (figures e xs) o o₁ → Writes t o₁ o₂
+    → Writes (field "steps=" (number (length xs)) ++ (field "expanded=" (number e) ++ (field "uses=" (parted (code ",") (uses semiring xs)) ++ t))) o o₂
 figures_then e xs {t} p q =
     let steps : List ℕ = field "steps=" (number (length xs)) in
     let opened : List ℕ = field "expanded=" (number e) in

@@ -1,13 +1,15 @@
 -- Texts put one after the other.
 use mathlib.Core.Path.{◌≡◌, refl, sym, ap, subst, ◌∙◌}
 use mathlib.Core.List.{List, [], ◌∷◌, ◌++◌, append-nil, append_assoc, flat_map}
-use Prim.Native.Nat.{ℕ, suc, ◌+◌, ◌≤◌, ◌<◌, min}
+use Prim.Native.Nat.{ℕ, suc, ◌+◌, ◌-◌, ◌≤◌, ◌<◌, min}
 use native.Mathlib.Nat.{add-zero, add-suc, suc-add}
 use native.Mathlib.Numerals.{add-one}
 use native.Mathlib.Omega.{arith}
 use mathlib.Core.Logic.{⊎_elim}
-use lib.ListN.{length, get_or, set, take, drop, length-set, length-append}
-use lib.Seq.{sets, sets-eq, set_out, take-suc}
+use borrow.Rule.Slice.PartMut.{put_mid}
+use lib.ListN.{length, get_or, set, take, drop, length-set, length-append, drop_of_length-le}
+use lib.Seq.{sets, sets-eq, set_out, length-take-le}
+use Rattle.std.proofs.lemmas.List.{take-append-drop, drop-drop}
 use Rattle.terms.specs.Theory.Order.{below?}
 use Rattle.text.specs.Put.{overlay, Put, top}
 
@@ -78,56 +80,48 @@ then {ys} {zs} {o} {o₁} {o₂} {a} {b} {c} p q =
       room = p.room;
     }
 
--- the same text, said another way
-pub put_as : {ys zs o o₁ : List ℕ} {a b : ℕ} → ys ≡ zs → Put ys o a b o₁ → Put zs o a b o₁
-put_as {o = o} {o₁} {a} {b} e p = subst (λ (t : List ℕ). Put t o a b o₁) e p
-
--- nothing follows
-pub put_last : {t o o' : List ℕ} {a r : ℕ} → Put t o a r o' → Put (t ++ []) o a r o'
-put_last {t} p = put_as (sym (append-nil t)) p
-
 -- nothing put
 pub put_none : (o : List ℕ) (a : ℕ) → length o < top → a ≤ top → Put [] o a a o
 put_none o a h k = record { next = omega arith; bytes = sym (overlay_none o a); room = h }
 
--- one byte, at a place of the output or past it
-pub put_in : (o : List ℕ) (a b : ℕ) → length o < top → a < length o → Put (b ∷ []) o a (a + 1) (set o a b)
-put_in o a b h k = record { next = omega arith; bytes = sym (overlay_one o a b); room = h }
+-- a part of a text, as far as the output goes, is all of it that can be stored
+pub overlay_part : (xs : List ℕ) (a : ℕ) (ys zs : List ℕ) (n : ℕ) → a < length xs → n ≡ min (length ys) (length xs - a) → zs ≡ take n ys
+    → put_mid a (a + n - a) xs zs ≡ overlay xs a ys
+overlay_part xs a ys zs n h e is = placed ∙ sym (overlay_fits xs a (take n ys) fits) ∙ sym rest_out ∙ whole
+  where
+    count : length (take n ys) ≡ n
+    count = length-take-le n ys (omega arith)
 
-pub put_past : (ys o : List ℕ) (a r : ℕ) → length o < top → length o ≤ a → r ≡ min top (a + length ys) → Put ys o a r o
-put_past ys o a r h k e = record { next = e; bytes = sym (overlay_past o a ys k); room = h }
+    fits : a + length (take n ys) ≤ length xs
+    fits = omega (arith, count)
 
--- three bytes, each in the output, and one after the other
-pub second_in : (o : List ℕ) (a x : ℕ) → a + 3 ≤ length o → a + 1 < length (set o a x)
-second_in o a x h = omega (arith, length-set o a x)
+    placed : put_mid a (a + n - a) xs zs ≡ take a xs ++ take n ys ++ drop (a + length (take n ys)) xs
+    placed =
+        let m : a + n - a ≡ n = omega arith in
+        rw (is, m, drop-drop n a xs, count) (sym (append_assoc (take a xs) (take n ys) (drop (a + n) xs)))
 
-pub third_in : (o : List ℕ) (a x y : ℕ) → a + 3 ≤ length o → a + 2 < length (set (set o a x) (a + 1) y)
-third_in o a x y h = omega (arith, length-set o a x, length-set (set o a x) (a + 1) y)
+    -- what is left of the text is nothing, or past the end
+    rest_out : overlay (overlay xs a (take n ys)) (a + length (take n ys)) (drop n ys) ≡ overlay xs a (take n ys)
+    rest_out =
+        ⊎_elim
+        (λ more. overlay_past (overlay xs a (take n ys)) (a + length (take n ys)) (drop n ys) (omega (arith, length_overlay xs a (take n ys), count)))
+        (λ all. rw (drop_of_length-le ys {i = n} all) (overlay_none (overlay xs a (take n ys)) (a + length (take n ys))))
+        (below? n (length ys))
 
-pub put_three_in : (o : List ℕ) (a x y z : ℕ) → length o < top → a + 3 ≤ length o
-    → Put (x ∷ y ∷ z ∷ []) o a (a + 3) (set (set (set o a x) (a + 1) y) (a + 2) z)
+    whole : overlay (overlay xs a (take n ys)) (a + length (take n ys)) (drop n ys) ≡ overlay xs a ys
+    whole = overlay_append xs a (take n ys) (drop n ys) ∙ ap (overlay xs a) (take-append-drop n ys)
+
+-- nothing is stored past the end
+pub overlay_out : (xs : List ℕ) (a : ℕ) (ys : List ℕ) → length xs ≤ a → xs ≡ overlay xs a ys
+overlay_out xs a ys h = sym (overlay_past xs a ys h)
+
+-- one byte, and three
+pub overlay_byte : (xs : List ℕ) (a b : ℕ) → set xs a b ≡ overlay xs a (b ∷ [])
+overlay_byte xs a b = sym (overlay_one xs a b)
+
+pub overlay_three : (xs : List ℕ) (a x y z : ℕ) → set (set (set xs a x) (a + 1) y) (a + 2) z ≡ overlay xs a (x ∷ y ∷ z ∷ [])
 unfolding overlay
-put_three_in o a x y z h k =
+overlay_three xs a x y z =
     let e : a + 1 ≡ suc a = omega arith in
     let f : a + 2 ≡ suc (suc a) = omega arith in
-    record { next = omega arith; bytes = rw (e, f); room = h }
-
-pub put_three_each : {o o₁ o₂ o₃ : List ℕ} {a b c d : ℕ} (x y z : ℕ) → Put (x ∷ []) o a b o₁ → Put (y ∷ []) o₁ b c o₂ → Put (z ∷ []) o₂ c d o₃
-    → Put (x ∷ y ∷ z ∷ []) o a d o₃
-put_three_each x y z p q r = then (then p q) r
-
--- a byte more of a text
-pub put_more : {o o₁ o₂ : List ℕ} {a p q : ℕ} (ys : List ℕ) (i : ℕ) → i < length ys
-    → Put (take i ys) o a p o₁ → Put (get_or ys i 0 ∷ []) o₁ p q o₂ → Put (take (i + 1) ys) o a q o₂
-put_more ys i h p q = put_as (rw (add-one, take-suc ys i 0)) (then p q)
-
--- the texts of several things, and one more
-flatMap_behind : {A : Type 0} (f : A → List ℕ) (xs : List A) (y : A) → flat_map f (xs ++ (y ∷ [])) ≡ flat_map f xs ++ f y
-unfolding flat_map
-flatMap_behind f [] y = append-nil (f y)
-flatMap_behind f (x ∷ xs) y = ap (λ l. f x ++ l) (flatMap_behind f xs y) ∙ sym (append_assoc (f x) (flat_map f xs) (f y))
-
-pub put_each_more : {A : Type 0} (f : A → List ℕ) (d : A) (xs : List A) (i : ℕ) {o o₁ o₂ : List ℕ} {a b c : ℕ} → i < length xs
-    → Put (flat_map f (take i xs)) o a b o₁ → Put (f (get_or xs i d)) o₁ b c o₂ → Put (flat_map f (take (i + 1) xs)) o a c o₂
-put_each_more f d xs i h p q =
-    put_as (sym (ap (flat_map f) (rw add-one (take-suc xs i d h)) ∙ flatMap_behind f (take i xs) (get_or xs i d))) (then p q)
+    rw (e, f)

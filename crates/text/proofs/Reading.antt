@@ -1,14 +1,16 @@
 -- Items of a term: one byte by what it is, a letter by its number.
-use Prim.Native.Nat.{ℕ, zero, suc, ◌+◌, ◌≤◌, ◌<◌, ◌-◌}
-use native.Mathlib.Numerals.{add-one}
+use Prim.Native.Nat.{ℕ, zero, suc, ◌≤◌, ◌<◌, ◌-◌}
+use Rattle.std.specs.Option.{MatchOption}
+use Rattle.std.specs.declared.option.Option as answered
+use Rattle.std.specs.declared.option.Option.TheVariants.{Some, None}
+use Rattle.std.specs.Result.{result_ok}
 use native.Mathlib.Omega.{arith}
 use mathlib.Core.Logic.{⊎_elim}
 use mathlib.Core.Option.{Option, none, some}
 use mathlib.Core.List.{List, [], ◌∷◌}
-use mathlib.Core.Path.{◌≡◌, refl, ap, sym, subst, ◌∙◌}
-use lib.ListN.{length, get_or}
-use lib.Seq.{slice, slice-cons}
-use borrow.Author.Tests.{ne_eqb, le-leb, lt-leb, lt-ltb}
+use mathlib.Core.Path.{◌≡◌, refl, ap, sym, ◌∙◌}
+use lib.ListN.{length, get_or, drop}
+use borrow.Author.Tests.{eq-eqb, ne_eqb, le-leb, lt-leb, lt-ltb}
 use Rattle.terms.specs.Theory.Order.{below?}
 use Rattle.terms.specs.Term as term
 use Rattle.terms.specs.Term.{letter}
@@ -17,16 +19,11 @@ use Rattle.terms.specs.Numbers as numbers
 use Rattle.text.specs.declared.job.Sign.TheVariants.{Plus, Times, Letter}
 use Rattle.text.specs.declared.job.Mark.{Mark}
 use Rattle.text.specs.declared.job.Mark.TheVariants as is
-use Rattle.text.specs.declared.job.Number.{Number}
-use Rattle.text.specs.declared.job.Number.TheVariants.{Is, TooLarge, Malformed}
-use Rattle.text.specs.declared.job.Item.{Item}
-use Rattle.text.specs.declared.job.Item.TheVariants as item
 use Rattle.text.specs.Bytes.{read_number}
 use Rattle.text.specs.Marks.{digit, mark}
 use Rattle.text.specs.TermText.{letter_of, sign, token}
-use Rattle.text.specs.Reading.{Items, limited}
+use Rattle.text.specs.Reading.{Numbered, limited}
 use Rattle.text.proofs.Marking.{at, other, inside, below, above}
-use Rattle.text.proofs.Parts.{no_part, two_part}
 use Rattle.text.proofs.Numbers.{allowed, too_large, malformed}
 
 -- what an item of one byte stands for, by what the byte is
@@ -78,52 +75,46 @@ pub one_byte : (b : ℕ) (m : Mark) → mark b ≡ m → token (b ∷ []) ≡ to
 unfolding token
 one_byte b m e = signs b ∙ ap told e
 
--- the item that a number behind `v` makes
-abbrev lettered : Number → Item
-lettered (Is n) = item.Is n
-lettered TooLarge = item.Foul
-lettered Malformed = item.Foul
-
 -- what a number behind `v` says of the letter
-abbrev Letters : Option ℕ → Number → Type 0
-Letters o (Is n) = (n ≤ 999) × (letter_of o ≡ some (atom (letter n)))
-Letters o TooLarge = letter_of o ≡ none
-Letters o Malformed = letter_of o ≡ none
-
-letters : (o : Option ℕ) → Letters o (limited 999 o)
+letters : (o : Option ℕ) → MatchOption (result_ok (limited 999 o)) (letter_of o ≡ none) (λ n. (n ≤ 999) × (letter_of o ≡ some (atom (letter n))))
 unfolding letter_of
 letters none = rw (malformed 999)
 letters (some n) =
     ⊎_elim
-    (λ l. subst (Letters (some n)) (sym (too_large 999 n l)) (rw (lt-leb n 999 l, letter_of)))
-    (λ h. subst (Letters (some n)) (sym (allowed 999 n h)) (h, rw (le-leb n 999 h, letter_of)))
+    (λ l. rw (too_large 999 n l) (rw (lt-leb n 999 l, letter_of)))
+    (λ h. rw (allowed 999 n h) (h, rw (le-leb n 999 h, letter_of)))
     (below? 999 n)
 
 number_letter : (n : ℕ) → n ≤ 999 → numbers.token n ≡ some (atom (letter n))
 unfolding numbers.token
 number_letter n h = let l : n < 4096 = omega arith in rw (lt-ltb n 4096 l, numbers.token)
 
-items : (bs : List ℕ) (o : Option ℕ) (r : Number) → token bs ≡ letter_of o → Letters o r → Items bs (lettered r)
-items bs o (Is n) e l = record { small = omega (arith, l.0); same = e ∙ l.1 ∙ sym (number_letter n l.0) }
-items bs o TooLarge e l = e ∙ l
-items bs o Malformed e l = e ∙ l
+-- the item of a letter is its number
+lettered : (bs : List ℕ) (o : Option ℕ) → token bs ≡ letter_of o → (r : answered.Option ℕ)
+    → MatchOption r (letter_of o ≡ none) (λ n. (n ≤ 999) × (letter_of o ≡ some (atom (letter n))))
+    → MatchOption r (token bs ≡ none) (λ x. Numbered bs x)
+lettered bs o e (Some n) l = record { small = omega (arith, l.0); same = e ∙ l.1 ∙ sym (number_letter n l.0) }
+lettered bs o e None l = e ∙ l
 
-pub no_item : (s : List ℕ) (i to : ℕ) → i ≡ to → Items (slice i to s) item.Foul
+pub no_item : (bs : List ℕ) → length bs ≤ 0 → token bs ≡ none
 unfolding token
-no_item s i to e = rw (no_part s i to e)
+no_item [] h = refl
+no_item (b ∷ bs) h = absurd (omega (arith, h))
 
-module _ (s : List ℕ) (i to : ℕ) (k : to ≤ length s) (l : i + 1 < to) where
-  pub no_letter : (get_or s i 0 ≡ 118 → ⊥) → Items (slice i to s) item.Foul
-  unfolding token
-  no_letter n = rw (two_part s i to k l, ne_eqb (get_or s i 0) 118 n, token)
+-- several bytes are a letter, if the first is `v`
 
-  behind : get_or s i 0 ≡ 118 → token (slice i to s) ≡ letter_of (read_number (slice (i + 1) to s))
-  unfolding token
-  behind e =
-      let h : suc i < to = omega arith in
-      rw (two_part s i to k l, e, add-one, slice-cons (suc i) to s 0 h k)
+pub no_letter : (bs : List ℕ) → 1 < length bs → (get_or bs 0 0 ≡ 118 → ⊥) → token bs ≡ none
+unfolding token
+no_letter [] l n = refl
+no_letter (b ∷ []) l n = absurd (omega (arith, l))
+no_letter (b ∷ c ∷ cs) l n = rw (ne_eqb b 118 n, token)
 
-  pub letter_item : get_or s i 0 ≡ 118 → (r : Number) → limited 999 (read_number (slice (i + 1) to s)) ≡ r → Items (slice i to s) (lettered r)
-  letter_item e r f =
-      let o = read_number (slice (i + 1) to s) in
-      items (slice i to s) o r (behind e) (subst (Letters o) f (letters o))
+behind : (bs : List ℕ) → 1 < length bs → get_or bs 0 0 ≡ 118 → token bs ≡ letter_of (read_number (drop 1 bs))
+unfolding token
+behind [] l e = absurd (omega (arith, l))
+behind (b ∷ []) l e = absurd (omega (arith, l))
+behind (b ∷ c ∷ cs) l e = rw (eq-eqb b 118 e, token)
+
+pub letter_item : (bs : List ℕ) → 1 < length bs → get_or bs 0 0 ≡ 118 → (r : answered.Option ℕ) → r ≡ result_ok (limited 999 (read_number (drop 1 bs)))
+    → MatchOption r (token bs ≡ none) (λ x. Numbered bs x)
+letter_item bs l e r f = lettered bs (read_number (drop 1 bs)) (behind bs l e) r (rw f (letters (read_number (drop 1 bs))))

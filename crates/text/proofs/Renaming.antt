@@ -20,15 +20,15 @@ use Rattle.words.specs.Rename.{rename_term, canonical_terms, canonical_words}
 use Rattle.words.specs.WordLists.{CanonicalWords}
 use Rattle.words.specs.Candidate.{CanonicalTerms}
 use Rattle.words.specs.Theory.Renaming.{canonical_terms_least}
-use Rattle.words.specs.declared.candidate.Lengths.{Lengths}
 use Rattle.text.specs.Bytes.{ascii}
 use Rattle.text.specs.TermText.{write_term}
 use Rattle.text.specs.Answer.{field}
 use Rattle.text.specs.Words.{word_list}
 use Rattle.text.specs.Rename.{term_lines, word_lines, renamed_words}
 use Rattle.text.specs.Renamed.{Renamed}
-use Rattle.text.specs.Put.{Put}
-use Rattle.text.proofs.Overlay.{then, put_as}
+use Rattle.text.specs.Writer.{Writes}
+use Rattle.text.specs.declared.writer.Writer.{Writer}
+use Rattle.text.proofs.Writing.{then, put_as}
 
 -- ---- the renamed terms
 
@@ -65,47 +65,45 @@ canonical_fine s t few = rw e (orient_either (λ u v. Fine u × Fine v) order (r
     right = fine_renamed f t (λ n m. small n (in_right (letters s) m))
 
 -- the runs of the canonical equation
-pub canonical_runs : {xs ys left right left' right' us vs : List ℕ} {r : Lengths} → CanonicalTerms xs ys left right r left' right'
-    → us ≡ take r.left left' → vs ≡ take r.right right' → 31 ≤ length left → 31 ≤ length right
+pub canonical_runs : {xs ys : List ℕ} {e : Equation (List ℕ)} {us vs : List ℕ} → CanonicalTerms xs ys 31 e → us ≡ e.left → vs ≡ e.right
     → (s t : Term) → IsRun xs s → IsRun ys t → size s ≤ 31 → size t ≤ 31 → length (rising (letters s ++ letters t)) ≤ 6
     → IsRun us (canonical_terms s t).left × IsRun vs (canonical_terms s t).right
-canonical_runs c u v room-left room-right s t p q small-s small-t few =
-    let (l, r) = c.exact s t p q small-s small-t few room-left room-right in
+canonical_runs c u v s t p q small-s small-t few =
+    let (l, r) = c.exact s t p q small-s small-t few (omega arith) in
     let (f, g) = canonical_fine s t few in
     (record { fine = f; whole = u ∙ l }, record { fine = g; whole = v ∙ r })
 
 -- ---- the renamed lists
 
 -- what is put of them
-pub canonical_lists : {xs ys left right left' right' us vs : List ℕ} {r : Lengths} {same : Bool}
-    → (same ≡ false → CanonicalWords xs ys left right r left' right')
-    → us ≡ take r.left left' → vs ≡ take r.right right' → 5508 ≤ length left → 5508 ≤ length right
+pub canonical_lists : {xs ys : List ℕ} {e : Equation (List ℕ)} {us vs : List ℕ} {same : Bool}
+    → (same ≡ false → CanonicalWords xs ys 5508 e) → us ≡ e.left → vs ≡ e.right
     → (s t : Term) → IsRun xs s → IsRun ys t → size s ≤ 31 → size t ≤ 31 → length (rising (letters s ++ letters t)) ≤ 6
     → same ≡ compare_is_eq (order_lists (words s) (words t)) → Renamed (words s) (words t) same us vs
-canonical_lists c u v room-left room-right s t p q small-s small-t few agree =
+canonical_lists c u v s t p q small-s small-t few agree =
     record {
       agree = agree;
-      lists = λ differ. let (l, r) = (c differ).exact s t p q small-s small-t few room-left room-right in (u ∙ l, v ∙ r);
+      lists = λ differ. let (l, r) = (c differ).exact s t p q small-s small-t few (omega arith) in (u ∙ l, v ∙ r);
     }
 
 -- ---- the lines
 
-pub put_term_lines : {o o₁ o₂ : List ℕ} {a b d : ℕ} (e : Equation Term)
-    → Put (ascii "left=" ++ (write_term e.left ++ (10 ∷ []))) o a b o₁ → Put (ascii "right=" ++ (write_term e.right ++ (10 ∷ []))) o₁ b d o₂
-    → Put (term_lines e) o a d o₂
+pub put_term_lines : {o o₁ o₂ : Writer} (e : Equation Term)
+    → Writes (ascii "left=" ++ (write_term e.left ++ (10 ∷ []))) o o₁ → Writes (ascii "right=" ++ (write_term e.right ++ (10 ∷ []))) o₁ o₂
+    → Writes (term_lines e) o o₂
 unfolding term_lines field
 put_term_lines e p q = then p q
 
-module _ {o : List ℕ} {a : ℕ} {same : Bool} {us vs : List Word} {xs ys : List ℕ} (h : Renamed us vs same xs ys) where
-  pub put_no_lists : {o₁ o₂ : List ℕ} {b c : ℕ} → same ≡ true
-      → Put (ascii "wleft=" ++ (ascii "-" ++ (10 ∷ []))) o a b o₁ → Put (ascii "wright=" ++ (ascii "-" ++ (10 ∷ []))) o₁ b c o₂ → Put (renamed_words us vs) o a c o₂
+module _ {o : Writer} {same : Bool} {us vs : List Word} {xs ys : List ℕ} (h : Renamed us vs same xs ys) where
+  pub put_no_lists : {o₁ o₂ : Writer} → same ≡ true
+      → Writes (ascii "wleft=" ++ (ascii "-" ++ (10 ∷ []))) o o₁ → Writes (ascii "wright=" ++ (ascii "-" ++ (10 ∷ []))) o₁ o₂ → Writes (renamed_words us vs) o o₂
   unfolding renamed_words word_lines field ascii
   put_no_lists e p q = put_as (rw (← h.agree, e, renamed_words)) (then p q)
 
-  pub put_word_lines : {o₁ o₂ : List ℕ} {b c : ℕ} → same ≡ false
-      → ((ws : List Word) → xs ≡ spelled ws → Put (ascii "wleft=" ++ (word_list ws ++ (10 ∷ []))) o a b o₁)
-      → ((ws : List Word) → ys ≡ spelled ws → Put (ascii "wright=" ++ (word_list ws ++ (10 ∷ []))) o₁ b c o₂)
-      → Put (renamed_words us vs) o a c o₂
+  pub put_word_lines : {o₁ o₂ : Writer} → same ≡ false
+      → ((ws : List Word) → xs ≡ spelled ws → Writes (ascii "wleft=" ++ (word_list ws ++ (10 ∷ []))) o o₁)
+      → ((ws : List Word) → ys ≡ spelled ws → Writes (ascii "wright=" ++ (word_list ws ++ (10 ∷ []))) o₁ o₂)
+      → Writes (renamed_words us vs) o o₂
   unfolding renamed_words word_lines field
   put_word_lines e p q =
       put_as (rw (← h.agree, e, renamed_words)) (then (p (canonical_words us vs).left (h.lists e).0) (q (canonical_words us vs).right (h.lists e).1))

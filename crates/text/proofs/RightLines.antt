@@ -1,23 +1,17 @@
--- The lines with one key, one after the other, and where their values are kept.
-use Prim.Native.Nat.{ℕ, zero, suc, ◌+◌, ◌*◌, ◌≤◌, ◌<◌}
+-- The lines with one key, one after the other.
+use Prim.Native.Nat.{ℕ, zero, suc, ◌+◌, ◌≤◌, ◌<◌}
 use Prim.Native.String.{String}
-use native.Mathlib.Nat.{not-suc-le-zero}
 use native.Mathlib.Omega.{arith}
-use mathlib.Core.Logic.{⊎_elim}
 use mathlib.Core.Option.{Option, none, some}
 use mathlib.Core.List.{List, [], ◌∷◌, ◌++◌, append_assoc, append-nil}
 use mathlib.Core.Path.{◌≡◌, refl, sym, ap, ◌∙◌}
-use lib.ListN.{length, drop, get_or, set, length-set, length-drop, length-append, get_or-append}
-use lib.Seq.{slice, get_or_at, get_or-set_same, get_or-set_other}
-use borrow.Author.Tests.{lt-ltb, le-ltb}
-use Rattle.terms.specs.Theory.Order.{below?}
-use Rattle.text.specs.declared.job.Value.TheVariants.{Missing}
+use lib.ListN.{length, length-append}
 use Rattle.text.specs.Bytes.{Split, ascii}
 use Rattle.text.specs.Layout.{keyed}
 use Rattle.text.specs.Answer.{field}
 use Rattle.text.specs.FindJob.{Repeated, repeated}
-use Rattle.text.specs.Reading.{Valued, Values}
-use Rattle.text.specs.LayoutRead.{starts_at, ends_at, KeepsPlace, PlacedAt, Placed, RightsIn}
+use Rattle.text.specs.Reading.{Valued, Unkeyed}
+use Rattle.text.specs.RightLines.{rights_in, RightsIn}
 use Rattle.text.specs.Theory.Keyed.{keyed_parts}
 
 -- the values of lines, before those of others
@@ -45,12 +39,12 @@ module _ (key : String) where
       go none e = refl
       go (some c) e = let z : ⊥ = omega (arith, shorter bs e, h) in absurd z
 
-  stops : (k : ℕ) (bs : List ℕ) → keyed key bs ≡ none → repeated key k bs ≡ record { values = []; rest = bs }
+  pub stops : (k : ℕ) (bs : List ℕ) → keyed key bs ≡ none → repeated key k bs ≡ record { values = []; rest = bs }
   unfolding repeated
   stops zero bs e = refl
   stops (suc k) bs e = rw (e, repeated)
 
-  goes_on : (k : ℕ) (bs : List ℕ) {c : Split} → keyed key bs ≡ some c → repeated key (suc k) bs ≡ before (c.front ∷ []) (repeated key k c.rest)
+  pub goes_on : (k : ℕ) (bs : List ℕ) {c : Split} → keyed key bs ≡ some c → repeated key (suc k) bs ≡ before (c.front ∷ []) (repeated key k c.rest)
   unfolding repeated
   goes_on k bs e = rw (e, repeated)
 
@@ -83,134 +77,58 @@ module _ (key : String) where
       ∙ goes_on (length bs) bs e
       ∙ ap (before (c.front ∷ [])) (enough (length bs) (length c.rest) c.rest (omega (arith, n)) (omega arith))
 
--- the places of the values
+  -- to read just as many lines as there are is enough
+  pub just_enough : (k : ℕ) (bs : List ℕ) → (repeated key (length (repeated key k bs).values) bs).values ≡ (repeated key k bs).values
+  unfolding repeated
+  just_enough zero bs = refl
+  just_enough (suc k) bs = go (keyed key bs) refl (λ c. just_enough k c.rest)
+    where
+      go : (o : Option Split) → keyed key bs ≡ o → ((c : Split) → (repeated key (length (repeated key k c.rest).values) c.rest).values ≡ (repeated key k c.rest).values)
+          → (repeated key (length (repeated key (suc k) bs).values) bs).values ≡ (repeated key (suc k) bs).values
+      go none e on = rw (stops (suc k) bs e) refl
+      go (some c) e on = rw (goes_on k bs e, goes_on (length (repeated key k c.rest).values) bs e) (ap (λ vs. c.front ∷ vs) (on c))
 
-module _ (s places : List ℕ) where
-  placed_by : (j a b : ℕ) (v : List ℕ) → starts_at places j ≡ a → ends_at places j ≡ b → a ≤ b → b < length s → v ≡ slice a b s → PlacedAt s places j v
-  placed_by j a b v p q h l e = record { starts = rw (p, q) h; ends = rw q l; is = rw (p, q) e }
-
--- one place more
-module _ (s places : List ℕ) (vs : List (List ℕ)) (k from to : ℕ) (count : k ≡ length vs) (starts : from ≤ to) (ends : to < length s) (P : Placed s places vs) where
-  abbrev more : List (List ℕ)
-  more = vs ++ (slice from to s ∷ [])
-
-  one_more : length more ≡ k + 1
-  one_more = omega (arith, length-append vs (slice from to s ∷ []), count)
-
-  old_value : (j : ℕ) → j < k → get_or more j [] ≡ get_or vs j []
-  old_value j h = get_or-append vs (slice from to s ∷ []) [] j (omega (arith, h, count))
-
-  module _ (room : 2 * k + 1 < length places) where
-    abbrev started : List ℕ
-    started = set places (2 * k) from
-
-    abbrev written : List ℕ
-    written = set started (2 * k + 1) to
-
-    written_length : length written ≡ length places
-    written_length = length-set started (2 * k + 1) to ∙ length-set places (2 * k) from
-
-    old_start : (j : ℕ) → j < k → starts_at written j ≡ starts_at places j
-    old_start j h = get_or-set_other started (2 * k + 1) (2 * j) to 0 (λ e. omega arith) ∙ get_or-set_other places (2 * k) (2 * j) from 0 (λ e. omega arith)
-
-    old_end : (j : ℕ) → j < k → ends_at written j ≡ ends_at places j
-    old_end j h =
-        get_or-set_other started (2 * k + 1) (2 * j + 1) to 0 (λ e. omega arith) ∙ get_or-set_other places (2 * k) (2 * j + 1) from 0 (λ e. omega arith)
-
-    new_start : starts_at written k ≡ from
-    new_start = get_or-set_other started (2 * k + 1) (2 * k) to 0 (λ e. omega arith) ∙ get_or-set_same places (2 * k) from 0 (omega (arith, room))
-
-    new_end : ends_at written k ≡ to
-    new_end = get_or-set_same started (2 * k + 1) to 0 (omega (arith, room, length-set places (2 * k) from))
-
-    new_placed : (j : ℕ) → j ≡ k → PlacedAt s written j (get_or more j [])
-    new_placed j e = rw e (placed_by s written k from to (get_or more k []) new_start new_end starts ends (get_or_at vs (slice from to s) [] [] k (sym count)))
-
-    old_placed : (j : ℕ) → j < k → PlacedAt s written j (get_or more j [])
-    old_placed j h =
-        let p = P j (omega (arith, h, count)) (omega (arith, h, room)) in
-        placed_by s written j (starts_at places j) (ends_at places j) (get_or more j []) (old_start j h) (old_end j h) p.starts p.ends (old_value j h ∙ p.is)
-
-    placed_more : Placed s written more
-    placed_more j h l = ⊎_elim (old_placed j) (λ (m : k ≤ j). new_placed j (omega (arith, h, m, one_more))) (below? j k)
-
-  -- there is no room for it
-  placed_less : length places ≤ 2 * k + 1 → Placed s places more
-  placed_less full j h l =
-      let small : j < k = omega arith in
-      let p = P j (omega (arith, small, count)) l in
-      record { starts = p.starts; ends = p.ends; is = old_value j small ∙ p.is }
-
-  module _ (places' : List ℕ) (kept : KeepsPlace places k from to places') where
-    with_room : 2 * k + 1 < length places → (length places' ≡ length places) × Placed s places' more
-    with_room h =
-        let e : places' ≡ written h = kept ∙ rw (lt-ltb (2 * k + 1) (length places) h) in
-        rw e (written_length h, placed_more h)
-
-    without_room : length places ≤ 2 * k + 1 → (length places' ≡ length places) × Placed s places' more
-    without_room h =
-        let e : places' ≡ places = kept ∙ rw (le-ltb (2 * k + 1) (length places) h) in
-        rw e (refl, placed_less h)
-
-    keeps_placed : (length places' ≡ length places) × Placed s places' more
-    keeps_placed = ⊎_elim with_room without_room (below? (2 * k + 1) (length places))
-
--- the loop over the lines
+-- the loop that counts the lines
 
 abbrev right_lines : List ℕ → Repeated
 right_lines bs = all "right=" bs
 
--- the lines before a position are read
-pub record Midway (s : List ℕ) (from : ℕ) (places₀ places : List ℕ) (count at : ℕ) : Type 0 where
-  pub kept : length places ≡ length places₀
-  pub inside : at ≤ length s
-  pub few : from + count ≤ at
+-- the lines before the rest are counted
+pub record Midway (s : List ℕ) (count : ℕ) (rest : List ℕ) : Type 0 where
+  pub few : count + length rest ≤ length s
   pub values : List (List ℕ)
   pub counted : count ≡ length values
-  pub placed : Placed s places values
-  pub lines : right_lines (drop from s) ≡ before values (right_lines (drop at s))
+  pub lines : right_lines s ≡ before values (right_lines rest)
 
-module _ (s : List ℕ) (from : ℕ) (places₀ : List ℕ) where
-  pub begins : from ≤ length s → Midway s from places₀ places₀ 0 from
-  begins h =
+pub begins : (s : List ℕ) → Midway s 0 s
+begins s = record { few = omega arith; values = []; counted = refl; lines = refl }
+
+module _ (s : List ℕ) (count : ℕ) (rest : List ℕ) (M : Midway s count rest) where
+  pub no_more : Unkeyed rest (ascii "right=") → RightsIn s count rest
+  no_more h =
       record {
-        kept = refl;
-        inside = h;
-        few = omega arith;
-        values = [];
-        counted = refl;
-        placed = λ k n. absurd (not-suc-le-zero n);
-        lines = refl;
+        values = M.values;
+        counted = M.counted;
+        lines = M.lines ∙ ap (before M.values) (all_none "right=" rest (h "right=" refl)) ∙ rw (append-nil M.values);
       }
 
-  module _ (places : List ℕ) (count at : ℕ) (M : Midway s from places₀ places count at) where
-    pub no_more : Values s at (ascii "right=") Missing → RightsIn s from places₀ places (record { count = count; end = at })
-    no_more h =
-        record {
-          kept = M.kept;
-          ends = M.inside;
-          values = M.values;
-          counted = M.counted;
-          placed = M.placed;
-          lines = M.lines ∙ ap (before M.values) (all_none "right=" (drop at s) (h "right=" refl)) ∙ rw (append-nil M.values);
-        }
+  pub one_line : (value more : List ℕ) → Valued rest (ascii "right=") value more → Midway s (count + 1) more
+  one_line value more v =
+      record {
+        few = omega (arith, M.few, v.shorter);
+        values = M.values ++ (value ∷ []);
+        counted = omega (arith, length-append M.values (value ∷ []), M.counted);
+        lines = M.lines
+            ∙ ap (before M.values) (all_some "right=" rest (v.parts "right=" refl))
+            ∙ rw (append_assoc M.values (value ∷ []) (right_lines more).values);
+      }
 
-    module _ (start e : ℕ) (v : Valued s at (ascii "right=") start e) where
-      -- the line has a byte at least
-      pub farther : at < e + 1
-      farther = omega (arith, shorter "right=" (drop at s) (v.parts "right=" refl), length-drop at s, length-drop (e + 1) s, M.inside, v.ends)
+-- the lines counted are those that are read
+module _ (s : List ℕ) (n : ℕ) (rest : List ℕ) (R : RightsIn s n rest) where
+  pub values_read : rights_in s n ≡ R.values
+  values_read =
+      let e : (right_lines s).values ≡ R.values = ap (λ (r : Repeated). r.values) R.lines in
+      rw R.counted (rw e at (just_enough "right=" (length s) s))
 
-      pub one_line : (places' : List ℕ) → KeepsPlace places count start e places' → Midway s from places₀ places' (count + 1) (e + 1)
-      one_line places' k =
-          let p = keeps_placed s places M.values count start e M.counted v.starts v.ends M.placed places' k in
-          record {
-            kept = p.0 ∙ M.kept;
-            inside = omega (arith, v.ends);
-            few = omega (arith, M.few, farther);
-            values = M.values ++ (slice start e s ∷ []);
-            counted = omega (arith, length-append M.values (slice start e s ∷ []), M.counted);
-            placed = p.1;
-            lines = M.lines
-                ∙ ap (before M.values) (all_some "right=" (drop at s) (v.parts "right=" refl))
-                ∙ rw (append_assoc M.values (slice start e s ∷ []) (right_lines (drop (e + 1) s)).values);
-          }
+  pub all_counted : length (rights_in s n) ≡ n
+  all_counted = ap length values_read ∙ sym R.counted

@@ -1,105 +1,88 @@
--- What is asked of left and each right side, and the right sides read into slots.
-use Prim.Native.Nat.{ℕ, suc, ◌+◌, ◌*◌, ◌≤◌, ◌<◌}
+-- What is asked of each right side, and the right sides read into slots.
+use Prim.Native.Nat.{ℕ, suc, ◌+◌, ◌≤◌, ◌<◌}
 use native.Mathlib.Numerals.{add-one}
 use native.Mathlib.Omega.{arith}
-use mathlib.Core.Bool.{Bool, true, false, not, ◌&&◌, and-true, and-false, and_assoc}
+use mathlib.Core.Bool.{Bool, true, false, ◌&&◌, and-true, and-false, and_assoc}
 use mathlib.Core.Option.{Option, none, some, bind as ◌then◌}
-use mathlib.Core.List.{List, [], ◌∷◌, ◌++◌}
+use mathlib.Core.List.{List, [], ◌∷◌, ◌++◌, append_assoc, append-nil}
 use mathlib.Core.Path.{◌≡◌, refl, sym, ap, subst, ◌∙◌}
 use lib.Dec.{leb}
-use lib.ListN.{length, take, drop, get_or, drop_of_length-le}
-use lib.Seq.{slice, drop-cons, take-suc, take_all, split_at, length-take-le}
+use lib.ListN.{length, take, drop, drop_of_length-le, length-append}
+use lib.Seq.{drop-cons, length-take-le}
 use borrow.Author.Tests.{le-leb, lt-leb}
-use Rattle.terms.specs.Term.{Term, zero, size, order}
+use Rattle.terms.specs.Term.{Term, zero, size}
 use Rattle.terms.specs.Letters.{letters, rising}
 use Rattle.terms.specs.Held.{IsRun}
-use Rattle.terms.specs.Promises.{ordering_of, Compares, Equals, Lists}
+use Rattle.terms.specs.Promises.{Lists}
 use Rattle.terms.specs.Theory.Held.{size_of}
-use Rattle.terms.specs.declared.term.Comparison.{Comparison}
-use Rattle.terms.specs.declared.term.Comparison.TheVariants.{Less, Equal, Greater}
-use Rattle.terms.specs.declared.term.Listed.{Listed}
-use Rattle.terms.specs.declared.term.Listed.TheVariants.{All, TooMany}
+use Rattle.std.specs.Prelude as code
+use Rattle.std.specs.Prelude.{Some, None, Result, Ok, Err}
+use Rattle.std.specs.Option.{is_some, IsSome, MatchOption}
 use Rattle.search.specs.Runs.{term_at, HeldRuns, Shows, HoldsRun}
 use Rattle.search.proofs.Holding.{none_held, held_more}
-use Rattle.text.specs.declared.job.rights.Test.{Test}
-use Rattle.text.specs.declared.job.rights.Test.TheVariants.{Few, Differs, After}
-use Rattle.text.specs.declared.job.rights.Rights.{Rights}
-use Rattle.text.specs.declared.job.rights.Rights.TheVariants.{NoTerm, Large, Small}
+use Rattle.text.specs.declared.refusal.Refusal.{Refusal}
+use Rattle.text.specs.declared.refusal.Refusal.TheVariants.{TooLarge}
 use Rattle.text.specs.TermText.{read_term}
-use Rattle.text.specs.FindJob.{read_terms, every, comes_before, all_small}
+use Rattle.text.specs.FindJob.{Repeated, repeated, read_terms, every, all_small}
 use Rattle.text.specs.SideRead.{TermRead}
-use Rattle.text.specs.LayoutRead.{starts_at, ends_at, Placed}
+use Rattle.text.specs.Bytes.{ascii}
+use Rattle.text.specs.Answer.{refused, ◌>>=◌, require, or_refuse}
+use Rattle.text.specs.Reading.{Valued, Unkeyed}
+use Rattle.text.specs.RightLines.{rights_in}
 use Rattle.text.specs.Theory.Keyed.{some_then}
-use Rattle.text.specs.Accepting.{FewLetters, asked, Passes, AllPass, RightsRead, ReadsRights}
+use Rattle.text.specs.Accepting.{FewLetters, AllPass, small_terms, RightsRead}
+use Rattle.text.proofs.RightLines.{stops, goes_on}
 
 -- the letters
 
-module _ {xs ys names names' : List ℕ} {l : Listed} (e : length names ≡ 6) (h : Lists xs ys names l names') where
-  pub few : {k : ℕ} → l ≡ All k → FewLetters xs ys true
-  few p =
+module _ {xs ys names names' : List ℕ} (e : length names ≡ 6) where
+  pub few_letters : (l : code.Option ℕ) → Lists xs ys names l names' → FewLetters xs ys (is_some l)
+  few_letters (Some k) h =
       record {
         exact = λ s t u v.
-            let fills = rw p at (h.terms s t u v) in
+            let fills = h.terms s t u v in
             sym (le-leb (length (rising (letters s ++ letters t))) 6 (omega (arith, fills.0, fills.1)));
       }
-
-  pub many : l ≡ TooMany → FewLetters xs ys false
-  many p =
+  few_letters None h =
       record {
         exact = λ s t u v.
-            let fills = rw p at (h.terms s t u v) in
+            let fills = h.terms s t u v in
             sym (lt-leb (length (rising (letters s ++ letters t))) 6 (omega (arith, fills.0)));
       }
 
--- one right side
-
-abbrev not_less : Comparison → Bool
-not_less Less = false
-not_less Equal = true
-not_less Greater = true
-
-not_before : (c : Comparison) (s t : Term) → ordering_of c ≡ order t s → not_less c ≡ not (comes_before t s)
-unfolding comes_before
-not_before Less s t e = rw (← e, comes_before)
-not_before Equal s t e = rw (← e, comes_before)
-not_before Greater s t e = rw (← e, comes_before)
-
-module _ {test : Test} {xs ys : List ℕ} where
-  pub letters_asked : {r : Bool} → test ≡ Few → FewLetters xs ys r → Passes test xs ys r
-  letters_asked e h = record { exact = λ s t u v. rw e (h.exact s t u v) }
-
-  pub difference_asked : {r : Bool} → test ≡ Differs → Equals xs ys r → Passes test xs ys (not r)
-  difference_asked e h = record { exact = λ s t u v. rw e (ap not (h.terms s t u v)) }
-
-  pub order_asked : {c d : Comparison} → test ≡ After → Compares ys xs c → c ≡ d → Passes test xs ys (not_less d)
-  order_asked {d = d} e h k = record { exact = λ s t u v. rw e (not_before d s t (ap ordering_of (sym k) ∙ h.terms t s v u)) }
-
 -- the right sides one after the other
 
--- those before r pass
-pub record PassedTo (test : Test) (xs rights : List ℕ) (n r : ℕ) : Type 0 where
-  pub exact : (s : Term) (ts : List Term) → IsRun xs s → HeldRuns rights ts → length ts ≡ n → every (asked test s) ts ≡ every (asked test s) (drop r ts)
+-- a test of terms is what the code makes of their runs
+abbrev pub Decided : (List ℕ → Bool → Type 0) → (Term → Bool) → Type 0
+Decided Tells p = (xs : List ℕ) (t : Term) (b : Bool) → IsRun xs t → Tells xs b → b ≡ p t
 
-module _ {test : Test} {xs rights : List ℕ} {n r : ℕ} (before : PassedTo test xs rights n r) where
-  pub all_passed : n ≤ r → AllPass test xs rights n true
+-- those before r pass
+pub record PassedTo (Tells : List ℕ → Bool → Type 0) (rights : List ℕ) (n r : ℕ) : Type 0 where
+  pub exact : (p : Term → Bool) → Decided Tells p → (ts : List Term) → HeldRuns rights ts → length ts ≡ n → every p ts ≡ every p (drop r ts)
+
+pub none_passed : (Tells : List ℕ → Bool → Type 0) (rights : List ℕ) (n : ℕ) → PassedTo Tells rights n 0
+none_passed Tells rights n = record { exact = λ p d ts v e. refl }
+
+module _ {Tells : List ℕ → Bool → Type 0} {rights : List ℕ} {n r : ℕ} (before : PassedTo Tells rights n r) where
+  pub all_passed : n ≤ r → AllPass Tells rights n true
   unfolding every
   all_passed h =
-      record { exact = λ s ts u v e. sym (before.exact s ts u v e ∙ rw (drop_of_length-le ts {i = r} (omega arith))) }
+      record { exact = λ p d ts v e. sym (before.exact p d ts v e ∙ rw (drop_of_length-le ts {i = r} (omega arith))) }
 
-  module _ {ys : List ℕ} {b : Bool} (h : r < n) (shown : Shows rights r ys) (passes : Passes test xs ys b) where
+  module _ {ys : List ℕ} {b : Bool} (h : r < n) (shown : Shows rights r ys) (told : Tells ys b) where
     -- this one and the rest
-    split : (s : Term) (ts : List Term) → IsRun xs s → HeldRuns rights ts → length ts ≡ n → every (asked test s) ts ≡ b && every (asked test s) (drop (r + 1) ts)
+    split : (p : Term → Bool) → Decided Tells p → (ts : List Term) → HeldRuns rights ts → length ts ≡ n → every p ts ≡ b && every p (drop (r + 1) ts)
     unfolding every
-    split s ts u v e =
+    split p d ts v e =
         let inside : r < length ts = omega arith in
-        let this = passes.exact s (term_at ts r) u (shown.exact (term_at ts r) (v.spelled r inside)) in
-        before.exact s ts u v e ∙ rw (add-one, drop-cons ts r zero inside, this)
+        let this = d ys (term_at ts r) b (shown.exact (term_at ts r) (v.spelled r inside)) told in
+        before.exact p d ts v e ∙ rw (add-one, drop-cons ts r zero inside, ← this)
 
-    pub one_fails : b ≡ false → AllPass test xs rights n false
-    one_fails f = record { exact = λ s ts u v e. sym (rw f at (split s ts u v e)) }
+    pub one_fails : b ≡ false → AllPass Tells rights n false
+    one_fails f = record { exact = λ p d ts v e. sym (rw f at (split p d ts v e)) }
 
-    pub one_passes : b ≡ true → PassedTo test xs rights n (r + 1)
-    one_passes f = record { exact = λ s ts u v e. rw f at (split s ts u v e) }
+    pub one_passes : b ≡ true → PassedTo Tells rights n (r + 1)
+    one_passes f = record { exact = λ p d ts v e. rw f at (split p d ts v e) }
 
 -- the terms of the right sides
 
@@ -156,82 +139,122 @@ small_more : (ts : List Term) (t : Term) → all_small (ts ++ (t ∷ [])) ≡ al
 unfolding every
 small_more ts t = every_parts (λ t. leb (size t) 31) ts (t ∷ []) ∙ rw (and-true (leb (size t) 31))
 
+-- what cannot be missing is there
+pub some_of : {A : Type 0} (P : Type 0) (Q : A → Type 0) (o : code.Option A) → (P → ⊥) → MatchOption o P Q → IsSome o
+some_of P Q (Some x) f h = refl
+some_of P Q None f h = absurd (f h)
+
+-- the lines of the right sides
+
+-- where n + 1 values are counted there is a line
+pub some_line : (rest : List ℕ) (n : ℕ) → length (rights_in rest (suc n)) ≡ suc n → Unkeyed rest (ascii "right=") → ⊥
+some_line rest n e h = omega (arith, e, ap length (ap (λ (r : Repeated). r.values) (stops "right=" (suc n) rest (h "right=" refl))))
+
+pub first_line : (rest side more : List ℕ) (n : ℕ) → Valued rest (ascii "right=") side more → rights_in rest (suc n) ≡ side ∷ rights_in more n
+first_line rest side more n v = ap (λ (r : Repeated). r.values) (goes_on "right=" n rest (v.parts "right=" refl))
+
 -- of terms that were read one is large, or all are small and have their runs in slots
-abbrev SoFar : List Term → List ℕ → Rights → Type 0
-SoFar ts rights NoTerm = ⊥
-SoFar ts rights Large = all_small ts ≡ false
-SoFar ts rights Small = (all_small ts ≡ true) × HeldRuns rights ts
+abbrev pub SoFar : List Term → List ℕ → Result (Unit {0}) Refusal → Type 0
+SoFar ts rights (Err e) = (e ≡ TooLarge) × (all_small ts ≡ false)
+SoFar ts rights (Ok u) = (all_small ts ≡ true) × HeldRuns rights ts
 
--- the right sides before r are read
-pub record ReadTo (s places : List ℕ) (n r : ℕ) (rights : List ℕ) (read : Rights) : Type 0 where
-  pub exact : (values : List (List ℕ)) → Placed s places values → length values ≡ n
-      → (ts : List Term) × (read_terms (take r values) ≡ some ts) × SoFar ts rights read
+-- the first r of n right sides are read, and the others are the first of the rest
+pub record ReadTo (lines : List ℕ) (n r : ℕ) (rest rights : List ℕ) (read : Result (Unit {0}) Refusal) : Type 0 where
+  pub left : ℕ
+  pub few : r + left ≡ n
+  pub short : length rest ≤ length lines
+  pub values : List (List ℕ)
+  pub counted : length values ≡ r
+  pub parts : rights_in lines n ≡ values ++ rights_in rest left
+  pub others : length (rights_in rest left) ≡ left
+  pub terms : List Term
+  pub known : read_terms values ≡ some terms
+  pub so_far : SoFar terms rights read
 
-pub none_read : (s places rights : List ℕ) (n : ℕ) → ReadTo s places n 0 rights Small
+pub none_read : (lines rights : List ℕ) (n : ℕ) → length (rights_in lines n) ≡ n → ReadTo lines n 0 lines rights (Ok tt)
 unfolding read_terms every
-none_read s places rights n = record { exact = λ values p e. ([], refl, (refl, none_held rights)) }
+none_read lines rights n e =
+    record {
+      left = n;
+      few = omega arith;
+      short = omega arith;
+      values = [];
+      counted = refl;
+      parts = refl;
+      others = e;
+      terms = [];
+      known = refl;
+      so_far = (refl, none_held rights);
+    }
 
-pub all_read : {s places rights₀ rights : List ℕ} {n r : ℕ} {read : Rights} → ReadTo s places n r rights read → n ≤ r
-    → length rights ≡ length rights₀ → ReadsRights s places n rights₀ rights read
-all_read {rights = rights} {r = r} {read = read} before h kept =
-    record { kept = kept; exact = λ values p e. let b = before.exact values p e in go read b.0 values (rw (take_all r values (omega arith)) at b.1) b.2 }
-  where
-    go : (read : Rights) (ts : List Term) (values : List (List ℕ)) → read_terms values ≡ some ts → SoFar ts rights read → RightsRead values rights read
-    go NoTerm ts values e f = absurd f
-    go Large ts values e f = (ts, e, f)
-    go Small ts values e f = (ts, e, f.0, f.1)
+no_values : (values : List (List ℕ)) (rest : List ℕ) (n : ℕ) → n ≡ 0 → values ++ rights_in rest n ≡ values
+unfolding repeated
+no_values values rest n e = rw e (append-nil values)
 
--- right side r is read
-module _ {s places : List ℕ} {n r : ℕ} (h : r < n) (room : 2 * n ≤ length places) where
-  here : (values : List (List ℕ)) → Placed s places values → length values ≡ n → get_or values r [] ≡ slice (starts_at places r) (ends_at places r) s
-  here values p e = (p r (omega arith) (omega arith)).is
+module _ {lines : List ℕ} {n r : ℕ} {rest rights : List ℕ} {read : Result (Unit {0}) Refusal} (R : ReadTo lines n r rest rights read) where
+  -- all are read
+  pub all_read : n ≤ r → RightsRead (small_terms (rights_in lines n)) read rights
+  unfolding ◌>>=◌ or_refuse require
+  all_read h = rw (R.parts ∙ no_values R.values rest R.left (omega (arith, R.few))) (go read R.so_far)
+    where
+      go : (read : Result (Unit {0}) Refusal) → SoFar R.terms rights read → RightsRead (small_terms R.values) read rights
+      go (Err e) f = rw f.0 (rw R.known (rw f.1))
+      go (Ok u) f = (R.terms, rw R.known (rw f.0), f.1)
 
-  pub foul_side : {rights rights' : List ℕ} → read_term (slice (starts_at places r) (ends_at places r) s) ≡ none → length rights' ≡ length rights
-      → ReadsRights s places n rights rights' NoTerm
-  foul_side f kept =
-      record {
-        kept = kept;
-        exact = λ values p e.
-            ap read_terms (split_at values r [] (omega arith))
-            ∙ none_here (take r values) (get_or values r []) (drop (suc r) values) (ap read_term (here values p e) ∙ f);
-      }
-
-  module _ {run : List ℕ} {m : ℕ} (term : TermRead (slice (starts_at places r) (ends_at places r) s) run m) {rights : List ℕ} {read : Rights} (before : ReadTo s places n r rights read) where
-    -- the terms with one more
-    read_on : (values : List (List ℕ)) → Placed s places values → length values ≡ n → {ts : List Term} → read_terms (take r values) ≡ some ts
-        → read_terms (take (r + 1) values) ≡ some (ts ++ (term.term ∷ []))
-    read_on values p e q =
-        rw (add-one, take-suc values r [] (omega arith)) (one_more (take r values) (get_or values r []) q (ap read_term (here values p e) ∙ term.read))
-
-    pub large_side : 31 < m → ReadTo s places n (r + 1) rights Large
-    large_side l =
-        record {
-          exact = λ values p e.
-              let b = before.exact values p e in (
-                b.0 ++ (term.term ∷ []),
-                read_on values p e b.1,
-                small_more b.0 term.term ∙ rw (lt-leb (size term.term) 31 (omega (arith, term_sized term))) (and-false (all_small b.0)),
-              );
-        }
-
-    pub small_side : {rights' : List ℕ} → m ≤ 31 → HoldsRun rights rights' r (take m run) → ReadTo s places n (r + 1) rights' read
-    small_side {rights'} l H =
-        record {
-          exact = λ values p e.
-              let b = before.exact values p e in (
-                b.0 ++ (term.term ∷ []),
-                read_on values p e b.1,
-                go read b.0 (terms_counted (take r values) b.1 ∙ length-take-le r values (omega arith)) b.2,
-              );
-        }
+  module _ (h : r < n) where
+    one_left : (m : ℕ) × (R.left ≡ suc m)
+    one_left = go R.left refl
       where
-        fits : leb (size term.term) 31 ≡ true
-        fits = le-leb (size term.term) 31 (omega (arith, term_sized term))
+        go : (k : ℕ) → R.left ≡ k → (m : ℕ) × (R.left ≡ suc m)
+        go ℕ.zero e = absurd (omega (arith, e, R.few))
+        go (suc m) e = (m, e)
 
-        go : (read : Rights) (ts : List Term) → length ts ≡ r → SoFar ts rights read → SoFar (ts ++ (term.term ∷ [])) rights' read
-        go NoTerm ts k f = f
-        go Large ts k f = small_more ts term.term ∙ rw f
-        go Small ts k f = (
-          small_more ts term.term ∙ rw (f.0, fits),
-          held_more ts term.term (subst (λ i. HoldsRun rights rights' i (take m run)) (sym k) H) f.1 term.whole,
-        )
+    pub there_is : Unkeyed rest (ascii "right=") → ⊥
+    there_is u = let (m, e) = one_left in some_line rest m (rw e at R.others) u
+
+    -- the next one
+    module _ {side more : List ℕ} (v : Valued rest (ascii "right=") side more) where
+      parted : (m : ℕ) → R.left ≡ suc m → rights_in lines n ≡ R.values ++ (side ∷ rights_in more m)
+      parted m e = R.parts ∙ ap (λ vs. R.values ++ vs) (ap (rights_in rest) e ∙ first_line rest side more m v)
+
+      pub foul_side : read_term side ≡ none → small_terms (rights_in lines n) ≡ refused 2
+      unfolding ◌>>=◌ or_refuse
+      foul_side f = let (m, e) = one_left in rw (parted m e, none_here R.values side (rights_in more m) f)
+
+      module _ {run : List ℕ} {k : ℕ} (term : TermRead side run k) where
+        with_one : {rights' : List ℕ} {read' : Result (Unit {0}) Refusal} → SoFar (R.terms ++ (term.term ∷ [])) rights' read' → ReadTo lines n (r + 1) more rights' read'
+        with_one f =
+            let (m, e) = one_left in
+            let rest_counted : length (side ∷ rights_in more m) ≡ suc m = ap length (sym (first_line rest side more m v)) ∙ (rw e at R.others) in
+            record {
+              left = m;
+              few = omega (arith, R.few, e);
+              short = omega (arith, R.short, v.shorter);
+              values = R.values ++ (side ∷ []);
+              counted = omega (arith, length-append R.values (side ∷ []), R.counted);
+              parts = parted m e ∙ rw append_assoc;
+              others = omega (arith, rest_counted);
+              terms = R.terms ++ (term.term ∷ []);
+              known = one_more R.values side R.known term.read;
+              so_far = f;
+            }
+
+        pub large_side : 31 < k → ReadTo lines n (r + 1) more rights (Err TooLarge)
+        large_side l =
+            with_one (refl, small_more R.terms term.term ∙ rw (lt-leb (size term.term) 31 (omega (arith, term_sized term))) (and-false (all_small R.terms)))
+
+        pub small_side : {rights' : List ℕ} → k ≤ 31 → HoldsRun rights rights' r (take k run) → ReadTo lines n (r + 1) more rights' read
+        small_side {rights'} l H = with_one (go read R.so_far)
+          where
+            fits : leb (size term.term) 31 ≡ true
+            fits = le-leb (size term.term) 31 (omega (arith, term_sized term))
+
+            count : length R.terms ≡ r
+            count = terms_counted R.values R.known ∙ R.counted
+
+            go : (read : Result (Unit {0}) Refusal) → SoFar R.terms rights read → SoFar (R.terms ++ (term.term ∷ [])) rights' read
+            go (Err e) f = (f.0, small_more R.terms term.term ∙ rw f.1)
+            go (Ok u) f = (
+              small_more R.terms term.term ∙ rw (f.0, fits),
+              held_more R.terms term.term (subst (λ i. HoldsRun rights rights' i (take k run)) (sym count) H) f.1 term.whole,
+            )

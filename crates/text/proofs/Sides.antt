@@ -4,66 +4,22 @@ use Prim.Native.Char.{code}
 use native.Mathlib.Numerals.{add-one}
 use native.Mathlib.Omega.{arith}
 use mathlib.Core.Bool.{true, false}
-use mathlib.Core.Logic.{⊎_elim}
 use mathlib.Core.Option.{Option, none, some}
 use mathlib.Core.List.{List, [], ◌∷◌, ◌++◌}
 use mathlib.Core.Path.{◌≡◌, refl, ap, sym, ◌∙◌}
-use lib.ListN.{length, get_or, set, take, length-set}
-use lib.Seq.{slice, slice-cons, slice_empty, take-suc-set}
-use borrow.Author.Tests.{eq-eqb, ne_eqb}
-use Rattle.terms.specs.Theory.Order.{below?}
+use lib.ListN.{length, set, take, length-set}
+use lib.Seq.{take-suc-set}
 use Rattle.terms.specs.Term.{Term}
 use Rattle.terms.specs.Build.{Token, next, build, single, read}
 use Rattle.terms.specs.Promises.{Reads}
 use Rattle.terms.specs.Theory.ReadRun.{run_read}
 use Rattle.terms.specs.Numbers as numbers
 use Rattle.terms.specs.Numbers.{read_run, is_some}
-use Rattle.text.specs.Bytes.{longer, pieces}
+use Rattle.text.specs.Bytes.{pieces, up_to}
 use Rattle.text.specs.TermText.{token, read_term}
-use Rattle.text.specs.Reading.{Numbered}
-use Rattle.text.specs.SideRead.{ItemEnds, ItemsRead, TermRead}
-use Rattle.text.proofs.Parts.{no_part}
-
--- ---- where an item ends
-
-module _ (s : List ℕ) (i to : ℕ) where
-  pub side_ends : i ≡ to → ItemEnds s i to i
-  unfolding pieces
-  side_ends e =
-      record {
-        starts = omega arith;
-        ends = omega arith;
-        last = λ h. rw (no_part s i to e, slice_empty i s);
-        more = λ h. let z : ⊥ = omega arith in absurd z;
-      }
-
-  module _ (h : i < to) (k : to ≤ length s) where
-    pub space_ends : get_or s i 0 ≡ code " " → ItemEnds s i to i
-    unfolding pieces
-    space_ends e =
-        record {
-          starts = omega arith;
-          ends = omega arith;
-          last = λ l. let z : ⊥ = omega arith in absurd z;
-          more = λ l. rw (add-one, slice-cons i to s 0 h k, eq-eqb (get_or s i 0) (code " ") e, slice_empty i s, pieces);
-        }
-
-    module _ (other : get_or s i 0 ≡ code " " → ⊥) where
-      passed : pieces (code " ") (slice i to s) ≡ longer (get_or s i 0) (pieces (code " ") (slice (i + 1) to s))
-      unfolding pieces
-      passed = rw (add-one, slice-cons i to s 0 h k, ne_eqb (get_or s i 0) (code " ") other, pieces)
-
-      pub item_goes_on : (e : ℕ) → ItemEnds s (i + 1) to e → ItemEnds s i to e
-      item_goes_on e l =
-          record {
-            starts = omega (arith, l.starts);
-            ends = l.ends;
-            last = λ m. passed ∙ ap (longer (get_or s i 0)) (l.last m) ∙ ap (λ p. p ∷ []) front;
-            more = λ m. passed ∙ ap (longer (get_or s i 0)) (l.more m) ∙ ap (λ p. p ∷ pieces (code " ") (slice (e + 1) to s)) front;
-          }
-        where
-          front : get_or s i 0 ∷ slice (i + 1) e s ≡ slice i e s
-          front = rw (add-one, slice-cons i e s 0 (omega (arith, l.starts)) (omega (arith, l.ends)))
+use Rattle.text.specs.Reading.{CutAt, Numbered}
+use Rattle.text.specs.SideRead.{ItemsRead, TermRead}
+use Rattle.text.specs.Theory.UpTo.{pieces_cut}
 
 -- ---- the terms that items make
 
@@ -98,53 +54,54 @@ built_first : (bs p : List ℕ) (ps : List (List ℕ)) → pieces (code " ") bs 
 unfolding build
 built_first bs p ps e = rw e
 
--- the items before a position are read, and their numbers are the first n
-pub record Reached (s : List ℕ) (from to : ℕ) (run : List ℕ) (n i : ℕ) : Type 0 where
-  pub within : i ≤ to
-  pub few : from + n ≤ i
-  pub same : built (slice from to s) ≡ onto (take n run) (built (slice i to s))
+-- the first items of a side are read, their numbers are the first n, and the others are still to be read
+pub record Reached (bs rest run : List ℕ) (n : ℕ) : Type 0 where
+  pub few : n + length rest ≤ length bs
+  pub same : built bs ≡ onto (take n run) (built rest)
 
-pub at_first : (s : List ℕ) (from to : ℕ) (run : List ℕ) → from ≤ to → Reached s from to run 0 from
-at_first s from to run h = record { within = h; few = omega arith; same = refl }
+pub at_first : (bs run : List ℕ) → Reached bs bs run 0
+at_first bs run = record { few = omega arith; same = refl }
 
-module _ (s : List ℕ) (from to : ℕ) (run : List ℕ) (n i e : ℕ) (r : Reached s from to run n i) (h : ItemEnds s i to e) where
-  none_built : token (slice i e s) ≡ none → (ps : List (List ℕ)) → pieces (code " ") (slice i to s) ≡ slice i e s ∷ ps → read_term (slice from to s) ≡ none
+-- the item p is next
+module _ (bs rest run : List ℕ) (n : ℕ) (r : Reached bs rest run n) (p : List ℕ) (ps : List (List ℕ)) (e : pieces (code " ") rest ≡ p ∷ ps) where
+  foul : token p ≡ none → read_term bs ≡ none
   unfolding read_term read single next
-  none_built f ps p =
-      ap single (r.same ∙ ap (onto (take n run)) (built_first (slice i to s) (slice i e s) ps p ∙ ap (λ k. next k (build token ps)) f) ∙ onto_none (take n run))
+  foul f = ap single (r.same ∙ ap (onto (take n run)) (built_first rest p ps e ∙ ap (λ k. next k (build token ps)) f) ∙ onto_none (take n run))
 
-  pub foul_item : token (slice i e s) ≡ none → read_term (slice from to s) ≡ none
-  foul_item f =
-      ⊎_elim
-      (λ l. none_built f (pieces (code " ") (slice (e + 1) to s)) (h.more l))
-      (λ l. none_built f [] (h.last l))
-      (below? e to)
+  -- its number behind the others
+  number_more : (x : ℕ) → Numbered p x → n < length run → built bs ≡ onto (take (n + 1) (set run n x)) (build token ps)
+  number_more x t room =
+      r.same
+      ∙ ap (onto (take n run)) (built_first rest p ps e ∙ ap (λ k. next k (build token ps)) t.same)
+      ∙ sym (onto_more (take n run) x (build token ps))
+      ∙ rw (add-one, take-suc-set run n x room)
 
-  module _ (x : ℕ) (t : Numbered (slice i e s) x) (room : n < length run) where
-    -- the item's number behind the others
-    number_more : (ps : List (List ℕ)) → pieces (code " ") (slice i to s) ≡ slice i e s ∷ ps
-        → built (slice from to s) ≡ onto (take (n + 1) (set run n x)) (build token ps)
-    number_more ps p =
-        r.same
-        ∙ ap (onto (take n run)) (built_first (slice i to s) (slice i e s) ps p ∙ ap (λ k. next k (build token ps)) t.same)
-        ∙ sym (onto_more (take n run) x (build token ps))
-        ∙ rw (add-one, take-suc-set run n x room)
+-- it ends at a space
+module _ (bs rest run : List ℕ) (n : ℕ) (r : Reached bs rest run n) (p more : List ℕ) (h : CutAt rest (code " ") p more) where
+  cut : pieces (code " ") rest ≡ p ∷ pieces (code " ") more
+  cut = pieces_cut (code " ") rest ∙ rw h.parts
 
-    pub last_item : to ≤ e → ItemsRead (slice from to s) (set run n x) (n + 1)
-    unfolding read_term read_run read build
-    last_item l =
-        record {
-          room = simp length-set (omega arith);
-          same = ap single (number_more [] (h.last l) ∙ onto_build (take (n + 1) (set run n x)));
-        }
+  pub foul_item : token p ≡ none → read_term bs ≡ none
+  foul_item = foul bs rest run n r p (pieces (code " ") more) cut
 
-    pub next_item : e < to → Reached s from to (set run n x) (n + 1) (e + 1)
-    next_item l =
-        record {
-          within = omega arith;
-          few = omega (arith, r.few, h.starts);
-          same = number_more (pieces (code " ") (slice (e + 1) to s)) (h.more l);
-        }
+  pub next_item : (x : ℕ) → Numbered p x → n < length run → Reached bs more (set run n x) (n + 1)
+  next_item x t room = record { few = omega (arith, r.few, h.shorter); same = number_more bs rest run n r p (pieces (code " ") more) cut x t room }
+
+-- it is the last
+module _ (bs rest run : List ℕ) (n : ℕ) (r : Reached bs rest run n) (h : up_to (code " ") rest ≡ none) where
+  whole : pieces (code " ") rest ≡ rest ∷ []
+  whole = pieces_cut (code " ") rest ∙ rw h
+
+  pub foul_last : token rest ≡ none → read_term bs ≡ none
+  foul_last = foul bs rest run n r rest [] whole
+
+  pub last_item : (x : ℕ) → Numbered rest x → n < length run → ItemsRead bs (set run n x) (n + 1)
+  unfolding read_term read_run read build
+  last_item x t room =
+      record {
+        room = simp length-set (omega arith);
+        same = ap single (number_more bs rest run n r rest [] whole x t room ∙ onto_build (take (n + 1) (set run n x)));
+      }
 
 -- ---- the term that the numbers make
 

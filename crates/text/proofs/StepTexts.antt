@@ -12,59 +12,47 @@ use Rattle.terms.specs.Term.{Term, size}
 use Rattle.terms.specs.Held.{IsRun, Holds}
 use Rattle.terms.proofs.Held.{holds_whole}
 use Rattle.search.specs.Line.{Line, Side, l, r}
-use Rattle.search.specs.Coded.{name_of, direction_of}
+use Rattle.search.specs.Coded.{name_of, direction_of, side_of}
 use Rattle.search.specs.Place.{place_at}
+use Rattle.std.specs.Prelude.{Option as Answer, Some, None}
 use Rattle.search.specs.Slots.{Marks}
 use Rattle.search.specs.Traced.{Turned, Nears, Turns}
 use Rattle.search.specs.declared.search.Law.{Law}
 use Rattle.search.specs.declared.search.Direction.{Direction}
 use Rattle.search.specs.declared.slots.Step.{Step}
-use Rattle.search.specs.declared.path.Turn.{Turn}
-use Rattle.search.specs.declared.path.Turn.TheVariants.{Here, Left, Right}
+use Rattle.search.specs.declared.chain.Side as declared
+use Rattle.search.specs.declared.chain.Side.TheVariants.{Left, Right}
 use Rattle.text.specs.Bytes.{ascii, parted}
 use Rattle.text.specs.TermText.{write_term}
 use Rattle.text.specs.StepText.{law_name, direction, sides, place, step_value}
-use Rattle.text.specs.Put.{Put, top}
-use Rattle.text.proofs.Overlay.{then, put_as, put_none}
-
--- ---- laws and directions
-
--- the name of the law that a match tells
-pub put_named : {o o₁ : List ℕ} {a b : ℕ} (w v : Law) → w ≡ v → Put (law_name (name_of v)) o a b o₁ → Put (law_name (name_of w)) o a b o₁
-put_named w v e p = put_as (ap (λ w. law_name (name_of w)) (sym e)) p
-
--- the direction that a match tells
-pub put_directed : {o o₁ : List ℕ} {a b : ℕ} (d e : Direction) → d ≡ e → Put (direction (direction_of e)) o a b o₁ → Put (direction (direction_of d)) o a b o₁
-put_directed d e q p = put_as (ap (λ d. direction (direction_of d)) (sym q)) p
+use Rattle.text.specs.Writer.{Writes}
+use Rattle.text.specs.declared.writer.Writer.{Writer}
+use Rattle.text.proofs.Writing.{then, put_as, put_none}
 
 -- ---- places
 
 -- the sides from the term that starts at a position of the run to a place are put
-abbrev PutsSides : (xs : List ℕ) (from at : ℕ) (o : List ℕ) (a b : ℕ) (o₁ : List ℕ) → Type 0
-PutsSides xs from at o a b o₁ = (t : Term) → Holds xs from t → at - from < size t → Put (sides (place_at t (at - from))) o a b o₁
+abbrev PutsSides : (xs : List ℕ) (from at : ℕ) (o o₁ : Writer) → Type 0
+PutsSides xs from at o o₁ = (t : Term) → Holds xs from t → at - from < size t → Writes (sides (place_at t (at - from))) o o₁
 
-module _ {xs : List ℕ} {from at : ℕ} {turn : Turn} (T : Turns xs from at turn) where
-  pub sides_end : (o : List ℕ) (a : ℕ) → turn ≡ Here → length o < top → a ≤ top → PutsSides xs from at o a a o
+side_first : (d : Side) (p : List Side) → sides (d ∷ []) ++ sides p ≡ sides (d ∷ p)
+unfolding sides ascii
+side_first l p = refl
+side_first r p = refl
+
+module _ {xs : List ℕ} {from at : ℕ} {turn : Answer (declared.Side × ℕ)} (T : Turns xs from at turn) where
+  pub sides_end : (o : Writer) → turn ≡ None → PutsSides xs from at o o
   unfolding sides
-  sides_end o a e h k t p q = put_as (ap sides (sym (subst (Turned xs from at t) e (T.exact t p q)))) (put_none o a h k)
+  sides_end o e t p q = put_as (ap sides (sym (subst (Turned xs from at t) e (T.exact t p q)))) (put_none o)
 
-  module _ (n : ℕ) where
-    pub left_nears : turn ≡ Left n → (from < n) × (n ≤ at)
-    left_nears e = subst (Nears from at) e T.nears
+  module _ (d : declared.Side) (n : ℕ) (e : turn ≡ Some (d, n)) where
+    pub turn_nears : (from < n) × (n ≤ at)
+    turn_nears = subst (Nears from at) e T.nears
 
-    pub right_nears : turn ≡ Right n → (from < n) × (n ≤ at)
-    right_nears e = subst (Nears from at) e T.nears
-
-    module _ {o o₁ o₂ : List ℕ} {a b c : ℕ} where
-      pub sides_left : turn ≡ Left n → Put (code "l" ∷ []) o a b o₁ → PutsSides xs n at o₁ b c o₂ → PutsSides xs from at o a c o₂
-      unfolding sides ascii
-      sides_left e p P t h q =
-          let i = subst (Turned xs from at t) e (T.exact t h q) in put_as (ap sides (sym i.place)) (then p (P i.part i.held i.inside))
-
-      pub sides_right : turn ≡ Right n → Put (code "r" ∷ []) o a b o₁ → PutsSides xs n at o₁ b c o₂ → PutsSides xs from at o a c o₂
-      unfolding sides ascii
-      sides_right e p P t h q =
-          let i = subst (Turned xs from at t) e (T.exact t h q) in put_as (ap sides (sym i.place)) (then p (P i.part i.held i.inside))
+    pub sides_more : {o o₁ o₂ : Writer} → Writes (sides (side_of d ∷ [])) o o₁ → PutsSides xs n at o₁ o₂ → PutsSides xs from at o o₂
+    sides_more p P t h q =
+        let i = subst (Turned xs from at t) e (T.exact t h q) in
+        put_as (side_first (side_of d) (place_at i.part (at - n)) ∙ ap sides (sym i.place)) (then p (P i.part i.held i.inside))
 
 place_root : (t : Term) → place (place_at t 0) ≡ code "." ∷ []
 unfolding place place_at ascii
@@ -87,11 +75,11 @@ place_below term.one i h = absurd (omega arith)
 place_below (term.add u v) i h = some_sides (ltb i (size u)) (place_at u i) (place_at v (i - size u))
 place_below (term.mul u v) i h = some_sides (ltb i (size u)) (place_at u i) (place_at v (i - size u))
 
-pub put_root : {o o₁ : List ℕ} {a b : ℕ} (t : Term) (i : ℕ) → i ≡ 0 → Put (code "." ∷ []) o a b o₁ → Put (place (place_at t i)) o a b o₁
+pub put_root : {o o₁ : Writer} (t : Term) (i : ℕ) → i ≡ 0 → Writes (code "." ∷ []) o o₁ → Writes (place (place_at t i)) o o₁
 put_root t i e p = put_as (sym (ap (λ i. place (place_at t i)) e ∙ place_root t)) p
 
-pub put_below : {o o₁ : List ℕ} {a b : ℕ} {xs : List ℕ} (t : Term) (i : ℕ) → (i ≡ 0 → ⊥) → IsRun xs t → i < size t → PutsSides xs 0 i o a b o₁
-    → Put (place (place_at t i)) o a b o₁
+pub put_below : {o o₁ : Writer} {xs : List ℕ} (t : Term) (i : ℕ) → (i ≡ 0 → ⊥) → IsRun xs t → i < size t → PutsSides xs 0 i o o₁
+    → Writes (place (place_at t i)) o o₁
 put_below t zero f h k P = absurd (f refl)
 put_below t (suc i) f h k P =
     let e : suc i - 0 ≡ suc i = omega arith in put_as (ap (λ j. sides (place_at t j)) e ∙ place_below t i k) (P t (holds_whole h) (omega arith))
@@ -103,8 +91,8 @@ unfolding ascii parted
 value_parts a b c d = simp append_assoc
 
 -- the text of a line from its parts
-pub put_value : {o o₁ : List ℕ} {a b : ℕ} (s : Step) (t : Term) (x : Line) → Marks s t x
-    → Put (law_name (name_of s.law) ++ ascii " " ++ direction (direction_of s.direction) ++ ascii " at=" ++ place (place_at t s.place) ++ ascii " to=" ++ write_term x.result) o a b o₁
-    → Put (step_value x) o a b o₁
+pub put_value : {o o₁ : Writer} (s : Step) (t : Term) (x : Line) → Marks s t x
+    → Writes (law_name (name_of s.law) ++ ascii " " ++ direction (direction_of s.direction) ++ ascii " at=" ++ place (place_at t s.place) ++ ascii " to=" ++ write_term x.result) o o₁
+    → Writes (step_value x) o o₁
 unfolding step_value
 put_value s t x m p = put_as (rw (← m.law, ← m.direction, ← m.place) (value_parts (law_name x.law) (direction x.direction) (place x.place) (write_term x.result))) p

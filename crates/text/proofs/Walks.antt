@@ -1,9 +1,11 @@
 -- Paths in the slots of a workspace: their lines put one after the other, and the laws that they use.
+use Rattle.std.specs.Bool.{MatchBool}
+use Rattle.std.specs.List.{HoldsAt, AllWithin}
 use Prim.Native.Nat.{ℕ, suc, ◌+◌, ◌≤◌, ◌<◌}
 use Prim.Native.Char.{code}
 use native.Mathlib.Omega.{arith}
 use native.Mathlib.Numerals.{add-one}
-use mathlib.Core.Path.{◌≡◌, refl, sym, ap, subst, ◌∙◌}
+use mathlib.Core.Path.{◌≡◌, refl, sym, ap, ap₂, subst, ◌∙◌}
 use mathlib.Core.Bool.{Bool, true, false}
 use mathlib.Core.List.{List, [], ◌∷◌, ◌++◌, append-nil, flat_map}
 use lib.Dec.{eqb}
@@ -15,7 +17,7 @@ use Rattle.search.specs.Law as law
 use Rattle.search.specs.Law.{Name, rank, semiring}
 use Rattle.search.specs.Line.{Line}
 use Rattle.search.specs.Search.{Noted}
-use Rattle.search.specs.Coded.{name_of, law_number, numbered_law, law_at}
+use Rattle.search.specs.Coded.{name_of, numbered_law, law_at}
 use Rattle.search.specs.Runs.{Originates, Shows}
 use Rattle.search.specs.Slots.{Marks, noted_at, Slots}
 use Rattle.search.specs.Traced.{Linked, Traced, none, more}
@@ -23,9 +25,12 @@ use Rattle.search.specs.declared.search.Law.{Law}
 use Rattle.search.specs.declared.slots.Step.{Step}
 use Rattle.search.specs.declared.slots.Origin.{Origin}
 use Rattle.search.specs.declared.slots.Origin.TheVariants.{Start, From}
-use Rattle.search.proofs.Coded.{law_ranked, law_named, law_numbered}
+use Rattle.search.specs.contracts.search.Law.{the_type}
+use denote.Enum.Declared.{tag_of}
+use denote.Enum.Bare.{sameb}
+use Rattle.search.proofs.Coded.{each_law, law_named, law_numbered}
 use Rattle.search.proofs.Noting.{noted_run}
-use Rattle.search.proofs.Sorting.{line_at}
+use Rattle.search.proofs.Rising.{line_at}
 use Rattle.search.proofs.Traced.{traced_at}
 use Rattle.text.specs.Answer.{field}
 use Rattle.text.specs.Bytes.{ascii, parted}
@@ -33,8 +38,9 @@ use Rattle.text.specs.Items.{gap}
 use Rattle.text.specs.StepText.{law_name, step_value}
 use Rattle.text.specs.Find.{step, used, uses}
 use Rattle.text.specs.Walk.{Walk}
-use Rattle.text.specs.Put.{Put, top}
-use Rattle.text.proofs.Overlay.{then, put_as, put_none, put_each_more}
+use Rattle.text.specs.Writer.{Writes}
+use Rattle.text.specs.declared.writer.Writer.{Writer}
+use Rattle.text.proofs.Writing.{then, put_as, put_none, put_each_more}
 use Rattle.text.proofs.Items.{parted_more}
 
 -- ---- what a slot comes from
@@ -61,24 +67,19 @@ module _ {ws : List ℕ} {k : ℕ} {o : Origin} (O : Originates ws k o) {ns : Li
 
 -- ---- lines
 
--- what putting a line promises
-abbrev PutsLine : (s : Step) (ys zs o : List ℕ) (a b : ℕ) (o₁ : List ℕ) → Type 0
-PutsLine s ys zs o a b o₁ = (t : Term) (x : Line) → IsRun ys t → Marks s t x → IsRun zs x.result → Put (step_value x) o a b o₁
+abbrev PutsStep : (ws : List ℕ) (k : ℕ) (o o₁ : Writer) → Type 0
+PutsStep ws k o o₁ = (ns : List Noted) (j : ℕ) (x : Line) → Slots ws ns → Linked ws ns j k x → Writes (step x) o o₁
 
-abbrev PutsStep : (ws : List ℕ) (k : ℕ) (o : List ℕ) (a b : ℕ) (o₁ : List ℕ) → Type 0
-PutsStep ws k o a b o₁ = (ns : List Noted) (j : ℕ) (x : Line) → Slots ws ns → Linked ws ns j k x → Put (step x) o a b o₁
-
-pub no_step : {ws : List ℕ} {k : ℕ} {f : Origin} {o o₁ : List ℕ} {a b : ℕ} → Originates ws k f → f ≡ Start → PutsStep ws k o a b o₁
+pub no_step : {ws : List ℕ} {k : ℕ} {f : Origin} {o o₁ : Writer} → Originates ws k f → f ≡ Start → PutsStep ws k o o₁
 no_step O e ns j x S L = absurd (no_start O L e)
 
-pub one_step : {ws : List ℕ} {k : ℕ} {f : Origin} {ys zs o o₁ o₂ o₃ : List ℕ} {a b c d : ℕ} (s : Step) → Originates ws k f → f ≡ From s → Shows ws s.parent ys → Shows ws k zs
-    → Put (ascii "step=") o a b o₁ → PutsLine s ys zs o₁ b c o₂ → Put (ascii "\n") o₂ c d o₃ → PutsStep ws k o a d o₃
-unfolding step field ascii
-one_step {ws} {k} s O e Y Z p P q ns j x S L =
+pub one_step : {ws : List ℕ} {k : ℕ} {f : Origin} {ys zs : List ℕ} {o o₁ : Writer} (s : Step) → Originates ws k f → f ≡ From s → Shows ws s.parent ys → Shows ws k zs
+    → ((t : Term) (x : Line) → IsRun ys t → Marks s t x → IsRun zs x.result → Writes (step x) o o₁) → PutsStep ws k o o₁
+one_step {ws} {k} s O e Y Z P ns j x S L =
     let h : s.parent < length ns = omega (arith, L.before, L.within, parent_read O L s e) in
     let y = Y.exact (noted_at ns s.parent).term (noted_run S s.parent h) in
     let m = subst (λ i. Marks s (noted_at ns i).term x) (sym (parent_read O L s e)) (marks_read O L s e) in
-    then p (then (P (noted_at ns s.parent).term x y m (Z.exact x.result L.line.run)) q)
+    P (noted_at ns s.parent).term x y m (Z.exact x.result L.line.run)
 
 -- ---- paths
 
@@ -87,20 +88,20 @@ traced_length none = refl
 traced_length (more h T) = ap suc (traced_length T)
 
 -- the first i lines of a path are put
-abbrev pub PutsSteps : (ws ks : List ℕ) (i : ℕ) (o : List ℕ) (a b : ℕ) (o₁ : List ℕ) → Type 0
-PutsSteps ws ks i o a b o₁ = (s : Term) (xs : List Line) → Walk ws ks s xs → Put (flat_map step (take i xs)) o a b o₁
+abbrev pub PutsSteps : (ws ks : List ℕ) (i : ℕ) (o o₁ : Writer) → Type 0
+PutsSteps ws ks i o o₁ = (s : Term) (xs : List Line) → Walk ws ks s xs → Writes (flat_map step (take i xs)) o o₁
 
-pub steps_start : (ws ks o : List ℕ) (a : ℕ) → length o < top → a ≤ top → PutsSteps ws ks 0 o a a o
+pub steps_start : (ws ks : List ℕ) (o : Writer) → PutsSteps ws ks 0 o o
 unfolding flat_map
-steps_start ws ks o a h k s xs W = put_none o a h k
+steps_start ws ks o s xs W = put_none o
 
-pub steps_more : {ws ks o o₁ o₂ : List ℕ} {a b c : ℕ} (i : ℕ) → i < length ks → PutsSteps ws ks i o a b o₁ → PutsStep ws (get_or ks i 0) o₁ b c o₂ → PutsSteps ws ks (i + 1) o a c o₂
+pub steps_more : {ws ks : List ℕ} {o o₁ o₂ : Writer} (i : ℕ) → i < length ks → PutsSteps ws ks i o o₁ → PutsStep ws (get_or ks i 0) o₁ o₂ → PutsSteps ws ks (i + 1) o o₂
 steps_more {ws} {ks} i h P Q s xs W =
     put_each_more step _ xs i (omega (arith, traced_length W.lines)) (P s xs W)
     (Q W.noted (get_or (0 ∷ ks) i 0) (line_at xs i) W.slots (traced_at W.lines i h))
 
-pub steps_all : {ws ks o o₁ : List ℕ} {a b : ℕ} (i : ℕ) → length ks ≤ i → PutsSteps ws ks i o a b o₁
-    → (s : Term) (xs : List Line) → Walk ws ks s xs → Put (flat_map step xs) o a b o₁
+pub steps_all : {ws ks : List ℕ} {o o₁ : Writer} (i : ℕ) → length ks ≤ i → PutsSteps ws ks i o o₁
+    → (s : Term) (xs : List Line) → Walk ws ks s xs → Writes (flat_map step xs) o o₁
 steps_all i h P s xs W = put_as (ap (flat_map step) (take_all i xs (omega (arith, traced_length W.lines)))) (P s xs W)
 
 -- ---- the laws of a path
@@ -112,12 +113,12 @@ Leads ws k w b = (ns : List Noted) (j : ℕ) (x : Line) → Slots ws ns → Link
 pub leads_not : {ws : List ℕ} {k : ℕ} {f : Origin} (w : Law) (b : Bool) → Originates ws k f → f ≡ Start → Leads ws k w b
 leads_not w b O e ns j x S L = absurd (no_start O L e)
 
-pub leads_by : {ws : List ℕ} {k : ℕ} {f : Origin} (s : Step) (w : Law) (m n : ℕ) → Originates ws k f → f ≡ From s → m ≡ law_number w → n ≡ law_number s.law → Leads ws k w (eqb m n)
-leads_by s w m n O e p q ns j x S L = rw (p, q, law_ranked w, law_ranked s.law, (marks_read O L s e).law)
+-- laws are compared by their numbers
+law_tagged : (w : Law) → tag_of the_type w ≡ rank (name_of w)
+law_tagged = each_law (λ w. tag_of the_type w ≡ rank (name_of w)) (refl, refl, refl, refl, refl, refl, refl, refl, refl, refl)
 
--- no line before the i-th is by the law
-abbrev pub Unused : (ws ks : List ℕ) (w : Law) (i : ℕ) → Type 0
-Unused ws ks w i = (s : Term) (xs : List Line) → Walk ws ks s xs → used (name_of w) xs ≡ used (name_of w) (drop i xs)
+pub leads_by : {ws : List ℕ} {k : ℕ} {f : Origin} (s : Step) (w : Law) → Originates ws k f → f ≡ From s → Leads ws k w (sameb the_type w s.law)
+leads_by s w O e ns j x S L = ap₂ eqb (law_tagged w) (law_tagged s.law) ∙ ap (λ n. eqb (rank (name_of w)) (rank n)) (sym (marks_read O L s e).law)
 
 -- whether the law is used is told
 abbrev pub Tells : (ws ks : List ℕ) (w : Law) (b : Bool) → Type 0
@@ -132,27 +133,31 @@ module _ (n : Name) (x : Line) (xs : List Line) where
   unfolding used
   used_later e = rw (← e, used)
 
-pub unused_start : (ws ks : List ℕ) (w : Law) → Unused ws ks w 0
-unused_start ws ks w s xs W = refl
+used_at : (n : Name) (xs : List Line) (i : ℕ) → i < length xs → true ≡ eqb (rank n) (rank (line_at xs i).law) → used n xs ≡ true
+used_at n [] i h e = absurd (omega arith)
+used_at n (x ∷ xs) ℕ.zero h e = used_here n x xs e
+used_at n (x ∷ xs) (suc i) h e = go (used_at n xs i (omega arith) e) (eqb (rank n) (rank x.law)) refl
+  where
+    go : used n xs ≡ true → (b : Bool) → b ≡ eqb (rank n) (rank x.law) → used n (x ∷ xs) ≡ true
+    go u true q = used_here n x xs q
+    go u false q = used_later n x xs q ∙ u
 
-module _ {ws ks : List ℕ} (w : Law) (i : ℕ) (U : Unused ws ks w i) where
-  module _ (h : i < length ks) where
-    line_left : {s : Term} {xs : List Line} → Walk ws ks s xs → drop i xs ≡ line_at xs i ∷ drop (i + 1) xs
-    line_left {xs = xs} W = rw add-one (drop-cons xs i _ (omega (arith, traced_length W.lines)))
+used_nowhere : (n : Name) (xs : List Line) → ((i : ℕ) → i < length xs → false ≡ eqb (rank n) (rank (line_at xs i).law)) → used n xs ≡ false
+unfolding used
+used_nowhere n [] f = refl
+used_nowhere n (x ∷ xs) f = used_later n x xs (f 0 (omega arith)) ∙ used_nowhere n xs (λ i h. f (suc i) (omega arith))
 
-    led : {b : Bool} → Leads ws (get_or ks i 0) w b → {s : Term} {xs : List Line} → Walk ws ks s xs → b ≡ eqb (rank (name_of w)) (rank (line_at xs i).law)
-    led L {xs = xs} W = L W.noted (get_or (0 ∷ ks) i 0) (line_at xs i) W.slots (traced_at W.lines i h)
-
-    pub used_found : {b : Bool} → Leads ws (get_or ks i 0) w b → b ≡ true → Tells ws ks w true
-    used_found L e s xs W = sym (U s xs W ∙ ap (used (name_of w)) (line_left W) ∙ used_here (name_of w) (line_at xs i) (drop (i + 1) xs) (sym e ∙ led L W))
-
-    pub unused_more : {b : Bool} → Leads ws (get_or ks i 0) w b → b ≡ false → Unused ws ks w (i + 1)
-    unused_more L e s xs W = U s xs W ∙ ap (used (name_of w)) (line_left W) ∙ used_later (name_of w) (line_at xs i) (drop (i + 1) xs) (sym e ∙ led L W)
-
-  pub unused_all : length ks ≤ i → Tells ws ks w false
-  unfolding used
-  unused_all h s xs W =
-      let e : length xs ≤ i = omega (arith, traced_length W.lines) in sym (U s xs W ∙ ap (used (name_of w)) (drop_of_length-le xs e))
+-- from what is told of each slot
+pub used_told : {ws ks : List ℕ} (w : Law) (b : Bool)
+    → MatchBool b ((i : ℕ) × (i < length ks) × HoldsAt (λ k. Leads ws k w true) ks i) (AllWithin (λ k. Leads ws k w false) ks 0 (length ks)) → Tells ws ks w b
+used_told {ws} {ks} w true (i, h, L) s xs W =
+    sym (used_at (name_of w) xs i (omega (arith, traced_length W.lines)) (L 0 W.noted (get_or (0 ∷ ks) i 0) (line_at xs i) W.slots (traced_at W.lines i h)))
+used_told {ws} {ks} w false F s xs W =
+    sym
+    (used_nowhere (name_of w) xs
+    (λ i h.
+    let k : i < length ks = omega (arith, traced_length W.lines) in
+    F i 0 (omega arith) k W.noted (get_or (0 ∷ ks) i 0) (line_at xs i) W.slots (traced_at W.lines i k)))
 
 -- ---- the laws that are used
 
@@ -175,16 +180,16 @@ module _ (v : law.Law) (xs : List Line) where
   uses_none e = rw (← e, uses)
 
 -- those of the first n laws that the path uses are put, and counted
-abbrev pub PutsUses : (ws ks : List ℕ) (n count : ℕ) (o : List ℕ) (a b : ℕ) (o₁ : List ℕ) → Type 0
-PutsUses ws ks n count o a b o₁ =
-    (s : Term) (xs : List Line) → Walk ws ks s xs → (count ≡ length (uses (take n semiring) xs)) × Put (parted (code ",") (uses (take n semiring) xs)) o a b o₁
+abbrev pub PutsUses : (ws ks : List ℕ) (n count : ℕ) (o o₁ : Writer) → Type 0
+PutsUses ws ks n count o o₁ =
+    (s : Term) (xs : List Line) → Walk ws ks s xs → (count ≡ length (uses (take n semiring) xs)) × Writes (parted (code ",") (uses (take n semiring) xs)) o o₁
 
-pub uses_start : (ws ks o : List ℕ) (a : ℕ) → length o < top → a ≤ top → PutsUses ws ks 0 0 o a a o
+pub uses_start : (ws ks : List ℕ) (o : Writer) → PutsUses ws ks 0 0 o o
 unfolding uses parted
-uses_start ws ks o a h k s xs W = (refl, put_none o a h k)
+uses_start ws ks o s xs W = (refl, put_none o)
 
-pub uses_all : {ws ks o o₁ : List ℕ} {a b : ℕ} (n count : ℕ) → 10 ≤ n → PutsUses ws ks n count o a b o₁
-    → (s : Term) (xs : List Line) → Walk ws ks s xs → Put (parted (code ",") (uses semiring xs)) o a b o₁
+pub uses_all : {ws ks : List ℕ} {o o₁ : Writer} (n count : ℕ) → 10 ≤ n → PutsUses ws ks n count o o₁
+    → (s : Term) (xs : List Line) → Walk ws ks s xs → Writes (parted (code ",") (uses semiring xs)) o o₁
 unfolding semiring
 uses_all n count h P s xs W = put_as (ap (λ l. parted (code ",") (uses l xs)) (take_all n semiring h)) (P s xs W).1
 
@@ -199,14 +204,14 @@ module _ (n : ℕ) (h : n < 10) (w : Law) (is : w ≡ numbered_law n) where
   uses_at : (xs : List Line) → uses (take (n + 1) semiring) xs ≡ uses (take n semiring) xs ++ uses (law_at n ∷ []) xs
   uses_at xs = ap (λ l. uses l xs) law_more ∙ uses_behind (take n semiring) (law_at n) xs
 
-  module _ {ws ks o o₁ : List ℕ} {a b count : ℕ} (P : PutsUses ws ks n count o a b o₁) where
-    pub uses_skip : {u : Bool} → Tells ws ks w u → u ≡ false → PutsUses ws ks (n + 1) count o a b o₁
-    uses_skip T e s xs W = subst (λ l. (count ≡ length l) × Put (parted (code ",") l) o a b o₁) (sym same) (P s xs W)
+  module _ {ws ks : List ℕ} {o o₁ : Writer} {count : ℕ} (P : PutsUses ws ks n count o o₁) where
+    pub uses_skip : {u : Bool} → Tells ws ks w u → u ≡ false → PutsUses ws ks (n + 1) count o o₁
+    uses_skip T e s xs W = subst (λ l. (count ≡ length l) × Writes (parted (code ",") l) o o₁) (sym same) (P s xs W)
       where
         same : uses (take (n + 1) semiring) xs ≡ uses (take n semiring) xs
         same = uses_at xs ∙ ap (λ l. uses (take n semiring) xs ++ l) (uses_none (law_at n) xs (sym e ∙ T s xs W ∙ ap (λ m. used m xs) name_at)) ∙ append-nil (uses (take n semiring) xs)
 
-    pub uses_more : {o₂ o₃ : List ℕ} {c d : ℕ} {u : Bool} → Tells ws ks w u → u ≡ true → Put (gap (code ",") count) o₁ b c o₂ → Put (law_name (name_of w)) o₂ c d o₃ → PutsUses ws ks (n + 1) (count + 1) o a d o₃
+    pub uses_more : {o₂ o₃ : Writer} {u : Bool} → Tells ws ks w u → u ≡ true → Writes (gap (code ",") count) o₁ o₂ → Writes (law_name (name_of w)) o₂ o₃ → PutsUses ws ks (n + 1) (count + 1) o o₃
     uses_more T e p q s xs W = (
       omega (arith, (P s xs W).0, ap length longer, length-append (uses (take n semiring) xs) (law_name (name_of w) ∷ [])),
       put_as (ap (λ k. (parted (code ",") (uses (take n semiring) xs) ++ gap (code ",") k) ++ law_name (name_of w)) (P s xs W).0

@@ -12,7 +12,7 @@ use Rattle.search.specs.Serve as serve
 use Rattle.search.specs.Cut as search-cut
 use Rattle.search.specs.Runs.{HeldRuns}
 use Rattle.search.specs.Slots.{noted_at, Slots}
-use Rattle.search.specs.Replied.{reply_of, Replied}
+use Rattle.search.specs.Replied.{Replied}
 use Rattle.search.specs.Searched.{Ends, Answers}
 use Rattle.search.specs.declared.replies.Reply.{Reply}
 use Rattle.search.specs.declared.replies.Reply.TheVariants as reply
@@ -40,12 +40,12 @@ abbrev pub one_search : ℕ → Job → List Term → serve.Served
 one_search slots j ts = serve.serve semiring j.limits slots j.left ts
 
 -- what that search left of a job's right side: how it ended, and where it is noted
-pub record Known (left right : List ℕ) (reply : ℕ) (ended : Ended) (cut : Bool) (ws : List ℕ) (slots : ℕ) (j : Job) : Type 0 where
+pub record Known (left right : List ℕ) (reply : Reply) (ended : Ended) (cut : Bool) (ws : List ℕ) (slots : ℕ) (j : Job) : Type 0 where
   pub sides : Sides left right j
   pub others : List Term
   pub among : j.right ∈ others
   pub ends : Ends ended ws (one_search slots j others)
-  pub replied : Replied semiring j.left j.right (terms (one_search slots j others).noted) (reply_of reply)
+  pub replied : Replied semiring j.left j.right (terms (one_search slots j others).noted) reply
   pub cut_is : ended.stop ≡ Over → cut ≡ search-cut.cut semiring j.limits j.left
 
 -- likewise of a right side that matches no law directly and is noted in slot k
@@ -68,7 +68,7 @@ pub record Unmet (ended : Ended) (cut : Bool) (slots : ℕ) (j : Job) : Type 0 w
   pub cut_is : ended.stop ≡ Over → cut ≡ search-cut.cut semiring j.limits j.left
 
 -- the jobs of s with each of ts, after the one search for all
-pub record AllKnown (left rights replies : List ℕ) (ended : Ended) (cut : Bool) (ws : List ℕ) (slots : ℕ) (s : Term) (ts : List Term) (m : line.Limits) : Type 0 where
+pub record AllKnown (left rights : List ℕ) (replies : List Reply) (ended : Ended) (cut : Bool) (ws : List ℕ) (slots : ℕ) (s : Term) (ts : List Term) (m : line.Limits) : Type 0 where
   pub known : (j : Job) → j ∈ jobs_of s ts m → Accepted j
   pub left_run : IsRun left s
   pub runs : HeldRuns rights ts
@@ -77,11 +77,7 @@ pub record AllKnown (left rights replies : List ℕ) (ended : Ended) (cut : Bool
   pub cut_is : ended.stop ≡ Over → cut ≡ search-cut.cut semiring m s
 
 -- a right side has no answer: it is not noted, and the search was not over
-abbrev pub without : Reply → Ended → Bool
-without reply.Unnoted ended = elim ended.stop [ All ↦ true | Over ↦ false | Full ↦ true ]
-without (reply.Direct w) ended = false
-without (reply.Noted k) ended = false
-
--- likewise by the number that stands for the reply
-abbrev pub runs_out : ℕ → Ended → Bool
-runs_out n ended = without (reply_of n) ended
+abbrev pub runs_out : Reply → Ended → Bool
+runs_out reply.Unnoted ended = elim ended.stop [ All ↦ true | Over ↦ false | Full ↦ true ]
+runs_out (reply.Direct w) ended = false
+runs_out (reply.Noted k) ended = false

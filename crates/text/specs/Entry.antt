@@ -1,8 +1,13 @@
 -- What a call of an entry returns and leaves in each buffer that it is lent, and what the program prints.
-use Rattle.std.specs.Prelude.{ℕ, ◌+◌, ◌≡◌, List, [], ◌∷◌, ◌++◌, length, drop}
+use Rattle.std.specs.Prelude.{ℕ, ◌+◌, ◌≡◌, List, [], ◌∷◌, ◌++◌, length, drop, Result, Ok, Err}
 use Rattle.terms.specs.Lists.{◌∈◌}
+use Rattle.std.specs.Borrow.{Bor, MutBor}
+use Rattle.terms.specs.Held.{IsRun}
 use Rattle.search.specs.Searched.{slots_of}
-use Rattle.text.specs.Answer.{Answer, refused, accepted, printed}
+use Rattle.text.specs.declared.refusal.Refusal.{Refusal}
+use Rattle.text.specs.Refusal.{number_of, number_returned}
+use Rattle.text.specs.Answer.{Answer, refused, accepted, ◌>>=◌, printed}
+use Rattle.text.specs.Job.{Job, Accepted, read_job}
 use Rattle.text.specs.Find.{find}
 
 -- a refusal returns its number; a call that answers returns 100 plus the answer's length
@@ -20,6 +25,11 @@ pub record Call (answer : Answer (List ℕ)) (out : List ℕ) (r : ℕ) (out' : 
   pub number : r ≡ returned answer
   pub output : out' ≡ output_after out answer
 
+-- likewise of a function beneath an entry: its result r is the answer's length, or the refusal
+abbrev pub Gives : Answer (List ℕ) → (out : List ℕ) → Result ℕ Refusal → (out' : List ℕ) → Type 0
+Gives answer out (Ok n) out' = (t : List ℕ) × (answer ≡ accepted t) × (n ≡ length t) × (out' ≡ t ++ drop (length t) out)
+Gives answer out (Err e) out' = (answer ≡ refused (number_of e)) × (out' ≡ out)
+
 -- the numbers of the refusals that FIND gives before any search, in the order in which they are looked at
 abbrev pub before_search : List ℕ
 before_search = 1 ∷ 9 ∷ 2 ∷ 3 ∷ 4 ∷ 5 ∷ 6 ∷ 10 ∷ []
@@ -28,6 +38,18 @@ before_search = 1 ∷ 9 ∷ 2 ∷ 3 ∷ 4 ∷ 5 ∷ 6 ∷ 10 ∷ []
 pub record FindCall (job out work : List ℕ) (r : ℕ) (out' work' : List ℕ) : Type 0 where
   pub call : Call (find job (slots_of (length work)) (length out)) out r out'
   pub workspace : r ∈ before_search → work' ≡ work
+
+-- likewise beneath the entry
+pub record FindGives (job out work : List ℕ) (r : Result ℕ Refusal) (out' work' : List ℕ) : Type 0 where
+  pub gives : Gives (find job (slots_of (length work)) (length out)) out r out'
+  pub workspace : number_returned r ∈ before_search → work' ≡ work
+
+-- of `answer_job`: what the function that was passed in gives for the sides of an accepted job is given for the job's text
+pub record AnswersJob (Post : (left right : Bor (List ℕ)) → MutBor (List ℕ) → Result ℕ Refusal → MutBor (List ℕ) → Type 0) (job out : List ℕ) (r : Result ℕ Refusal) (out' : List ℕ) : Type 0 where
+  pub exact : (answer : Job → Answer (List ℕ))
+      → ((j : Job) (left right : Bor (List ℕ)) (o o' : MutBor (List ℕ)) (q : Result ℕ Refusal) → Accepted j → IsRun left.now j.left → IsRun right.now j.right
+      → length o.now ≡ length out → Post left right o q o' → Gives (answer j) o.now q o'.now)
+      → Gives (◌>>=◌ (read_job job) answer) out r out'
 
 -- FIND on standard input, printed, with 400 slots and 32,768 output bytes
 unfoldable pub program : (input : List ℕ) → List ℕ

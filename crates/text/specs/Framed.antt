@@ -1,17 +1,9 @@
 -- The pieces of the proof text, in the order in which they are put.
-use Rattle.std.specs.Prelude.{ℕ, zero, suc, ◌-◌, ◌≤◌, ◌<◌, ◌≡◌, Bool, true, false, List, [], ◌∷◌, ◌++◌}
-use Rattle.terms.specs.Term.{Term, size}
-use Rattle.terms.specs.Held.{Holds}
-use Rattle.search.specs.Line.{Side, l, r}
-use Rattle.search.specs.Place.{place_at}
+use Rattle.std.specs.Prelude.{ℕ, zero, suc, List, [], ◌++◌}
+use Rattle.terms.specs.Term.{Term}
+use Rattle.search.specs.Line.{Side}
 use Rattle.text.specs.Bytes.{ascii}
 use Rattle.text.specs.Proof.{variable, part, term, context}
-use Rattle.text.specs.declared.kernel_bridge.path.Part.{Part}
-
--- the side that a flag tells
-abbrev pub side_of : Bool → Side
-side_of true = r
-side_of false = l
 
 module _ (names : List ℕ) where
   -- the context of a part and what it is before and after, up to the proof of the part
@@ -39,13 +31,3 @@ unfoldable pub closes : ℕ → List ℕ
 unfolding ascii
 closes zero = []
 closes (suc n) = closes n ++ ascii ")"
-
--- of `part_of`: the place is in that part of the term that starts at position i
-pub record Enclosed (xs : List ℕ) (i place : ℕ) (d : Side) (from : ℕ) (t : Term) : Type 0 where
-  pub held : Holds xs from (part d t)
-  pub inside : place - from < size (part d t)
-  pub turns : place_at t (place - i) ≡ d ∷ place_at (part d t) (place - from)
-
-pub record Encloses (xs : List ℕ) (i place : ℕ) (p : Part) : Type 0 where
-  pub nears : i < place → (i < p.from) × (p.from ≤ place)
-  pub exact : (t : Term) → i < place → Holds xs i t → place - i < size t → Enclosed xs i place (side_of p.right) p.from t

@@ -1,12 +1,13 @@
 -- What a writer is once a text is put.
-use Rattle.std.specs.Prelude.{ℕ, ◌+◌, min, ◌≡◌, List, length}
+use Rattle.std.specs.Prelude.{ℕ, ◌≡◌, List, length}
 use denote.Ref.{at_last}
-use Rattle.text.specs.Put.{overlay, top}
+use Rattle.text.specs.Put.{Put}
 use Rattle.text.specs.declared.writer.Writer.{Writer}
 
 -- the same output, with the text from the writer's place on, as far as it fits, and the place after it
-abbrev pub after : List ℕ → Writer → Writer
-after text w = record { buf = at_last w.buf (overlay w.buf.now w.at text); at = min top (w.at + length text) }
+pub record Writes (text : List ℕ) (w w' : Writer) : Type 0 where
+  pub put : Put text w.buf.now w.at w'.at w'.buf.now
+  pub same : w'.buf ≡ at_last w.buf w'.buf.now
 
 -- the second writer has the first one's output, with as many bytes
 abbrev pub SameOutput : Writer → Writer → Type 0

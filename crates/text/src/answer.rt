@@ -1,7 +1,7 @@
-// Answers: lines of a key and a value.
-ghost use Rattle.std.specs.Prelude.{◌∷◌, [], ◌++◌};
-ghost use Rattle.text.specs.Answer.{yes_no};
-ghost use Rattle.text.specs.Put.{Put};
+// Answers: lines of a key and a value, written where they fit.
+ghost use Rattle.std.specs.Prelude.{ℕ, List, length};
+ghost use Rattle.text.specs.Answer.{fitting};
+ghost use Rattle.text.specs.Entry.{Gives};
 
 // FIND's answer, its blocks, and the text of an outcome.
 pub mod block;
@@ -14,14 +14,24 @@ pub mod lists;
 // RENAME's answer.
 pub mod rename;
 
-use crate::writer::write_line;
+use crate::put::{Text, put_in_front};
+use crate::refusal::Refusal;
 
-// A line whose value is a test's answer.
-pub fn put_yes_no_line(out: &mut [u8], at: usize, key: &[u8], yes: bool) -> usize
-    ensures { Put (key.now ++ (yes_no yes ++ (10 ∷ []))) out.old at result out.new }
+// The sides of an equation, as runs.
+#[derive(Clone, Copy)]
+pub struct Sides<'a> {
+    pub left: &'a [u32],
+    pub right: &'a [u32],
+}
+
+// A text measured on an output of no bytes, and written where it fits: how long it is. Otherwise the output stays untouched.
+pub fn answered<T: Text>(text: &T, out: &mut [u8]) -> Result<usize, Refusal>
+    ensures { (t : List ℕ) → T.shows text.now t → Gives (fitting (length out.old) t) out.old result out.new }
 {
-    if yes {
-        return write_line(out, at, key, b"yes");
+    let n = put_in_front(text, &mut out[..0]);
+    if out.len() < n {
+        return Err(Refusal::ShortOutput);
     }
-    write_line(out, at, key, b"no")
+    put_in_front(text, out);
+    Ok(n)
 }

@@ -3,63 +3,68 @@
 ghost use Rattle.std.specs.Prelude.{length};
 ghost use Rattle.text.specs.Words.{words_entry};
 ghost use Rattle.text.specs.Rename.{rename_entry};
-ghost use Rattle.text.specs.Entry.{Call, FindCall};
+ghost use Rattle.text.specs.Entry.{Call, FindCall, FindGives, AnswersJob};
 
 use crate::answer::find::answer_find;
 use crate::answer::lists::answer_words;
 use crate::answer::rename::answer_rename;
-use crate::job::accept::{Reading, read_find, read_job};
-use search::slots::run_of;
-use words::normal_form::front;
+use crate::job::accept::{MOST_RIGHTS, read_find, read_job};
+use crate::refusal::{Refusal, returned};
+use search::slots::{Runs, SLOT, run_of};
+
+// The numbers in the slots of all right sides.
+const ROOM: usize = SLOT * MOST_RIGHTS;
+
+// FIND's answer: how long it is.
+fn answer_jobs(job: &[u8], output: &mut [u8], workspace: &mut [u32]) -> Result<usize, Refusal>
+    ensures { FindGives job.now output.old workspace.old result output.new workspace.new }
+{
+    let mut rights = [0u32; ROOM];
+    let read = read_find(job, &mut rights)?;
+    let right_sides = Runs {
+        slots: &rights,
+        count: read.rights,
+    };
+    answer_find(
+        read.left.numbers(),
+        right_sides,
+        read.limits,
+        output,
+        workspace,
+    )
+}
+
+// The answer to a job with one right side, from the runs of its sides: how long it is.
+fn answer_job<F: FnOnce(&[u32], &[u32], &mut [u8]) -> Result<usize, Refusal>>(
+    job: &[u8],
+    output: &mut [u8],
+    answer: F,
+) -> Result<usize, Refusal>
+    requires { F.IsAlwaysCallable answer }
+    ensures { AnswersJob (F.post answer) job.now output.old result output.new }
+{
+    let mut rights = [0u32; SLOT];
+    let read = read_job(job, &mut rights)?;
+    answer(read.left.numbers(), run_of(&rights, 0), output)
+}
 
 // FIND. The workspace holds the noted terms, 40 numbers to a slot.
 pub fn find(job: &[u8], output: &mut [u8], workspace: &mut [u32]) -> usize
     ensures { FindCall job.now output.old workspace.old result output.new workspace.new }
 {
-    let mut left = [0u32; 31];
-    let mut rights = [0u32; 640];
-    match read_find(job, &mut left, &mut rights) {
-        Reading::Refused(n) => n,
-        Reading::Accepted(j) => {
-            let m = j.left;
-            answer_find(
-                front(&left, m),
-                &rights,
-                j.rights,
-                j.limits,
-                output,
-                workspace,
-            )
-        }
-    }
+    returned(answer_jobs(job, output, workspace))
 }
 
 // WORDS.
 pub fn words(job: &[u8], output: &mut [u8]) -> usize
     ensures { Call (words_entry job.now (length output.old)) output.old result output.new }
 {
-    let mut left = [0u32; 31];
-    let mut rights = [0u32; 40];
-    match read_job(job, &mut left, &mut rights) {
-        Reading::Refused(n) => n,
-        Reading::Accepted(j) => {
-            let m = j.left;
-            answer_words(front(&left, m), run_of(&rights, 0), output)
-        }
-    }
+    returned(answer_job(job, output, answer_words))
 }
 
 // RENAME.
 pub fn rename(job: &[u8], output: &mut [u8]) -> usize
     ensures { Call (rename_entry job.now (length output.old)) output.old result output.new }
 {
-    let mut left = [0u32; 31];
-    let mut rights = [0u32; 40];
-    match read_job(job, &mut left, &mut rights) {
-        Reading::Refused(n) => n,
-        Reading::Accepted(j) => {
-            let m = j.left;
-            answer_rename(front(&left, m), run_of(&rights, 0), output)
-        }
-    }
+    returned(answer_job(job, output, answer_rename))
 }

@@ -1,9 +1,8 @@
-// The job's text: the bytes, numbers, lines and items that stand at a position of it.
-ghost use Rattle.std.specs.Prelude.{◌≡◌, ◌≤◌, [], ◌∷◌, length};
-ghost use Rattle.std.proofs.Math.Seq.{slice};
+// The job's text: the bytes, numbers, lines and items that begin it.
+ghost use Rattle.std.specs.Prelude.{◌≡◌, ◌≤◌, ◌==◌, [], ◌∷◌, position};
 ghost use Rattle.text.specs.Bytes.{digits, read_number};
 ghost use Rattle.text.specs.Marks.{mark};
-ghost use Rattle.text.specs.Reading.{Items, Keys, Lines, Values, limited};
+ghost use Rattle.text.specs.Reading.{Cuts, Items, Values, limited};
 
 use terms::term::{ADD, MUL, ONE, ZERO};
 
@@ -19,8 +18,14 @@ pub mod rights;
 // A side of an equation.
 pub mod side;
 
+// It as it is written.
+pub mod written;
+
+// The largest number of a letter.
+const LETTER: u32 = 999;
+
 // The signs of a term.
-#[derive(Drop)]
+#[derive(Clone, Copy, PartialEq, Eq)]
 pub enum Sign {
     Plus,
     Times,
@@ -28,7 +33,7 @@ pub enum Sign {
 }
 
 // A byte of a term.
-#[derive(Drop)]
+#[derive(Clone, Copy, PartialEq, Eq)]
 pub enum Mark {
     Sign(Sign),
     Digit(u8),
@@ -36,33 +41,11 @@ pub enum Mark {
     Foul,
 }
 
-// A number that was read, against the largest allowed.
-#[derive(Drop)]
-pub enum Number {
-    Is(u32),
+// Why a text is no number that is allowed.
+#[derive(Clone, Copy, PartialEq, Eq, Debug)]
+pub enum NumberError {
     TooLarge,
     Malformed,
-}
-
-// A position, where there is one.
-#[derive(Drop)]
-pub enum Found {
-    At(usize),
-    Nothing,
-}
-
-// The first byte of a value and the byte 10 behind it.
-#[derive(Drop)]
-pub enum Value {
-    Between(usize, usize),
-    Missing,
-}
-
-// An item of a term, as a number of a run.
-#[derive(Drop)]
-pub enum Item {
-    Is(u32),
-    Foul,
 }
 
 // What a byte of a term is.
@@ -79,140 +62,91 @@ pub fn mark_of(b: u8) -> Mark
     }
 }
 
-// The digits from one position to another as a number. Once it is above the largest allowed it stays as it is.
-fn digits_in(s: &[u8], from: usize, to: usize, most: u32) -> Number
-    requires { (from ≤ to) × (to ≤ length s.now) × (most ≤ 4096) }
-    ensures { result ≡ limited most (digits 0 (slice from to s.now)) }
+// Digits as a number. Once it is above the largest allowed it stays as it is.
+fn digits(text: &[u8], most: u32) -> Result<u32, NumberError>
+    requires { most ≤ 4096 }
+    ensures { result ≡ limited most (digits 0 text.now) }
 {
     let mut n: u32 = 0;
-    let mut i = from;
-    while i < to {
-        let Mark::Digit(d) = mark_of(s[i]) else {
-            return Number::Malformed;
+    for b in text {
+        let Mark::Digit(d) = mark_of(*b) else {
+            return Err(NumberError::Malformed);
         };
-        i += 1;
         if n <= most {
-            n = n * 10 + d as u32;
+            n = n * 10 + u32::from(d);
         }
     }
     if n <= most {
-        return Number::Is(n);
+        Ok(n)
+    } else {
+        Err(NumberError::TooLarge)
     }
-    Number::TooLarge
 }
 
-// The number that stands from one position to another, without a needless leading zero.
-pub fn number_in(s: &[u8], from: usize, to: usize, most: u32) -> Number
-    requires { (from ≤ to) × (to ≤ length s.now) × (most ≤ 4096) }
-    ensures { result ≡ limited most (read_number (slice from to s.now)) }
+// The number that a text is, without a needless leading zero.
+pub fn number(text: &[u8], most: u32) -> Result<u32, NumberError>
+    requires { most ≤ 4096 }
+    ensures { result ≡ limited most (read_number text.now) }
 {
-    if to <= from {
-        return Number::Malformed;
+    match text {
+        [] => Err(NumberError::Malformed),
+        [_] => digits(text, most),
+        [b'0', ..] => Err(NumberError::Malformed),
+        _ => digits(text, most),
     }
-    let next = from + 1;
-    if to <= next {
-        return digits_in(s, from, to, most);
-    }
-    if s[from] == b'0' {
-        return Number::Malformed;
-    }
-    digits_in(s, from, to, most)
 }
 
-// Where the line that starts at a position ends: the next byte 10.
-fn line_end(s: &[u8], from: usize) -> Found
-    requires { from ≤ length s.now }
-    ensures { Lines s.now from result }
+// Where a byte stands first.
+fn place_of(s: &[u8], b: u8) -> Option<usize>
+    ensures { result ≡ position (λ x. x == b) s.now }
 {
-    let mut i = from;
-    while i < s.len() {
-        if s[i] == b'\n' {
-            return Found::At(i);
-        }
-        i += 1;
-    }
-    Found::Nothing
+    s.iter().position(|x| *x == b)
 }
 
-// Whether a key stands at a position.
-pub fn has_key(s: &[u8], from: usize, key: &[u8]) -> bool
-    requires { from ≤ length s.now }
-    ensures { Keys s.now from key.now result }
+// The text up to the next of a byte, and what follows that.
+pub fn up_to(s: &[u8], b: u8) -> Option<(&[u8], &[u8])>
+    ensures { Cuts s.now b result }
 {
-    let mut i = from;
-    let mut j = 0;
-    while j < key.len() {
-        if s.len() <= i {
-            return false;
-        }
-        if s[i] != key[j] {
-            return false;
-        }
-        i += 1;
-        j += 1;
-    }
-    true
+    let end = place_of(s, b)?;
+    Some((&s[..end], &s[end + 1..]))
 }
 
-// The value of the line that starts at a position with a key: where it starts and ends.
-pub fn keyed(s: &[u8], from: usize, key: &[u8]) -> Value
-    requires { from ≤ length s.now }
-    ensures { Values s.now from key.now result }
+// The value of the line with a key that begins a text, and what follows the line.
+pub fn keyed<'a>(s: &'a [u8], key: &[u8]) -> Option<(&'a [u8], &'a [u8])>
+    ensures { Values s.now key.now result }
 {
-    if !has_key(s, from, key) {
-        return Value::Missing;
-    }
-    let start = from + key.len();
-    let Found::At(end) = line_end(s, start) else {
-        return Value::Missing;
-    };
-    Value::Between(start, end)
+    up_to(s.strip_prefix(key)?, b'\n')
 }
 
 // An item of one byte, as a number of a run.
-fn sign_item(b: u8) -> Item
+fn sign_item(b: u8) -> Option<u32>
     ensures { Items (b ∷ []) result }
 {
-    let m = mark_of(b);
-    match m {
-        Mark::Sign(sign) => match sign {
-            Sign::Plus => Item::Is(ADD),
-            Sign::Times => Item::Is(MUL),
-            Sign::Letter => Item::Foul,
-        },
-        Mark::Digit(d) => match d {
-            0 => Item::Is(ZERO),
-            1 => Item::Is(ONE),
-            _ => Item::Foul,
-        },
-        Mark::Space => Item::Foul,
-        Mark::Foul => Item::Foul,
+    match mark_of(b) {
+        Mark::Sign(Sign::Plus) => Some(ADD),
+        Mark::Sign(Sign::Times) => Some(MUL),
+        Mark::Sign(Sign::Letter) => None,
+        Mark::Digit(0) => Some(ZERO),
+        Mark::Digit(1) => Some(ONE),
+        Mark::Digit(_) => None,
+        Mark::Space => None,
+        Mark::Foul => None,
     }
 }
 
-// The item that stands from one position to another, as a number of a run.
-pub fn item_at(s: &[u8], from: usize, to: usize) -> Item
-    requires { (from ≤ to) × (to ≤ length s.now) }
-    ensures { Items (slice from to s.now) result }
+// An item of a term, as a number of a run.
+pub fn item(text: &[u8]) -> Option<u32>
+    ensures { Items text.now result }
 {
-    if to <= from {
-        return Item::Foul;
-    }
-    let b = s[from];
-    let next = from + 1;
-    if to <= next {
-        return sign_item(b);
-    }
-    let Mark::Sign(sign) = mark_of(b) else {
-        return Item::Foul;
-    };
-    let Sign::Letter = sign else {
-        return Item::Foul;
-    };
-    let n = number_in(s, next, to, 999);
-    match n {
-        Number::Is(x) => Item::Is(x),
-        Number::TooLarge => Item::Foul,
-        Number::Malformed => Item::Foul,
+    match text {
+        [] => None,
+        [b] => sign_item(*b),
+        [b, letter @ ..] => {
+            if mark_of(*b) == Mark::Sign(Sign::Letter) {
+                number(letter, LETTER).ok()
+            } else {
+                None
+            }
+        }
     }
 }

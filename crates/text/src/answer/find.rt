@@ -1,78 +1,71 @@
-// FIND's answer to accepted jobs: refusals 7 and 8, or the blocks' text, which is measured first and then written where it fits.
-ghost use Rattle.std.specs.Prelude.{◌≡◌, ℕ, ◌*◌, ◌≤◌, ◌<◌, length};
+// FIND's answer to accepted jobs: the blocks' text, where it fits.
+ghost use Rattle.std.specs.Prelude.{◌≡◌, ℕ, ◌≤◌, ◌<◌, length};
 ghost use mathlib.Core.List.{List, flat_map};
 ghost use Rattle.terms.specs.Term.{Term};
 ghost use Rattle.terms.specs.Held.{IsRun};
 ghost use Rattle.search.specs.Line as line;
-ghost use Rattle.search.specs.Index.{SLOT};
 ghost use Rattle.search.specs.Runs.{HeldRuns};
 ghost use Rattle.search.specs.Searched.{limits_of, slots_of};
 ghost use Rattle.text.specs.Answer.{accepted, fitting};
 ghost use Rattle.text.specs.FindJob.{read_find, jobs_of};
 ghost use Rattle.text.specs.Find.{block, find};
-ghost use Rattle.text.specs.Entry.{Call};
+ghost use Rattle.text.specs.Entry.{Gives};
 ghost use Rattle.text.specs.Answering.{AllKnown, runs_out};
 
-use crate::answer::block::put_blocks;
+use super::answered;
+use super::block::{Blocks, Searched};
+use crate::job::accept::MOST_RIGHTS;
+use crate::refusal::Refusal;
 use search::bounded_search::{Ended, Limits, Stop, is_cut, search_bounded_rewrite};
-use search::replies::{Reply, reply_of};
+use search::replies::Reply;
+use search::slots::Runs;
 
 // Whether a right side has no answer: it is not noted, and the search was not over.
-fn runs_out(reply: u32, ended: Ended) -> bool
+fn runs_out(reply: Reply, ended: Ended) -> bool
     ensures { result ≡ runs_out reply ended }
 {
-    let Reply::Unnoted = reply_of(reply) else {
-        return false;
-    };
-    let stop = ended.stop;
-    match stop {
-        Stop::Over => false,
-        Stop::All => true,
-        Stop::Full => true,
-    }
+    reply == Reply::Unnoted && ended.stop != Stop::Over
 }
 
-// The blocks' text measured on an output of no bytes, and written where it fits; otherwise the output stays untouched.
-fn answer_blocks(
+// The blocks' text, where it fits.
+fn answer_blocks<'a>(
+    left: &'a [u32],
+    rights: Runs<'a>,
+    replies: &'a [Reply],
+    searched: Searched<'a>,
     out: &mut [u8],
-    left: &[u32],
-    rights: &[u32],
-    replies: &[u32],
-    ended: Ended,
-    cut: bool,
-    ws: &[u32],
-) -> usize
+) -> Result<usize, Refusal>
     requires { length replies.now ≤ 16 }
-    ensures { (s : Term) (ts : List Term) (m : line.Limits) (slots : ℕ) → AllKnown left.now rights.now replies.now ended cut ws.now slots s ts m → Call (fitting (length out.old) (flat_map (block slots) (jobs_of s ts m))) out.old result out.new }
+    ensures { (s : Term) (ts : List Term) (m : line.Limits) (slots : ℕ) → AllKnown left.now rights.entry.slots.now replies.now searched.entry.ended searched.entry.cut searched.entry.ws.now slots s ts m → Gives (fitting (length out.old) (flat_map (block slots) (jobs_of s ts m))) out.old result out.new }
 {
-    let n = put_blocks(&mut out[..0], left, rights, replies, ended, cut, ws);
-    if out.len() < n {
-        return 8;
-    }
-    put_blocks(out, left, rights, replies, ended, cut, ws);
-    100 + n
+    let blocks = Blocks {
+        left,
+        rights,
+        replies,
+        searched,
+    };
+    answered(&blocks, out)
 }
 
-// Searches once, and answers for each of the `n` right sides; 7 where there is one alone and a term has no slot left.
+// Searches once, and answers for each of the right sides; where there is one alone, a term without a slot refuses the job.
 pub fn answer_find(
     left: &[u32],
-    rights: &[u32],
-    n: usize,
+    rights: Runs<'_>,
     limits: Limits,
     out: &mut [u8],
     ws: &mut [u32],
-) -> usize
-    requires { (0 < n) × (n ≤ 16) × (SLOT * n ≤ length rights.now) }
-    ensures { (bs : List ℕ) (s : Term) (ts : List Term) (m : line.Limits) → read_find bs ≡ accepted (jobs_of s ts m) → IsRun left.now s → HeldRuns rights.now ts → length ts ≡ n → limits_of limits ≡ m → Call (find bs (slots_of (length ws.old)) (length out.old)) out.old result out.new }
+) -> Result<usize, Refusal>
+    requires { (0 < rights.count) × (rights.count ≤ 16) }
+    ensures { (bs : List ℕ) (s : Term) (ts : List Term) (m : line.Limits) → read_find bs ≡ accepted (jobs_of s ts m) → IsRun left.now s → HeldRuns rights.entry.slots.now ts → length ts ≡ rights.entry.count → limits_of limits ≡ m → Gives (find bs (slots_of (length ws.old)) (length out.old)) out.old result out.new }
 {
-    let mut room = [0u32; 16];
-    let replies = &mut room[..n];
+    let mut room = [Reply::Unnoted; MOST_RIGHTS];
+    let replies = &mut room[..rights.count];
     let ended = search_bounded_rewrite(left, rights, replies, limits, ws);
     let cut = is_cut(ws, ended, limits);
-    if n == 1 {
-        if runs_out(replies[0], ended) {
-            return 7;
-        }
+    let alone = rights.count == 1;
+    if alone && runs_out(replies[0], ended) {
+        return Err(Refusal::OutOfSlots);
     }
-    answer_blocks(out, left, rights, replies, ended, cut, ws)
+    let searched = Searched { ended, cut, ws };
+    answer_blocks(left, rights, replies, searched, out)
 }

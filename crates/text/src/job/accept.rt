@@ -3,172 +3,153 @@ ghost use Rattle.std.specs.Prelude.{◌≡◌, ◌*◌, ◌≤◌, ◌<◌, leng
 ghost use Rattle.search.specs.Index.{SLOT};
 ghost use Rattle.search.specs.Searched.{limits_of};
 ghost use Rattle.text.specs.Job.{in_range};
-ghost use Rattle.text.specs.LayoutRead.{LaidOut};
-ghost use Rattle.text.specs.Accepting.{Orients, AcceptsSides, ReadsSides, ReadsFind, ReadsJob};
+ghost use Rattle.text.specs.Refusal.{number_of};
+ghost use Rattle.text.specs.Accepting.{Orients, AcceptsSides, ReadsSides, Answers, read_within, ReadsFind, ReadsJob};
 
-use super::Found;
-use super::lines::{Laid, Written, layout_of};
-use super::rights::{Rights, Test, all_pass, read_rights};
-use super::side::read_term;
+use super::lines::layout_of;
+use super::rights::{all_pass, few_letters, read_rights};
+use super::side::{Run, read_term};
+use super::written::Written;
+use crate::refusal::Refusal;
 use search::bounded_search::Limits;
+use search::search::LARGEST;
 use search::slots;
-use words::candidate::keep;
-use words::normal_form::{copy, front};
+use search::slots::Runs;
+use terms::term;
+use words::candidate::Equation;
 
-// The length of left's run, how many right sides there are, and the limits.
+// The most right sides of a job of FIND.
+pub const MOST_RIGHTS: usize = 16;
+
+// The most bytes of a job of FIND, of one that is short, and of another job.
+const MOST_BYTES: usize = 4096;
+
+const SHORT: usize = 512;
+
+const MOST_BYTES_OF_ONE: usize = 1024;
+
+// The most that each limit may be.
+const MOST_STEPS: u32 = 16;
+
+const MOST_SIZE: u32 = 31;
+
+const MOST_DEPTH: u32 = 15;
+
+const MOST_NODES: u32 = 4096;
+
+// Left's run, how many right sides there are, and the limits.
 #[derive(Drop)]
 pub struct Read {
-    pub left: usize,
+    pub left: Run,
     pub rights: usize,
     pub limits: Limits,
 }
 
-// The number of a refusal, or what was read.
-#[derive(Drop)]
-pub enum Reading {
-    Refused(usize),
-    Accepted(Read),
-}
-
 // Whether each limit is in its range.
+#[tactic(auto, unfolding(crate::specs::Job::in_range))]
 fn in_range(m: Limits) -> bool
     ensures { result ≡ in_range (limits_of m) }
 {
-    if 16 < m.steps {
-        return false;
-    }
-    if 31 < m.size {
-        return false;
-    }
-    if 15 < m.depth {
-        return false;
-    }
-    if 4096 < m.nodes {
-        return false;
-    }
-    true
+    m.steps <= MOST_STEPS && m.size <= MOST_SIZE && m.depth <= MOST_DEPTH && m.nodes <= MOST_NODES
 }
 
-// The smaller of left, `a`, and the only right side is kept as left, the other in the slot.
-fn orient(a: &[u32], left: &mut [u32], rights: &mut [u32]) -> usize
+// The smaller of left, `a`, and the only right side is left, the other is kept in the slot.
+fn orient(a: &[u32], rights: &mut [u32]) -> Run
     requires { SLOT ≤ length rights.old }
-    ensures { Orients a.now left.old rights.old result left.new rights.new }
+    ensures { Orients a.now rights.old result rights.new }
 {
-    let mut b = [0u32; 31];
-    let kept = keep(a, slots::run_of(rights, 0), left, &mut b);
-    let n = kept.right;
-    slots::hold_slot(rights, 0, front(&b, n));
-    kept.left
+    let mut sides = Equation::<LARGEST>::new();
+    sides.keep(a, slots::run_of(rights, 0));
+    slots::hold_slot(rights, 0, sides.right());
+    Run::of(sides.left()).unwrap()
 }
 
-// Refusals 4 to 6 and 10 for left, `a`, and the right sides in slots; otherwise left's run is kept. A right side that comes before left
-// takes its place where it is the only one.
-fn accept_sides(
-    a: &[u32],
-    n: usize,
-    limits: Limits,
-    left: &mut [u32],
-    rights: &mut [u32],
-) -> Reading
-    requires { (0 < n) × (n ≤ 16) × (SLOT * n ≤ length rights.old) × (31 ≤ length left.old) }
-    ensures { AcceptsSides a.now n limits left.old rights.old result left.new rights.new }
+// Refusals 4 to 6 and 10 for left and the `n` right sides in slots. A right side that comes before left takes its place where it is the only one.
+fn accept_sides(left: Run, n: usize, limits: Limits, rights: &mut [u32]) -> Result<Read, Refusal>
+    requires { (0 < n) × (n ≤ 16) × (SLOT * n ≤ length rights.old) }
+    ensures { AcceptsSides left n limits rights.old result rights.new }
 {
-    if !all_pass(Test::Few, a, rights, n) {
-        return Reading::Refused(4);
+    let a = left.numbers();
+    let others = Runs {
+        slots: rights,
+        count: n,
+    };
+    if !all_pass(others, |b| few_letters(a, b)) {
+        return Err(Refusal::TooManyLetters);
     }
     if !in_range(limits) {
-        return Reading::Refused(5);
+        return Err(Refusal::LimitOver);
     }
-    if !all_pass(Test::Differs, a, rights, n) {
-        return Reading::Refused(6);
+    if !all_pass(others, |b| !term::equal(a, b)) {
+        return Err(Refusal::SameSides);
     }
-    if all_pass(Test::After, a, rights, n) {
-        copy(left, 0, a);
-        return Reading::Accepted(Read {
-            left: a.len(),
+    if all_pass(others, |b| term::compare(b, a).is_ge()) {
+        return Ok(Read {
+            left,
             rights: n,
             limits,
         });
     }
-    if n != 1 {
-        return Reading::Refused(10);
+    let alone = n == 1;
+    if !alone {
+        return Err(Refusal::RightBeforeLeft);
     }
-    let left = orient(a, left, rights);
-    Reading::Accepted(Read {
-        left,
+    Ok(Read {
+        left: orient(a, rights),
         rights: n,
         limits,
     })
 }
 
 // The jobs of a text that is well formed: refusals 2 to 6 and 10. `run` has room for the items of any side.
-fn read_sides(
-    s: &[u8],
-    w: Written,
-    places: &[u32],
-    run: &mut [u32],
-    left: &mut [u32],
-    rights: &mut [u32],
-) -> Reading
-    requires { (length s.now ≤ length run.old) × LaidOut s.now places.now w × (w.rights ≤ 16) × (2 * w.rights ≤ length places.now) × (SLOT * w.rights ≤ length rights.old) × (31 ≤ length left.old) }
-    ensures { ReadsSides s.now result left.new rights.new }
+fn read_sides(w: Written<'_>, run: &mut [u32], rights: &mut [u32]) -> Result<Read, Refusal>
+    requires { (length w.left.now < length run.old) × (length w.lines.now ≤ length run.old) × (w.rights ≤ 16) × (SLOT * w.rights ≤ length rights.old) }
+    ensures { ReadsSides w.entry result rights.new }
 {
-    let Found::At(m) = read_term(s, w.left.from, w.left.to, run) else {
-        return Reading::Refused(2);
-    };
-    let mut a = [0u32; 31];
-    copy(&mut a, 0, &run[..m]);
-    match read_rights(s, places, w.rights, run, rights) {
-        Rights::NoTerm => Reading::Refused(2),
-        Rights::Large => Reading::Refused(3),
-        Rights::Small => {
-            if 31 < m {
-                return Reading::Refused(3);
-            }
-            accept_sides(front(&a, m), w.rights, w.limits, left, rights)
-        }
-    }
+    let n = read_term(w.left, run).ok_or(Refusal::NoTerm)?;
+    let left = Run::of(&run[..n]);
+    read_rights(w, run, rights)?;
+    accept_sides(left.ok_or(Refusal::TooLarge)?, w.rights, w.limits, rights)
 }
 
-// FIND's jobs, one for each right side. The buffer for the items is filled with zeros first, which for a large one takes as long as a short
-// search; 512 bytes are enough for one right side of 31 nodes.
-pub fn read_find(s: &[u8], left: &mut [u32], rights: &mut [u32]) -> Reading
-    requires { (31 ≤ length left.old) × (SLOT * 16 ≤ length rights.old) }
-    ensures { ReadsFind s.now result left.new rights.new }
+// The jobs of a text of at most `BYTES` bytes with at most `most` right sides; with more it is refused by `over`. The buffer for the items is
+// filled with zeros first, which for a large one takes as long as a short search.
+fn read_within<const BYTES: usize>(
+    s: &[u8],
+    most: usize,
+    over: Refusal,
+    rights: &mut [u32],
+) -> Result<Read, Refusal>
+    requires { (BYTES ≤ 4096) × (most ≤ 16) × (SLOT * most ≤ length rights.old) }
+    ensures { Answers (read_within BYTES most (number_of over) s.now) result rights.new }
 {
-    if 4096 < s.len() {
-        return Reading::Refused(1);
+    if BYTES < s.len() {
+        return Err(Refusal::Malformed);
     }
-    let mut places = [0u32; 32];
-    let Laid::Lines(w) = layout_of(s, &mut places) else {
-        return Reading::Refused(1);
-    };
-    if 16 < w.rights {
-        return Reading::Refused(9);
+    let w = layout_of(s).ok_or(Refusal::Malformed)?;
+    if most < w.rights {
+        return Err(over);
     }
-    if s.len() <= 512 {
-        let mut run = [0u32; 512];
-        return read_sides(s, w, &places, &mut run, left, rights);
+    let mut run = [0u32; BYTES];
+    read_sides(w, &mut run, rights)
+}
+
+// FIND's jobs, one for each right side. 512 bytes are enough for one right side of 31 nodes.
+pub fn read_find(s: &[u8], rights: &mut [u32]) -> Result<Read, Refusal>
+    requires { SLOT * 16 ≤ length rights.old }
+    ensures { ReadsFind s.now result rights.new }
+{
+    if s.len() <= SHORT {
+        read_within::<SHORT>(s, MOST_RIGHTS, Refusal::TooManyRights, rights)
+    } else {
+        read_within::<MOST_BYTES>(s, MOST_RIGHTS, Refusal::TooManyRights, rights)
     }
-    let mut run = [0u32; 4096];
-    read_sides(s, w, &places, &mut run, left, rights)
 }
 
 // The job of WORDS and RENAME, which has one right side.
-pub fn read_job(s: &[u8], left: &mut [u32], rights: &mut [u32]) -> Reading
-    requires { (31 ≤ length left.old) × (SLOT ≤ length rights.old) }
-    ensures { ReadsJob s.now result left.new rights.new }
+pub fn read_job(s: &[u8], rights: &mut [u32]) -> Result<Read, Refusal>
+    requires { SLOT ≤ length rights.old }
+    ensures { ReadsJob s.now result rights.new }
 {
-    if 1024 < s.len() {
-        return Reading::Refused(1);
-    }
-    let mut places = [0u32; 2];
-    let Laid::Lines(w) = layout_of(s, &mut places) else {
-        return Reading::Refused(1);
-    };
-    if w.rights != 1 {
-        return Reading::Refused(1);
-    }
-    let mut run = [0u32; 1024];
-    read_sides(s, w, &places, &mut run, left, rights)
+    read_within::<MOST_BYTES_OF_ONE>(s, 1, Refusal::Malformed, rights)
 }

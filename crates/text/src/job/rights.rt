@@ -1,96 +1,56 @@
-// The right sides of a job: read into slots, and what is asked of left and each of them.
+// The right sides of a job: read into slots, and what is asked of each of them.
 ghost use Rattle.std.specs.Prelude.{◌*◌, ◌≤◌, length};
+ghost use Rattle.std.specs.Fn.{FnReturnsAt};
 ghost use Rattle.search.specs.Index.{SLOT};
-ghost use Rattle.text.specs.Accepting.{FewLetters, Passes, AllPass, Inside, ReadsRights};
+ghost use Rattle.text.specs.Accepting.{FewLetters, AllPass, ReadsRights};
 
-use super::Found;
+use super::keyed;
 use super::side::read_term;
+use super::written::Written;
+use crate::refusal::Refusal;
+use search::search::LARGEST;
 use search::slots;
+use search::slots::Runs;
 use terms::term;
-use terms::term::{Comparison, Listed};
+use words::candidate::LETTERS;
 
 // Whether two runs together have at most six different letters.
-fn few_letters(a: &[u32], b: &[u32]) -> bool
+pub(super) fn few_letters(a: &[u32], b: &[u32]) -> bool
     ensures { FewLetters a.now b.now result }
 {
-    let mut names = [0u32; 6];
-    match term::letters(a, b, &mut names) {
-        Listed::All(_) => true,
-        Listed::TooMany => false,
-    }
+    let mut names = [0u32; LETTERS];
+    term::letters(a, b, &mut names).is_some()
 }
 
-// What is asked of left and each right side: at most six different letters; that they differ; that right does not come before left.
-#[derive(Clone, Copy)]
-pub enum Test {
-    Few,
-    Differs,
-    After,
-}
-
-fn passes(test: Test, left: &[u32], right: &[u32]) -> bool
-    ensures { Passes test left.now right.now result }
+// Whether each right side passes a test.
+pub fn all_pass<F: Fn(&[u32]) -> bool>(rights: Runs<'_>, passes: F) -> bool
+    requires { F.IsAlwaysCallable passes }
+    ensures { AllPass (λ xs b. FnReturnsAt F.Fn passes xs b) rights.entry.slots.now rights.entry.count result }
 {
-    match test {
-        Test::Few => few_letters(left, right),
-        Test::Differs => !term::equal(left, right),
-        Test::After => match term::compare(right, left) {
-            Comparison::Less => false,
-            Comparison::Equal => true,
-            Comparison::Greater => true,
-        },
-    }
-}
-
-// Whether left and each of the first `n` right sides pass.
-pub fn all_pass(test: Test, left: &[u32], rights: &[u32], n: usize) -> bool
-    requires { n ≤ 16 }
-    ensures { AllPass test left.now rights.now n result }
-{
-    let mut r = 0;
-    while r < n {
-        if !passes(test, left, slots::run_of(rights, r as u32)) {
+    for k in 0..rights.count as u32 {
+        if !passes(rights.run(k)) {
             return false;
         }
-        r += 1;
     }
     true
 }
 
-// The right sides: one is no term, one has over 31 nodes, or all have their runs in slots.
-#[derive(Drop)]
-pub enum Rights {
-    NoTerm,
-    Large,
-    Small,
-}
-
-// Reads the right sides at their places into slots; `run` has room for each. One that is no term is refused before one that is too large, so that all are read.
-pub fn read_rights(
-    s: &[u8],
-    places: &[u32],
-    n: usize,
-    run: &mut [u32],
-    rights: &mut [u32],
-) -> Rights
-    requires { (n ≤ 16) × (2 * n ≤ length places.now) × (SLOT * n ≤ length rights.old) × (length s.now ≤ length run.old) × Inside s.now places.now n }
-    ensures { ReadsRights s.now places.now n rights.old rights.new result }
+// Reads the right sides into slots; `run` has room for each. One that is no term is refused before one that is too large, so that all are read.
+pub fn read_rights(w: Written<'_>, run: &mut [u32], rights: &mut [u32]) -> Result<(), Refusal>
+    requires { (length w.lines.now ≤ length run.old) × (SLOT * w.rights ≤ length rights.old) }
+    ensures { ReadsRights w.entry rights.old rights.new result }
 {
-    let mut read = Rights::Small;
-    let mut r = 0;
-    while r < n {
-        let at = 2 * r;
-        let from = places[at] as usize;
-        let to = places[at + 1] as usize;
-        let Found::At(m) = read_term(s, from, to, run) else {
-            return Rights::NoTerm;
-        };
-        if 31 < m {
-            read = Rights::Large;
+    let mut read = Ok(());
+    let mut rest = w.lines;
+    for r in 0..w.rights {
+        let (side, more) = keyed(rest, b"right=").unwrap();
+        let n = read_term(side, run).ok_or(Refusal::NoTerm)?;
+        if n <= LARGEST {
+            slots::hold_slot(rights, r, &run[..n]);
         } else {
-            slots::hold_slot(rights, r, &run[..m]);
+            read = Err(Refusal::TooLarge);
         }
-        r += 1;
+        rest = more;
     }
     read
 }

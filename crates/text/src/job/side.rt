@@ -1,57 +1,80 @@
 // A side of the job's equation: its items, and the run of the term that they make.
-ghost use Rattle.std.specs.Prelude.{◌-◌, ◌≤◌, ◌<◌, length};
-ghost use Rattle.std.proofs.Math.Seq.{slice};
-ghost use Rattle.text.specs.SideRead.{ItemEnds, ReadsItems, ReadsTerm};
+ghost use Rattle.std.specs.Prelude.{◌≡◌, ◌≤◌, ◌<◌, length, MatchOption};
+ghost use Rattle.text.specs.SideRead.{ReadsItems, ReadsTerm};
 
-use super::{Found, Item, Mark, item_at, mark_of};
+use super::{item, up_to};
+use search::search::LARGEST;
+use std::marker::Model;
 use terms::term;
 
-// Where the item that starts at a position ends: the next space, or where the side ends.
-pub fn item_end(s: &[u8], from: usize, to: usize) -> usize
-    requires { (from ≤ to) × (to ≤ length s.now) }
-    ensures { ItemEnds s.now from to result }
-{
-    let mut i = from;
-    while i < to {
-        if let Mark::Space = mark_of(s[i]) {
-            return i;
-        }
-        i += 1;
-    }
-    i
+// The run of a term of at most 31 nodes.
+#[derive(Drop)]
+pub struct Run {
+    numbers: [u32; LARGEST],
+    length: usize,
 }
 
-// The numbers of a side's items, at the front of `run`: how many there are, if every item stands for something.
-fn items_in(s: &[u8], from: usize, to: usize, run: &mut [u32]) -> Found
-    requires { (from ≤ to) × (to ≤ length s.now) × (to - from < length run.old) }
-    ensures { ReadsItems (slice from to s.now) run.new result }
+// Clauses see the numbers of the run.
+impl Model for Run {
+    ghost use Rattle.std.specs.Prelude.{ℕ, ◌≤◌, List, take};
+
+    ghost Value = { List ℕ };
+
+    ghost view = { λ r. take r.length r.numbers };
+
+    ghost invariant = { λ r. r.length ≤ 31 };
+}
+
+impl Run {
+    // Numbers kept as a run, if there are at most 31.
+    pub fn of(numbers: &[u32]) -> Option<Self>
+        ensures { MatchOption result (31 < length numbers.now) (λ r. (r ≡ numbers.now) × (length numbers.now ≤ 31)) }
+    {
+        if LARGEST < numbers.len() {
+            return None;
+        }
+        let mut kept = [0u32; LARGEST];
+        kept[..numbers.len()].copy_from_slice(numbers);
+        Some(Run {
+            numbers: kept,
+            length: numbers.len(),
+        })
+    }
+
+    pub fn numbers(&self) -> &[u32]
+        ensures is { result.now ≡ self.now }
+        ensures fits { length result.now ≤ 31 }
+    {
+        &self.numbers[..self.length]
+    }
+}
+
+// The numbers of a side's items, at the front of `run`: how many there are, if every item stands for something. An iterator over the items
+// would leave them to be counted all the same.
+fn items(side: &[u8], run: &mut [u32]) -> Option<usize>
+    requires { length side.now < length run.old }
+    ensures { ReadsItems side.now run.new result }
 {
     let mut n = 0;
-    let mut i = from;
-    loop {
-        let end = item_end(s, i, to);
-        let Item::Is(x) = item_at(s, i, end) else {
-            return Found::Nothing;
-        };
-        run[n] = x;
+    let mut rest = side;
+    while let Some((text, more)) = up_to(rest, b' ') {
+        run[n] = item(text)?;
         n += 1;
-        if to <= end {
-            return Found::At(n);
-        }
-        i = end + 1;
+        rest = more;
     }
+    run[n] = item(rest)?;
+    Some(n + 1)
 }
 
 // The run of the term that a side spells, at the front of `run`: how many numbers it has, if there is such a term.
-pub fn read_term(s: &[u8], from: usize, to: usize, run: &mut [u32]) -> Found
-    requires { (from ≤ to) × (to ≤ length s.now) × (to - from < length run.old) }
-    ensures { ReadsTerm (slice from to s.now) run.new result }
+pub fn read_term(side: &[u8], run: &mut [u32]) -> Option<usize>
+    requires { length side.now < length run.old }
+    ensures { ReadsTerm side.now run.new result }
 {
-    let Found::At(n) = items_in(s, from, to, run) else {
-        return Found::Nothing;
-    };
-    if !term::is_run(&run[..n]) {
-        return Found::Nothing;
+    let n = items(side, run)?;
+    if term::is_run(&run[..n]) {
+        Some(n)
+    } else {
+        None
     }
-    Found::At(n)
 }

@@ -1,19 +1,12 @@
--- `find` meets its contract: the job is refused, or answered by the search.
-use native.Mathlib.Omega.{arith}
-use Rattle.text.proofs.Entries.{find_refused, find_answered}
+-- `find` meets its contract: it returns the number of what is given.
+use Rattle.std.proofs.Common.{arith}
+use Rattle.text.proofs.Entries.{gives_fitting, find_called}
 use Rattle.text.proofs.entry.find.Goals as goal
 
-pub answer_find-requires : goal.answer_find-requires
-answer_find-requires c =
-    let h = rw c.in-Accepted.is at c.read_find.ensures in
-    (h.some_rights, h.few_rights, omega (arith, h.few_rights))
+pub returned-requires : goal.returned-requires
+returned-requires c = gives_fitting _ _ c.answer_jobs.result c.answer_jobs.new.output c.answer_jobs.ensures.gives (omega arith)
 
-pub returns-in-Refused : goal.returns-in-Refused
-returns-in-Refused c =
+pub returns : goal.returns
+returns c =
     let a = c.args in
-    find_refused a.job.now a.output.now a.workspace.now (rw c.in-Refused.is at c.read_find.ensures)
-
-pub returns-in-Accepted : goal.returns-in-Accepted
-returns-in-Accepted c =
-    let a = c.args in
-    find_answered a.job.now (rw c.in-Accepted.is at c.read_find.ensures) c.front.ensures a.output.now c.answer_find.ensures
+    rw c.returned.ensures (find_called a.job.now a.output.now a.workspace.now c.answer_jobs.result c.answer_jobs.ensures)

@@ -1,14 +1,16 @@
--- `rename` meets its contract: the job is refused, or answered.
-use Rattle.text.proofs.Entries.{rename_refused, rename_answered}
+-- `rename` meets its contract: it returns the number of what is given.
+use Rattle.std.proofs.Common.{arith}
+use Rattle.text.proofs.Entries.{call_of, gives_fitting, rename_given}
 use Rattle.text.proofs.entry.rename.Goals as goal
 
-pub returns-in-Refused : goal.returns-in-Refused
-returns-in-Refused c =
+pub returned-requires : goal.returned-requires
+returned-requires c =
     let a = c.args in
-    rename_refused a.job.now a.output.now (rw c.in-Refused.is at c.read_job.ensures)
+    let g = rename_given a.job.now a.output.now c.answer_job.result c.answer_job.ensures (λ left right o o' q post. post) in
+    gives_fitting _ _ c.answer_job.result c.answer_job.new.output g (omega arith)
 
-pub returns-in-Accepted : goal.returns-in-Accepted
-returns-in-Accepted c =
+pub returns : goal.returns
+returns c =
     let a = c.args in
-    rename_answered a.job.now (rw c.in-Accepted.is at c.read_job.ensures) c.front.ensures c.run_of.ensures a.output.now
-    c.answer_rename.ensures
+    let g = rename_given a.job.now a.output.now c.answer_job.result c.answer_job.ensures (λ left right o o' q post. post) in
+    rw c.returned.ensures (call_of _ _ c.answer_job.result g)

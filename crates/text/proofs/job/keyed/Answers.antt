@@ -1,17 +1,21 @@
--- `keyed` meets its contract: the value is the line behind the key.
-use native.Mathlib.Omega.{arith}
-use Rattle.text.specs.Reading.{Key}
-use Rattle.text.proofs.Lines.{no_key, value_ends, value_open}
+-- `keyed` meets its contract: the key is taken off, and the line ends at the next byte 10.
+use Rattle.std.proofs.Common.{arith}
+use Rattle.std.proofs.lemmas.Bool.Decides.{Decides-eqb}
+use Rattle.std.proofs.lemmas.Slice.Eq.{strip_prefix_is}
+use Rattle.text.proofs.Lines.{after_some, after_none, no_key, value_of}
 use Rattle.text.proofs.job.keyed.Goals as goal
 
-pub returns-then-not-has_key : goal.returns-then-not-has_key
-returns-then-not-has_key c = let a = c.args in no_key a.s.now a.from a.key.now c.if-not-has_key.ensures
-
-pub line_end-requires : goal.line_end-requires
-line_end-requires c = let k : Key c.args.s.now c.args.from c.args.key.now = c.if-not-has_key.ensures in omega arith
-
-pub returns-in_default : goal.returns-in_default
-returns-in_default c = let a = c.args in value_open a.s.now a.from a.key.now c.if-not-has_key.ensures c.in_default.ensures
+pub returns-in_err-strip_prefix : goal.returns-in_err-strip_prefix
+returns-in_err-strip_prefix c =
+    let s = c.args.s.now in
+    let key = c.args.key.now in
+    let h = strip_prefix_is Decides-eqb s key c.strip_prefix.result c.strip_prefix.ensures.cases in
+    rw c.from_residual.ensures (no_key s key (after_none key s (rw c.in_err-strip_prefix.was at h)))
 
 pub returns : goal.returns
-returns c = let a = c.args in value_ends a.s.now a.from a.key.now c.if-not-has_key.ensures _ c.in-At.ensures
+returns c =
+    let s = c.args.s.now in
+    let key = c.args.key.now in
+    let rest = c.in_ok-strip_prefix.field-0.now in
+    let h = strip_prefix_is Decides-eqb s key c.strip_prefix.result c.strip_prefix.ensures.cases in
+    value_of s key rest (after_some key rest s (rw c.in_ok-strip_prefix.was at h)) (omega (arith, c.in_ok-strip_prefix.ensures)) c.up_to.result c.up_to.ensures

@@ -1,6 +1,6 @@
--- The measure is what is left of the run.
-use Rattle.std.proofs.Common.{◌-◌, length}
+-- The measure is the length of the run.
+use lib.ListN.{length}
 use Rattle.text.proofs.kernel_bridge.+render_term.Given as goal
 
 abbrev pub decreases-render_term : goal.decreases-render_term
-decreases-render_term l = length l.run.now - l.from
+decreases-render_term l = length l.s.now

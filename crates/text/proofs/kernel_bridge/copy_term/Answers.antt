@@ -1,14 +1,11 @@
 -- `copy_term` meets its contract.
-use Rattle.text.proofs.Applied.{copies_past, copies_none, copies_all}
+use Rattle.text.proofs.Applied.{copies_none, copies_all}
 use Rattle.text.proofs.kernel_bridge.copy_term.Goals as goal
 
-pub returns-then-run-from : goal.returns-then-run-from
-returns-then-run-from c = copies_past c.args.run.now c.args.from c.args.out.now c.args.n c.requires c.if-run-from.true
-
 pub returns-then-out-n : goal.returns-then-out-n
-returns-then-out-n c = copies_none c.args.run.now c.args.from c.args.out.now c.args.n c.requires c.end_of-end.result c.end_of-end.ensures c.if-out-n.true
+returns-then-out-n c = copies_none c.args.s.now c.args.out.now c.args.n c.requires c.end_of-end.result c.end_of-end.ensures c.if-out-n.true
 
 pub returns : goal.returns
 returns c =
-    copies_all c.args.run.now c.args.from c.args.out.now c.args.n c.requires c.end_of-end.result c.end_of-end.ensures c.append.result
-    c.append.new.out c.if-run-from.false c.if-out-n.false c.append.ensures.0 c.append.ensures.1
+    copies_all c.args.s.now c.args.out.now c.args.n c.requires c.end_of-end.result c.end_of-end.ensures c.append.result
+    c.append.new.out c.if-out-n.false c.append.ensures.0 c.append.ensures.1

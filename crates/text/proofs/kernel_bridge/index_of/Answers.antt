@@ -1,12 +1,13 @@
-use mathlib.Core.Path.{sym, ◌∙◌}
-use Rattle.text.proofs.Rendered.{index_past, index_here, index_later}
+-- `index_of` meets its contract.
+use Rattle.std.proofs.Common.{◌∙◌, eqb, rules, tests}
+use Rattle.std.proofs.lemmas.Iterator.{YieldsList-from_slice}
+use Rattle.std.proofs.lemmas.Iterator.Search.{position_from_yields_List}
+use Rattle.text.proofs.Rendered.{index_found}
 use Rattle.text.proofs.kernel_bridge.index_of.Goals as goal
 
-pub returns-then-names-i : goal.returns-then-names-i
-returns-then-names-i c = sym (index_here c.args.names.now c.args.n c.loop-i.i c.loop-i-test.true c.if-names-i.true) ∙ c.loop-i.invariant
-
-pub loop-i-preserved : goal.loop-i-preserved
-loop-i-preserved c = sym (index_later c.args.names.now c.args.n c.loop-i.i c.loop-i-test.true c.if-names-i.false) ∙ c.loop-i.invariant
-
 pub returns : goal.returns
-returns c = sym (index_past c.args.names.now c.args.n c.loop-i.i c.loop-i-test.false) ∙ c.loop-i.invariant
+returns c =
+    let names = c.args.names.now in
+    c.unwrap_or.ensures
+    ∙ index_found c.args.n names c.position.result
+    (position_from_yields_List (eqb c.args.n) _ _ c.position.result c.position.ensures.ran (YieldsList-from_slice names cc) (λ x b q k. search (rules, tests)))

@@ -1,11 +1,10 @@
 -- `put_next_letter` meets its contract.
-use Rattle.text.proofs.Overlay.{then}
+use Rattle.text.proofs.Writing.{then}
 use Rattle.text.proofs.Items.{put_digit_letter}
-use borrow.Author.Rules.{rules}
 use Rattle.text.proofs.put.put_next_letter.Goals as goal
 
 pub returns-then-n-lt10 : goal.returns-then-n-lt10
-returns-then-n-lt10 c = search (put_digit_letter, rules)
+returns-then-n-lt10 c = put_digit_letter 32 c.args.i c.args.n c.if-i-gt0.true c.if-n-lt10.true c.put_three.ensures
 
-pub returns : goal.returns
-returns c = search (then, rules)
+pub returns-else-i-gt0 : goal.returns-else-i-gt0
+returns-else-i-gt0 c = then c.put_gap.ensures c.put_letter.ensures

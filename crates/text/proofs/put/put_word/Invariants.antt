@@ -1,16 +1,11 @@
 -- `put_word` meets its contract. The invariant: the letters before i are put.
-use Prim.Native.Nat.{◌≤◌, ◌-◌}
 use Prim.Native.Char.{code}
-use mathlib.Core.Path.{◌≡◌}
 use mathlib.Core.List.{map}
 use lib.ListN.{length, take}
 use Rattle.text.specs.Bytes.{parted}
-use Rattle.text.specs.Put.{Put}
+use Rattle.text.specs.Writer.{Writes}
 use Rattle.text.proofs.WordTexts.{letter_text}
 use Rattle.text.proofs.put.put_word.Given as goal
 
 abbrev pub invariant-loop-i : goal.invariant-loop-i
-invariant-loop-i l = (l.i ≤ length l.letters) × (length l.out ≡ length l.initial.out) × Put (parted (code " ") (map letter_text (take l.i l.letters))) l.initial.out l.at l.p l.out
-
-abbrev pub decreases-loop-i : goal.decreases-loop-i
-decreases-loop-i l = length l.letters - l.i
+invariant-loop-i l = Writes (parted (code " ") (map letter_text (take l.i l.letters))) l.initial.w l.w

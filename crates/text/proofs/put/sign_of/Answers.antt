@@ -2,20 +2,20 @@
 use mathlib.Core.Path.{sym, ap}
 use Rattle.text.specs.Items.{sign_of}
 use Rattle.text.proofs.Items.{sign_mul}
-use borrow.Author.Rules.{rules}
+use native.Mathlib.Omega.{arith}
 use Rattle.text.proofs.put.sign_of.Goals as goal
 
-pub returns-then-n-eq-ZERO : goal.returns-then-n-eq-ZERO
+pub returns-in-4096 : goal.returns-in-4096
 unfolding sign_of
-returns-then-n-eq-ZERO c = sym (ap sign_of c.if-n-eq-ZERO.true)
+returns-in-4096 c = sym (ap sign_of c.in-4096.is)
 
-pub returns-then-n-eq-ONE : goal.returns-then-n-eq-ONE
+pub returns-in-4097 : goal.returns-in-4097
 unfolding sign_of
-returns-then-n-eq-ONE c = sym (ap sign_of c.if-n-eq-ONE.true)
+returns-in-4097 c = sym (ap sign_of c.in-4097.is)
 
-pub returns-then-n-eq-ADD : goal.returns-then-n-eq-ADD
+pub returns-in-4098 : goal.returns-in-4098
 unfolding sign_of
-returns-then-n-eq-ADD c = sym (ap sign_of c.if-n-eq-ADD.true)
+returns-in-4098 c = sym (ap sign_of c.in-4098.is)
 
-pub returns : goal.returns
-returns c = search (sign_mul, rules)
+pub returns-in_default : goal.returns-in_default
+returns-in_default c = sign_mul c.args.n (omega arith) (omega arith) (omega arith)

@@ -1,5 +1,5 @@
 -- The measure is how far the place is.
-use Rattle.std.proofs.Common.{◌-◌}
+use Prim.Native.Nat.{◌-◌}
 use Rattle.text.proofs.step.+put_sides.Given as goal
 
 abbrev pub decreases-put_sides : goal.decreases-put_sides

@@ -1,16 +1,13 @@
-use mathlib.Core.Path.{refl}
-use native.Mathlib.Omega.{arith}
+-- `put_steps` meets its contract.
+use Rattle.std.proofs.Common.{rules}
 use Rattle.text.proofs.Walks.{steps_start, steps_more, steps_all}
-use borrow.Author.Rules.{rules}
 use Rattle.text.proofs.step.put_steps.Goals as goal
 
-pub loop-i-init : goal.loop-i-init
-loop-i-init c =
-    let a = c.args in
-    (search rules, refl, steps_start a.ws.now a.path.now a.out.now a.at (omega arith) (omega arith))
+pub loop-k-init : goal.loop-k-init
+loop-k-init c = steps_start c.args.lines.ws.now c.args.lines.path.now c.args.w.now
 
-pub loop-i-preserved : goal.loop-i-preserved
-loop-i-preserved c = search (steps_more, rules)
+pub loop-k-preserved : goal.loop-k-preserved
+loop-k-preserved c = steps_more c.loop-k.k-index c.loop-k-test.true c.loop-k.invariant c.put_step.ensures
 
 pub returns : goal.returns
-returns c = search (steps_all, rules)
+returns c = steps_all c.loop-k.k-index c.loop-k-test.false c.loop-k.invariant

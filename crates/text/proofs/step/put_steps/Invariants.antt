@@ -1,12 +1,6 @@
--- `put_steps` meets its contract. The invariant: the lines before i are put.
-use Prim.Native.Nat.{◌≤◌, ◌-◌}
-use mathlib.Core.Path.{◌≡◌}
-use lib.ListN.{length}
+-- `put_steps` meets its contract. The invariant: the lines before the index are put.
 use Rattle.text.proofs.Walks.{PutsSteps}
 use Rattle.text.proofs.step.put_steps.Given as goal
 
-abbrev pub invariant-loop-i : goal.invariant-loop-i
-invariant-loop-i l = (l.i ≤ length l.path) × (length l.out ≡ length l.initial.out) × PutsSteps l.ws l.path l.i l.initial.out l.at l.p l.out
-
-abbrev pub decreases-loop-i : goal.decreases-loop-i
-decreases-loop-i l = length l.path - l.i
+abbrev pub invariant-loop-k : goal.invariant-loop-k
+invariant-loop-k l = PutsSteps l.lines.ws.now l.lines.path.now l.k-index l.initial.w l.w

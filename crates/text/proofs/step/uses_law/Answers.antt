@@ -1,15 +1,11 @@
-use Rattle.text.proofs.Walks.{unused_start, used_found, unused_more, unused_all}
-use borrow.Author.Rules.{rules}
+-- `uses_law` meets its contract.
+use Rattle.std.proofs.Common.{true, false, rules, tests}
+use Rattle.std.proofs.lemmas.Iterator.{YieldsList-from_slice, cases_from_any}
+use Rattle.text.proofs.Walks.{Leads, used_told}
 use Rattle.text.proofs.step.uses_law.Goals as goal
 
-pub loop-i-init : goal.loop-i-init
-loop-i-init c = search (unused_start, rules)
-
-pub returns-then-leads_to : goal.returns-then-leads_to
-returns-then-leads_to c = search (used_found, rules)
-
-pub loop-i-preserved : goal.loop-i-preserved
-loop-i-preserved c = search (unused_more, rules)
-
 pub returns : goal.returns
-returns c = search (unused_all, rules)
+returns c =
+    let a = c.args in
+    let by_slot = cases_from_any _ _ _ (λ k. Leads a.lines.ws.now k a.law true) (λ k. Leads a.lines.ws.now k a.law false) c.any.ensures.ran (YieldsList-from_slice a.lines.path.now cc) (λ x q k. search (rules, tests)) (λ x q k. search (rules, tests)) in
+    used_told a.law c.any.result by_slot

@@ -2,13 +2,15 @@
 use native.Mathlib.Omega.{arith}
 use Rattle.terms.specs.Theory.Held.{size_of}
 use Rattle.text.proofs.Answering.{whole_led}
+use Rattle.text.proofs.answer.block.put_direct.Goals.{then-sides-gt-LARGEST-via-then-sides-gt-LARGEST, then-sides-gt-LARGEST-via-else-sides-gt-LARGEST+then-sides-gt-LARGEST-2}
 use Rattle.text.proofs.answer.block.put_direct.Goals as goal
 
-pub returns-then-left-gt31 : goal.returns-then-left-gt31
-returns-then-left-gt31 c = λ j sides. absurd (omega (arith, c.if-left-gt31.true, size_of sides.left_run, sides.known.sides.small_left))
-
-pub returns-then-right-gt31 : goal.returns-then-right-gt31
-returns-then-right-gt31 c = λ j sides. absurd (omega (arith, c.if-right-gt31.true, size_of sides.right_run, sides.known.sides.small_right))
+pub returns-then-sides-gt-LARGEST : goal.returns-then-sides-gt-LARGEST
+returns-then-sides-gt-LARGEST c = λ j sides. elim c.then-sides-gt-LARGEST.branch [
+  | then-sides-gt-LARGEST-via-then-sides-gt-LARGEST w ↦ absurd (omega (arith, w.if-sides-gt-LARGEST.true, size_of sides.left_run, sides.known.sides.small_left))
+  | then-sides-gt-LARGEST-via-else-sides-gt-LARGEST+then-sides-gt-LARGEST-2 w ↦
+      absurd (omega (arith, w.if-sides-gt-LARGEST-2.true, size_of sides.right_run, sides.known.sides.small_right))
+]
 
 pub returns : goal.returns
 returns c =

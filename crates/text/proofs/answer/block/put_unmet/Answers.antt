@@ -1,5 +1,8 @@
 -- `put_unmet` meets its contract: an arm for each reason to stop.
-use Rattle.text.proofs.Overlay.{put_as}
+use mathlib.Core.Logic.{⊎_elim}
+use mathlib.Core.Path.{sym, ap}
+use Rattle.text.specs.Answer.{refused, printed}
+use Rattle.text.proofs.Writing.{put_as}
 use Rattle.text.proofs.Blocks.{unmet_some, unmet_full, unmet_over}
 use Rattle.text.proofs.answer.block.put_unmet.Goals as goal
 
@@ -10,9 +13,9 @@ returns-in-Over c =
     (c.put_none.ensures j _ sides.left_run sides.right_run (unmet.cut_is c.in-Over.is))
 
 pub returns-in-All : goal.returns-in-All
-returns-in-All c = λ j slots sides unmet. absurd (unmet_some sides unmet c.in-All.is)
-
-pub returns-in-Full : goal.returns-in-Full
-returns-in-Full c =
+returns-in-All c =
     λ j slots sides unmet.
-    put_as (unmet_full sides unmet c.in-Full.is) c.put_refused-in-Full.ensures
+    ⊎_elim
+    (λ all. absurd (unmet_some sides unmet all))
+    (λ full. put_as (unmet_full sides unmet full) (c.put.ensures (printed (refused 7)) (ap (λ n. printed (refused n)) (sym c.from.ensures))))
+    c.in-All.is

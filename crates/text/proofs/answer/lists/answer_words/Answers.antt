@@ -1,5 +1,5 @@
 -- `answer_words` meets its contract.
-use mathlib.Core.Path.{◌∙◌}
+use mathlib.Core.Path.{refl, ◌∙◌}
 use native.Mathlib.Omega.{arith}
 use Rattle.words.specs.Words.{words}
 use Rattle.text.proofs.answer.lists.answer_words.Goals as goal
@@ -7,6 +7,5 @@ use Rattle.text.proofs.answer.lists.answer_words.Goals as goal
 pub returns : goal.returns
 returns c =
     λ s t p q small-s small-t.
-    c.answer_lists.ensures (words s) (words t)
-    (c.front.ensures ∙ c.words_of-m.ensures.exact s p small-s (omega arith))
-    (c.front-2.ensures ∙ c.words_of-n.ensures.exact t q small-t (omega arith))
+    c.answered.ensures _
+    (words s, words t, c.front.ensures ∙ c.words_of-m.ensures.exact s p small-s (omega arith), c.front-2.ensures ∙ c.words_of-n.ensures.exact t q small-t (omega arith), refl)

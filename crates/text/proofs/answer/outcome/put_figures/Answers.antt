@@ -1,9 +1,13 @@
 -- `put_figures` meets its contract.
-use mathlib.Core.Path.{ap}
-use Rattle.text.specs.Bytes.{ascii, number}
+use Prim.Native.Char.{code}
+use mathlib.Core.Path.{refl, ap, sym}
+use lib.ListN.{length}
+use Rattle.search.specs.Law.{semiring}
+use Rattle.text.specs.Bytes.{ascii}
+use Rattle.text.specs.Bytes.{number, parted}
 use Rattle.text.specs.Answer.{field}
-use mathlib.Core.List.{[], ◌∷◌, ◌++◌}
-use Rattle.text.proofs.Overlay.{then, put_as}
+use Rattle.text.specs.Find.{uses}
+use Rattle.text.proofs.Writing.{then}
 use Rattle.text.proofs.Outcomes.{walk_count}
 use Rattle.text.proofs.answer.outcome.put_figures.Goals as goal
 
@@ -11,5 +15,5 @@ pub returns : goal.returns
 unfolding field ascii
 returns c =
     λ s xs walk.
-    then (put_as (ap (λ n. ascii "steps=" ++ (number n ++ (10 ∷ []))) (walk_count walk)) c.write_number_line-p.ensures)
-    (then c.write_number_line-p-2.ensures (then c.write_bytes-p.ensures (then (c.put_uses-p.ensures s xs walk) c.write_byte.ensures)))
+    then (c.line.ensures (number (length xs)) (ap number (sym (walk_count walk))))
+    (then (c.line-2.ensures (number c.args.expanded) refl) (c.line-3.ensures (parted (code ",") (uses semiring xs)) (s, xs, walk, refl)))

@@ -1,17 +1,19 @@
 -- `put_none` meets its contract.
-use mathlib.Core.Path.{ap}
-use mathlib.Core.List.{◌∷◌, [], ◌++◌, flatten}
+use mathlib.Core.Path.{refl, sym, ap}
+use mathlib.Core.List.{flatten}
 use Rattle.text.specs.Bytes.{ascii}
+use Rattle.text.specs.Bytes.{number}
+use Rattle.text.specs.TermText.{write_term}
 use Rattle.text.specs.Answer.{field, yes_no}
 use Rattle.text.specs.Find.{outcome_lines, outcome_text}
-use Rattle.text.proofs.Overlay.{then, put_as, put_last}
+use Rattle.text.proofs.Writing.{then, put_last}
 use Rattle.text.proofs.answer.outcome.put_none.Goals as goal
 
 pub returns : goal.returns
 unfolding outcome_text outcome_lines flatten field ascii
 returns c =
     λ j n left right cut.
-    then c.write_line-p.ensures
-    (then (c.write_term_line-p.ensures j.left left)
-    (then (c.write_term_line-p-2.ensures j.right right)
-    (then c.write_number_line-p.ensures (put_last (put_as (ap (λ yes. ascii "cut=" ++ (yes_no yes ++ (10 ∷ []))) cut) c.put_yes_no_line.ensures)))))
+    then (c.line.ensures (ascii "none") refl)
+    (then (c.line-2.ensures (write_term j.left) (j.left, left, refl))
+    (then (c.line-3.ensures (write_term j.right) (j.right, right, refl))
+    (then (c.line-4.ensures (number c.args.expanded) refl) (put_last (c.line-5.ensures _ (ap yes_no (sym cut)))))))

@@ -1,12 +1,9 @@
--- `orient` meets its contract: the smaller side is kept as left, the other is held in slot 0.
-use native.Mathlib.Omega.{arith}
-use mathlib.Core.Path.{ap}
-use lib.ListN.{length, length-take}
+-- `orient` meets its contract: the smaller side is left, the other is held in slot 0.
+use Rattle.std.proofs.lemmas.Option.{MatchOption-at_some}
 use Rattle.text.proofs.Accepts.{kept_in_order}
 use Rattle.text.proofs.job.accept.orient.Goals as goal
 
-pub hold_slot-requires : goal.hold_slot-requires
-hold_slot-requires c = (omega arith, omega (arith, simp length-take at (ap length c.front.ensures)))
-
 pub returns : goal.returns
-returns c = kept_in_order c.run_of.ensures (omega arith) c.keep-kept.ensures c.keep-kept.auto.left c.front.ensures c.hold_slot.ensures
+returns c =
+    let kept = MatchOption-at_some _ _ _ c.unwrap.ensures c.of.ensures in
+    rw (kept.0, c.left.ensures.is) (kept_in_order c.run_of.ensures c.keep.ensures c.right.ensures.is c.hold_slot.ensures)

@@ -1,50 +1,42 @@
--- `read_sides` meets its contract: left is read and copied, then the right sides, and all that is left is to accept them.
-use native.Mathlib.Omega.{arith}
-use mathlib.Core.Path.{sym}
-use lib.ListN.{replicate}
-use lib.Seq.{slice, length-take-le}
+-- `read_sides` meets its contract: left is read and kept, then the right sides, and all that is left is to accept them.
+use Rattle.std.proofs.Common.{◌≡◌, ◌<◌, arith, Some, None, length, take}
+use Rattle.std.proofs.lemmas.Option.{MatchOption-at_some, MatchOption-at_none}
+use Rattle.std.proofs.lemmas.List.{length-take-le}
+use Rattle.std.proofs.lemmas.Result.{err_from_is_err_and}
+use Rattle.text.specs.declared.refusal.Refusal.TheVariants.{NoTerm, TooLarge}
 use Rattle.text.specs.SideRead.{TermRead}
-use Rattle.text.proofs.Jobs.{inside, foul_left, foul_right, large_right, large_left, sides_read}
+use Rattle.text.proofs.Jobs.{foul_left, foul_right, large_left, sides_read}
 use Rattle.text.proofs.job.accept.read_sides.Goals as goal
 
-pub read_term-requires : goal.read_term-requires
-read_term-requires c =
-    let o = c.requires.1 in
-    (o.left_starts, omega (arith, o.left_ends), omega (arith, o.left_ends))
+pub returns-in_err-n : goal.returns-in_err-n
+returns-in_err-n c =
+    let p = err_from_is_err_and c.from_residual.result c.from_residual.ensures.1 in
+    let none : c.read_term.result ≡ None = grind arith in
+    let e : c.in_err-n.field-0.0 ≡ NoTerm = grind arith in
+    rw (p.1, p.2, e) (foul_left c.args.w (MatchOption-at_none _ _ none c.read_term.ensures))
 
-pub returns-in_default : goal.returns-in_default
-returns-in_default c = foul_left c.requires.1 c.in_default.ensures
+pub returns-in_err-read_rights : goal.returns-in_err-read_rights
+returns-in_err-read_rights c =
+    let p = err_from_is_err_and c.from_residual-in_err-read_rights.result c.from_residual-in_err-read_rights.ensures.1 in
+    let some : c.read_term.result ≡ Some c.in_ok-n.n = grind arith in
+    let t : TermRead c.args.w.left.now c.read_term.new.run c.in_ok-n.n = MatchOption-at_some _ _ _ some c.read_term.ensures in
+    rw (p.1, p.2) (foul_right c.args.w t c.in_err-read_rights.ensures.exact)
 
-pub slice_bounds-copy-end-2 : goal.slice_bounds-copy-end-2
-slice_bounds-copy-end-2 c =
-    let t : TermRead (slice c.args.w.left.from c.args.w.left.to c.args.s.now) c.read_term.new.run c.in-At.m = c.in-At.ensures in
-    t.room
+pub returns-in_err-ok_or : goal.returns-in_err-ok_or
+returns-in_err-ok_or c =
+    let p = err_from_is_err_and c.from_residual-in_err-ok_or.result c.from_residual-in_err-ok_or.ensures.1 in
+    let some : c.read_term.result ≡ Some c.in_ok-n.n = grind arith in
+    let t : TermRead c.args.w.left.now c.read_term.new.run c.in_ok-n.n = MatchOption-at_some _ _ _ some c.read_term.ensures in
+    let none : c.of-left.result ≡ None = grind arith in
+    let e : c.in_err-ok_or.field-0.0 ≡ TooLarge = grind arith in
+    let l : 31 < length (take c.in_ok-n.n c.read_term.new.run) = MatchOption-at_none _ _ none c.of-left.ensures in
+    rw (p.1, p.2, e) (large_left c.args.w t c.in_ok-read_rights.ensures.exact.1 (omega (arith, l, length-take-le c.in_ok-n.n c.read_term.new.run t.room)))
 
-pub slice_bounds-copy-end-3 : goal.slice_bounds-copy-end-3
-slice_bounds-copy-end-3 c =
-    let t : TermRead (slice c.args.w.left.from c.args.w.left.to c.args.s.now) c.read_term.new.run c.in-At.m = c.in-At.ensures in
-    sym (length-take-le _ _ t.room)
-
-pub read_rights-requires : goal.read_rights-requires
-read_rights-requires c =
-    let p = c.requires in
-    (p.2, p.3, p.4, omega arith, inside p.1 p.3)
-
-pub returns-then-m-gt31 : goal.returns-then-m-gt31
-returns-then-m-gt31 c = large_left c.requires.1 c.in-At.ensures c.read_rights.ensures c.in-Small.is c.if-m-gt31.true
-
-pub accept_sides-requires : goal.accept_sides-requires
-accept_sides-requires c =
-    let p = c.requires in
-    (p.1.some_rights, p.2, omega (arith, c.read_rights.ensures.kept, p.4), p.5)
-
-pub returns-in-NoTerm : goal.returns-in-NoTerm
-returns-in-NoTerm c = foul_right c.requires.1 c.in-At.ensures c.read_rights.ensures c.in-NoTerm.is
-
-pub returns-in-Large : goal.returns-in-Large
-returns-in-Large c = large_right c.requires.1 c.in-At.ensures c.read_rights.ensures c.in-Large.is
-
-pub returns-else-m-gt31 : goal.returns-else-m-gt31
-returns-else-m-gt31 c =
-    sides_read c.requires.1 c.in-At.ensures c.read_rights.ensures c.in-Small.is c.if-m-gt31.false (replicate 31 0) (omega arith) c.copy.ensures
-    c.front.ensures c.accept_sides.ensures
+pub returns : goal.returns
+returns c =
+    let some : c.read_term.result ≡ Some c.in_ok-n.n = grind arith in
+    let t : TermRead c.args.w.left.now c.read_term.new.run c.in_ok-n.n = MatchOption-at_some _ _ _ some c.read_term.ensures in
+    let kept : c.of-left.result ≡ Some c.in_ok-ok_or.field-0 = grind arith in
+    let k = MatchOption-at_some _ _ _ kept c.of-left.ensures in
+    let read = c.in_ok-read_rights.ensures.exact in
+    sides_read c.args.w t read.1 read.2 k.0 (rw k.0 k.1) c.accept_sides.ensures

@@ -1,34 +1,21 @@
 -- `limit_line` meets its contract: the number of the keyed line, or one above the largest.
-use native.Mathlib.Omega.{arith}
-use Rattle.text.specs.declared.job.Number.TheVariants.{Is, TooLarge, Malformed}
-use Rattle.text.specs.Reading.{Valued}
+use Rattle.std.proofs.Common.{Ok, Err, ap, ◌∙◌}
+use Rattle.text.specs.declared.job.NumberError.TheVariants.{TooLarge, Malformed}
 use Rattle.text.proofs.Layouts.{no_limit, limit_told}
 use Rattle.text.proofs.job.lines.limit_line.Goals as goal
 
-pub returns-in_default : goal.returns-in_default
-returns-in_default c = let a = c.args in no_limit a.s.now a.from a.key.now c.in_default.ensures
+pub returns-in_err-value : goal.returns-in_err-value
+returns-in_err-value c = rw c.from_residual.ensures (no_limit c.args.s.now c.args.key.now c.in_err-value.ensures)
 
-pub overflow_add-next : goal.overflow_add-next
-overflow_add-next c =
-    let v : Valued c.args.s.now c.args.from c.args.key.now c.in-Between.start c.in-Between.end = c.in-Between.ensures in
-    omega arith
+pub returns-in-Ok : goal.returns-in-Ok
+returns-in-Ok c = limit_told c.args.s.now c.args.key.now _ _ c.in_ok-value.ensures _ (Ok _) c.number.ensures c.in-Ok.is
 
-pub number_in-requires : goal.number_in-requires
-number_in-requires c =
-    let v : Valued c.args.s.now c.args.from c.args.key.now c.in-Between.start c.in-Between.end = c.in-Between.ensures in
-    (v.starts, omega arith, omega arith)
+pub returns-in-Err-TooLarge : goal.returns-in-Err-TooLarge
+returns-in-Err-TooLarge c =
+    limit_told c.args.s.now c.args.key.now _ _ c.in_ok-value.ensures _ (Err TooLarge) c.number.ensures
+    (c.in-Err-TooLarge.is ∙ ap Err c.in-Err-TooLarge.field-0-is)
 
-pub returns-in-Is : goal.returns-in-Is
-returns-in-Is c =
-    let a = c.args in
-    limit_told a.s.now a.from a.key.now _ _ c.in-Between.ensures _ (Is _) c.number_in.ensures c.in-Is.is
-
-pub returns-in-TooLarge : goal.returns-in-TooLarge
-returns-in-TooLarge c =
-    let a = c.args in
-    limit_told a.s.now a.from a.key.now _ _ c.in-Between.ensures _ TooLarge c.number_in.ensures c.in-TooLarge.is
-
-pub returns-in-Malformed : goal.returns-in-Malformed
-returns-in-Malformed c =
-    let a = c.args in
-    limit_told a.s.now a.from a.key.now _ _ c.in-Between.ensures _ Malformed c.number_in.ensures c.in-Malformed.is
+pub returns-in-Err-Malformed : goal.returns-in-Err-Malformed
+returns-in-Err-Malformed c =
+    limit_told c.args.s.now c.args.key.now _ _ c.in_ok-value.ensures _ (Err Malformed) c.number.ensures
+    (c.in-Err-Malformed.is ∙ ap Err c.in-Err-Malformed.field-0-is)

@@ -1,51 +1,35 @@
 -- `limit_lines` meets its contract: four lines, and nothing behind them.
+use Rattle.std.proofs.Common.{length, sym, ◌∙◌}
+use Rattle.std.proofs.lemmas.Bool.Decides.{Decides-eqb}
 use Rattle.text.specs.Bytes.{ascii}
-use Rattle.text.specs.LayoutRead.{LimitAt}
 use Rattle.text.proofs.Layouts.{no_steps, no_size, no_depth, no_nodes, more_lines, limits_end}
 use Rattle.text.proofs.job.lines.limit_lines.Goals as goal
 
-pub returns-in_default : goal.returns-in_default
+pub returns-in_err-steps : goal.returns-in_err-steps
 unfolding ascii
-returns-in_default c = no_steps c.args.s.now c.args.from c.in_default.ensures
+returns-in_err-steps c = rw c.from_residual.ensures (no_steps c.args.s.now c.in_err-steps.ensures)
 
-pub limit_line-requires-2 : goal.limit_line-requires-2
+pub returns-in_err-size : goal.returns-in_err-size
 unfolding ascii
-limit_line-requires-2 c =
-    let l : LimitAt c.args.s.now c.args.from (ascii "steps=") c.in-Is.steps c.in-Is.second = c.in-Is.ensures in
-    l.ends
+returns-in_err-size c = rw c.from_residual-in_err-size.ensures (no_size c.args.s.now c.in_ok-steps.ensures c.in_err-size.ensures)
 
-pub returns-in_default-limit_line : goal.returns-in_default-limit_line
+pub returns-in_err-depth : goal.returns-in_err-depth
 unfolding ascii
-returns-in_default-limit_line c = no_size c.args.s.now c.args.from c.in-Is.ensures c.in_default-limit_line.ensures
+returns-in_err-depth c =
+    rw c.from_residual-in_err-depth.ensures (no_depth c.args.s.now c.in_ok-steps.ensures c.in_ok-size.ensures c.in_err-depth.ensures)
 
-pub limit_line-requires-3 : goal.limit_line-requires-3
+pub returns-in_err-nodes : goal.returns-in_err-nodes
 unfolding ascii
-limit_line-requires-3 c =
-    let l : LimitAt c.args.s.now c.in-Is.second (ascii "size=") c.in-Is-limit_line.size c.in-Is-limit_line.third = c.in-Is-limit_line.ensures in
-    l.ends
+returns-in_err-nodes c =
+    rw c.from_residual-in_err-nodes.ensures
+    (no_nodes c.args.s.now c.in_ok-steps.ensures c.in_ok-size.ensures c.in_ok-depth.ensures c.in_err-nodes.ensures)
 
-pub returns-in_default-limit_line-2 : goal.returns-in_default-limit_line-2
+pub returns-then-not-is_empty : goal.returns-then-not-is_empty
 unfolding ascii
-returns-in_default-limit_line-2 c =
-    no_depth c.args.s.now c.args.from c.in-Is.ensures c.in-Is-limit_line.ensures c.in_default-limit_line-2.ensures
-
-pub limit_line-requires-4 : goal.limit_line-requires-4
-unfolding ascii
-limit_line-requires-4 c =
-    let l : LimitAt c.args.s.now c.in-Is-limit_line.third (ascii "depth=") c.in-Is-limit_line-2.depth c.in-Is-limit_line-2.fourth = c.in-Is-limit_line-2.ensures in
-    l.ends
-
-pub returns-in_default-limit_line-3 : goal.returns-in_default-limit_line-3
-unfolding ascii
-returns-in_default-limit_line-3 c =
-    no_nodes c.args.s.now c.args.from c.in-Is.ensures c.in-Is-limit_line.ensures c.in-Is-limit_line-2.ensures c.in_default-limit_line-3.ensures
-
-pub returns-then-end-s : goal.returns-then-end-s
-unfolding ascii
-returns-then-end-s c =
-    more_lines c.args.s.now c.args.from c.in-Is.ensures c.in-Is-limit_line.ensures c.in-Is-limit_line-2.ensures c.in-Is-limit_line-3.ensures c.if-end-s.true
+returns-then-not-is_empty c =
+    more_lines c.args.s.now c.in_ok-steps.ensures c.in_ok-size.ensures c.in_ok-depth.ensures c.in_ok-nodes.ensures (λ e. let t = (Decides-eqb (length c.in_ok-nodes.s.now) 0).1 e in cc)
 
 pub returns : goal.returns
 unfolding ascii
 returns c =
-    limits_end c.args.s.now c.args.from c.in-Is.ensures c.in-Is-limit_line.ensures c.in-Is-limit_line-2.ensures c.in-Is-limit_line-3.ensures c.if-end-s.false
+    limits_end c.args.s.now c.in_ok-steps.ensures c.in_ok-size.ensures c.in_ok-depth.ensures c.in_ok-nodes.ensures ((Decides-eqb (length c.in_ok-nodes.s.now) 0).0 (sym c.is_empty.ensures ∙ c.if-not-is_empty.false))

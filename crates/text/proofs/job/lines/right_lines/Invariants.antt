@@ -1,11 +1,10 @@
--- `right_lines` meets its contract: each line read is one value more, up to a line without the key.
-use Prim.Native.Nat.{◌-◌}
-use lib.ListN.{length}
+-- `right_lines` meets its contract: each line counted is one value more, up to a line without the key.
+use Rattle.std.proofs.Common.{length}
 use Rattle.text.proofs.RightLines.{Midway}
 use Rattle.text.proofs.job.lines.right_lines.Given as goal
 
-abbrev pub invariant-loop-start : goal.invariant-loop-start
-invariant-loop-start l = Midway l.s l.from l.initial.places l.places l.count l.at
+abbrev pub invariant-loop-more : goal.invariant-loop-more
+invariant-loop-more l = Midway l.s l.count l.rest
 
-abbrev pub decreases-loop-start : goal.decreases-loop-start
-decreases-loop-start l = length l.s - l.at
+abbrev pub decreases-loop-more : goal.decreases-loop-more
+decreases-loop-more l = length l.rest

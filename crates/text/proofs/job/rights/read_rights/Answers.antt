@@ -1,67 +1,61 @@
-use Prim.Native.Nat.{◌+◌, ◌*◌}
-use native.Mathlib.Omega.{arith}
-use mathlib.Core.Path.{refl, sym, ◌∙◌}
-use lib.Seq.{slice, length-take-le}
-use Rattle.text.specs.LayoutRead.{starts_at, ends_at}
+use Rattle.std.proofs.Common.{◌≡◌, arith, Some, None}
+use Rattle.std.proofs.lemmas.Option.{MatchOption-at_some, MatchOption-at_none}
+use Rattle.std.proofs.lemmas.Result.{err_from_is_err_and}
+use Rattle.std.proofs.lemmas.List.{length-take-le}
+use Rattle.text.specs.declared.refusal.Refusal.TheVariants.{NoTerm}
+use Rattle.text.specs.Bytes.{ascii}
+use Rattle.text.specs.Reading.{Valued}
 use Rattle.text.specs.SideRead.{TermRead}
-use Rattle.text.proofs.Rights.{none_read, all_read, foul_side, large_side, small_side}
+use Rattle.text.proofs.Rights.{none_read, all_read, there_is, foul_side, large_side, small_side, some_of}
+use Rattle.text.proofs.job.rights.read_rights.Goals.{then-n-le-LARGEST, else-n-le-LARGEST}
 use Rattle.text.proofs.job.rights.read_rights.Goals as goal
-use Rattle.text.proofs.job.rights.read_rights.Goals.{then-m-gt31, else-m-gt31}
 
 pub loop-r-init : goal.loop-r-init
-loop-r-init c = (omega arith, refl, refl, none_read _ _ _ _)
+loop-r-init c = none_read c.args.w.lines.now c.args.rights.now c.args.w.rights c.args.w.counted
 
-pub overflow_cast-from : goal.overflow_cast-from
-overflow_cast-from c = omega (arith, c.type_inv.places (2 * c.loop-r.r))
-
-pub overflow_cast-to : goal.overflow_cast-to
-overflow_cast-to c = omega (arith, c.type_inv.places (2 * c.loop-r.r + 1))
+pub unwrap-requires : goal.unwrap-requires
+unfolding ascii
+unwrap-requires c = some_of _ _ c.keyed.result (there_is c.loop-r.invariant c.loop-r-test.true) c.keyed.ensures
 
 pub read_term-requires : goal.read_term-requires
 read_term-requires c =
-    let p = c.requires in
-    let inside = p.4 c.loop-r.r c.loop-r-test.true in
-    (inside.0, omega (arith, inside.1), omega (arith, inside.1))
+    let v : Valued c.loop-r.rest.now _ c.unwrap.result.0.now c.unwrap.result.1.now = MatchOption-at_some _ _ _ c.unwrap.ensures c.keyed.ensures in
+    omega (arith, v.shorter, c.loop-r.invariant.short)
 
-pub returns-in_default : goal.returns-in_default
-returns-in_default c =
-    let p = c.requires in
-    foul_side c.loop-r-test.true p.1 c.in_default.ensures c.loop-r.invariant.2
+pub returns-in_err-n : goal.returns-in_err-n
+unfolding ascii
+returns-in_err-n c =
+    let p = err_from_is_err_and c.from_residual.result c.from_residual.ensures.1 in
+    let none : c.read_term.result ≡ None = grind arith in
+    let e : c.in_err-n.field-0.0 ≡ NoTerm = grind arith in
+    let v : Valued c.loop-r.rest.now (ascii "right=") c.unwrap.result.0.now c.unwrap.result.1.now = MatchOption-at_some _ _ _ c.unwrap.ensures c.keyed.ensures in
+    rw (p.1, p.2, e) (record {
+      kept = c.loop-r.auto.rights;
+      exact = foul_side c.loop-r.invariant c.loop-r-test.true v (MatchOption-at_none _ _ none c.read_term.ensures);
+    })
 
 pub slice_bounds-hold_slot-end : goal.slice_bounds-hold_slot-end
 slice_bounds-hold_slot-end c =
-    let t : TermRead (slice (starts_at c.args.places.now c.loop-r.r) (ends_at c.args.places.now c.loop-r.r) c.args.s.now) c.read_term.new.run c.in-At.m = c.in-At.ensures in
+    let some : c.read_term.result ≡ Some c.in_ok-n.n = grind arith in
+    let t : TermRead c.unwrap.result.0.now c.read_term.new.run c.in_ok-n.n = MatchOption-at_some _ _ _ some c.read_term.ensures in
     t.room
-
-pub slice_bounds-hold_slot-end-else-m-gt31 : goal.slice_bounds-hold_slot-end-else-m-gt31
-slice_bounds-hold_slot-end-else-m-gt31 c =
-    let t : TermRead (slice (starts_at c.args.places.now c.loop-r.r) (ends_at c.args.places.now c.loop-r.r) c.args.s.now) c.read_term.new.run c.in-At.m = c.in-At.ensures in
-    sym (length-take-le _ _ t.room)
 
 pub hold_slot-requires : goal.hold_slot-requires
 hold_slot-requires c =
-    let run = c.read_term.new.run in
-    let t : TermRead (slice (starts_at c.args.places.now c.loop-r.r) (ends_at c.args.places.now c.loop-r.r) c.args.s.now) c.read_term.new.run c.in-At.m = c.in-At.ensures in
-    (omega (arith, c.loop-r.invariant.2), omega (arith, length-take-le c.in-At.m run t.room))
+    let some : c.read_term.result ≡ Some c.in_ok-n.n = grind arith in
+    let t : TermRead c.unwrap.result.0.now c.read_term.new.run c.in_ok-n.n = MatchOption-at_some _ _ _ some c.read_term.ensures in
+    (omega arith, omega (arith, length-take-le c.in_ok-n.n c.read_term.new.run t.room))
 
 pub loop-r-preserved : goal.loop-r-preserved
+unfolding ascii
 loop-r-preserved c =
-    let p = c.requires in
-    let i = c.loop-r.invariant in
-    elim c.if-m-gt31.branch [
-      | then-m-gt31 w ↦ (
-        omega arith,
-        c.read_term.auto.run ∙ i.1,
-        c.if-m-gt31.auto.rights ∙ i.2,
-        rw (w.rights-is, w.read-is) (large_side c.loop-r-test.true p.1 c.in-At.ensures i.3 w.if-m-gt31.true),
-      )
-      | else-m-gt31 w ↦ (
-        omega arith,
-        c.read_term.auto.run ∙ i.1,
-        c.if-m-gt31.auto.rights ∙ i.2,
-        rw (w.rights-is, w.read-is) (small_side c.loop-r-test.true p.1 c.in-At.ensures i.3 w.if-m-gt31.false w.hold_slot.ensures),
-      )
+    let some : c.read_term.result ≡ Some c.in_ok-n.n = grind arith in
+    let v : Valued c.loop-r.rest.now (ascii "right=") c.unwrap.result.0.now c.unwrap.result.1.now = MatchOption-at_some _ _ _ c.unwrap.ensures c.keyed.ensures in
+    let t : TermRead c.unwrap.result.0.now c.read_term.new.run c.in_ok-n.n = MatchOption-at_some _ _ _ some c.read_term.ensures in
+    elim c.if-n-le-LARGEST.branch [
+      | then-n-le-LARGEST w ↦ rw (w.rights-is, w.read-is) (small_side c.loop-r.invariant c.loop-r-test.true v t w.if-n-le-LARGEST.true w.hold_slot.ensures)
+      | else-n-le-LARGEST w ↦ rw (w.rights-is, w.read-is) (large_side c.loop-r.invariant c.loop-r-test.true v t w.if-n-le-LARGEST.false)
     ]
 
 pub returns : goal.returns
-returns c = all_read c.loop-r.invariant.3 c.loop-r-test.false c.loop-r.invariant.2
+returns c = record { kept = c.loop-r.auto.rights; exact = all_read c.loop-r.invariant c.loop-r-test.false }

@@ -1,25 +1,21 @@
-use mathlib.Core.Path.{◌≡◌, refl, ap, ◌∙◌}
-use native.Mathlib.Omega.{arith}
+-- `close_lambdas` meets its contract.
 use native.Mathlib.Numerals.{add-one}
+use mathlib.Core.Path.{◌≡◌, ap}
+use native.Mathlib.Omega.{arith}
 use Rattle.text.specs.Bytes.{ascii}
 use Rattle.text.specs.Framed.{closes}
-use Rattle.text.proofs.Overlay.{then, put_as, put_none}
-use borrow.Author.Rules.{rules}
+use Rattle.text.proofs.Writing.{then, put_as, put_none}
 use Rattle.text.proofs.kernel_bridge.lambdas.close_lambdas.Goals as goal
 
-pub loop-i-init : goal.loop-i-init
+pub loop-init : goal.loop-init
 unfolding closes
-loop-i-init c = (search rules, refl, put_none c.args.out.now c.args.at (omega arith) (omega arith))
+loop-init c = put_none c.args.w.now
 
-pub loop-i-preserved : goal.loop-i-preserved
+pub loop-preserved : goal.loop-preserved
 unfolding closes ascii
-loop-i-preserved c = (
-  omega (arith, c.loop-i.invariant.0),
-  c.put_byte-p.auto.out ∙ c.loop-i.invariant.1,
-  rw add-one (then c.loop-i.invariant.2 c.put_byte-p.ensures),
-)
+loop-preserved c = rw add-one (then c.loop.invariant c.put_byte.ensures)
 
 pub returns : goal.returns
 returns c =
-    let e : c.loop-i.i ≡ c.args.n = omega (arith, c.loop-i-test.false) in
-    put_as (ap closes e) c.loop-i.invariant.2
+    let e : c.loop.counter ≡ c.args.n = omega (arith, c.loop-test.false, c.loop.auto.counter-end) in
+    put_as (ap closes e) c.loop.invariant

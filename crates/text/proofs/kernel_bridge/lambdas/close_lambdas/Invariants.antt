@@ -1,13 +1,7 @@
--- `close_lambdas` meets its contract. The invariant: the ends of i binders are put.
-use Prim.Native.Nat.{◌≤◌, ◌-◌}
-use mathlib.Core.Path.{◌≡◌}
-use lib.ListN.{length}
-use Rattle.text.specs.Put.{Put}
+-- `close_lambdas` meets its contract. The invariant: the ends of the binders so far are put.
 use Rattle.text.specs.Framed.{closes}
+use Rattle.text.specs.Writer.{Writes}
 use Rattle.text.proofs.kernel_bridge.lambdas.close_lambdas.Given as goal
 
-abbrev pub invariant-loop-i : goal.invariant-loop-i
-invariant-loop-i l = (l.i ≤ l.n) × (length l.out ≡ length l.initial.out) × Put (closes l.i) l.initial.out l.at l.p l.out
-
-abbrev pub decreases-loop-i : goal.decreases-loop-i
-decreases-loop-i l = l.n - l.i
+abbrev pub invariant-loop : goal.invariant-loop
+invariant-loop l = Writes (closes l.counter) l.initial.w l.w

@@ -1,13 +1,10 @@
--- `part_of` meets its contract: the left part ends where `end_of` says.
-use Rattle.text.proofs.Framing.{encloses_none, encloses_left, encloses_right}
-use borrow.Author.Rules.{rules}
+-- `part_of` meets its contract.
+use mathlib.Core.Path.{◌≡◌}
+use Rattle.text.proofs.Framing.{part_found, part_missing}
 use Rattle.text.proofs.kernel_bridge.path.part_of.Goals as goal
 
-pub returns-then-place-from : goal.returns-then-place-from
-returns-then-place-from c = search (encloses_none, rules)
+pub returns-in-Some : goal.returns-in-Some
+returns-in-Some c = λ t h. rw c.tail.ensures (part_found c.part.ensures t h c.in-Some.at c.in-Some.is)
 
-pub returns-then-place-middle : goal.returns-then-place-middle
-returns-then-place-middle c = search (encloses_left, rules)
-
-pub returns : goal.returns
-returns c = search (encloses_right, rules)
+pub returns-in-None : goal.returns-in-None
+returns-in-None c = λ t h. part_missing c.part.ensures t h c.in-None.is

@@ -6,8 +6,7 @@ use Rattle.text.proofs.kernel_bridge.path.render_slot.Goals as goal
 pub returns-in_default : goal.returns-in_default
 returns-in_default c = λ ns j x S L. absurd (no_start c.origin_of.ensures L c.in_default.is)
 
-pub returns : goal.returns
-returns c =
+pub returns-in-From : goal.returns-in-From
+returns-in-From c =
     λ ns j x S L.
-    step_put S L c.args.names.now c.in-From.step c.origin_of.ensures c.in-From.is c.run_of-s.ensures
-    c.run_of-t.ensures c.render_step.ensures
+    step_put S L c.args.names.now c.in-From.step c.origin_of.ensures c.in-From.is c.run_of.ensures c.run_of-in-From.ensures c.render_step.ensures

@@ -1,0 +1,6 @@
+-- `store_three` meets its contract.
+use Rattle.text.proofs.Overlay.{overlay_three}
+use Rattle.text.proofs.writer.store_three.Goals as goal
+
+pub returns-then-out-at-ge3 : goal.returns-then-out-at-ge3
+returns-then-out-at-ge3 c = let a = c.args in overlay_three a.out.now a.at a.a a.b a.c
