@@ -1,18 +1,14 @@
 -- The entry, by the verdict: a refusal's number, or `answer=good` where there is room.
-use Prim.Native.Nat.{ℕ, ◌+◌, ◌≤◌, ◌<◌}
-use native.Mathlib.Omega.{arith}
-use native.Mathlib.Nat.{zero-add}
-use mathlib.Core.Path.{◌≡◌, refl, ap, ◌∙◌}
-use mathlib.Core.List.{List, ◌++◌}
-use lib.ListN.{length, drop}
+use Rattle.std.proofs.Common.{◌≡◌, ℕ, ◌+◌, ◌<◌, ◌≤◌, List, ◌++◌, length, drop, refl, ap, ◌∙◌, zero-add, arith, Ok, Err}
 use borrow.Author.Tests.{le-leb, lt-leb}
 use Rattle.text.specs.Answer.{accepted, refused, ◌>>=◌, require, fitting, field}
 use Rattle.text.specs.Bytes.{ascii}
 use Rattle.text.specs.Entry.{Call}
 use Rattle.text.specs.Put.{Put}
+use Rattle.text.specs.Refusal.{number_of}
+use Rattle.text.specs.declared.refusal.Refusal.{Refusal}
 use Rattle.text.proofs.Measured.{refuses}
 use Rattle.text.proofs.Overlay.{overlay_fits}
-use Rattle.checking.specs.declared.judge.Verdict.TheVariants.{Refused, Good}
 use Rattle.checking.specs.Check.{good, check}
 use Rattle.checking.specs.Judged.{Judges}
 
@@ -32,10 +28,10 @@ good_call : (out out' : List ℕ) → out' ≡ good ++ drop (length good) out �
 good_call out out' e = record { number = ap (λ n. 100 + n) (let f : 12 ≡ length good = omega (arith, good_length) in f); output = e }
 
 module _ (text out : List ℕ) where
-  pub check_refused : (n : ℕ) → Judges text (Refused n) → Call (check text (length out)) out n out
-  check_refused n h = rw (h (length out)) (refuses n out)
+  pub check_refused : (e : Refusal) → Judges text (Err e) → Call (check text (length out)) out (number_of e) out
+  check_refused e h = rw (h (length out)) (refuses (number_of e) out)
 
-  module _ (h : Judges text Good) where
+  module _ {u : Unit {0}} (h : Judges text (Ok u)) where
     pub check_no_room : length out < 12 → Call (check text (length out)) out 8 out
     check_no_room k = rw (h (length out) ∙ no_room (length out) k) (refuses 8 out)
 

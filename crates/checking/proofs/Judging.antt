@@ -1,18 +1,13 @@
 -- A derivation judged: refusal by refusal, by what was read.
-use Prim.Native.Nat.{ℕ, ◌≤◌, ◌<◌}
-use native.Mathlib.Omega.{arith}
-use mathlib.Core.Path.{◌≡◌, refl, sym, ap, subst, ◌∙◌}
-use mathlib.Core.Bool.{Bool, true, false, not, ◌&&◌, and-false}
-use mathlib.Core.Option.{Option, none, some, bind}
-use mathlib.Core.List.{List, [], ◌∷◌, map, flat_map}
-use lib.Dec.{leb}
-use lib.ListN.{length, take}
-use lib.Seq.{slice, sets, length-take-le}
-use borrow.Author.Tests.{le-leb, lt-leb, not-true, not-false}
+use Rattle.std.proofs.Common.{◌≡◌, ◌⊎◌, inl, inr, ℕ, ◌<◌, ◌≤◌, Bool, true, false, ◌&&◌, leb, List, ◌∷◌, length, refl, sym, ap, subst, ◌∙◌, arith, Result, Ok, Err}
+use mathlib.Core.Bool.{and-false}
+use mathlib.Core.List.{flat_map}
+use borrow.Author.Tests.{le-leb, lt-leb}
+use Rattle.std.proofs.Math.Option.{none, some}
 use Rattle.terms.specs.Term.{Term, size}
 use Rattle.terms.specs.Held.{IsRun}
 use Rattle.terms.specs.Letters.{letters}
-use Rattle.words.proofs.Parts.{front_stored}
+use Rattle.terms.specs.Theory.Held.{size_of}
 use Rattle.search.specs.Law.{semiring}
 use Rattle.search.specs.Line.{Line}
 use Rattle.search.specs.Chain.{any_line, leads, is_chain}
@@ -20,31 +15,28 @@ use Rattle.text.specs.Answer.{Answer, refused, accepted, ◌>>=◌, require, or_
 use Rattle.text.specs.TermText.{read_term}
 use Rattle.text.specs.Job.{few}
 use Rattle.text.specs.FindJob.{every, all_small}
-use Rattle.text.specs.SideRead.{TermRead}
-use Rattle.text.proofs.Rights.{term_sized}
+use Rattle.text.specs.declared.refusal.Refusal.{Refusal}
+use Rattle.text.specs.declared.refusal.Refusal.TheVariants as refusal
 use Rattle.checking.specs.declared.lines.Written.{Written}
-use Rattle.checking.specs.declared.lines.Question.TheVariants as question
-use Rattle.checking.specs.declared.judge.Verdict.{Verdict}
-use Rattle.checking.specs.declared.judge.Verdict.TheVariants.{Refused, Good}
-use Rattle.checking.specs.Layout.{StepLayout, CheckLayout, check_layout, line_of, read_result, read_results}
+use Rattle.checking.specs.Layout.{StepLayout, CheckLayout, check_layout, read_results}
 use Rattle.checking.specs.Check.{Derivation, terms_of, accept_terms, derivation_in, read_check, good, judge, check_with, check}
-use Rattle.checking.specs.LinesRead.{LaidOut, asked, all_asked, AllPass, FewLetters}
+use Rattle.checking.specs.LinesRead.{ReadsTerm, LaidOut, results, ReadsResults, FewLetters}
 use Rattle.checking.specs.Judged.{LinesAt, Small, Leads, Gives, judge_letters, JudgesTerms, JudgesLines, Judges}
 use Rattle.checking.proofs.Leading.{none_there, some_there}
 
-gives_same : (f g : ℕ → Answer (List ℕ)) → ((room : ℕ) → g room ≡ f room) → (r : Verdict) → Gives f r → Gives g r
-gives_same f g e (Refused n) h = λ room. e room ∙ h room
-gives_same f g e Good h = λ room. e room ∙ h room
+gives_same : (f g : ℕ → Answer (List ℕ)) → ((room : ℕ) → g room ≡ f room) → (r : Result (Unit {0}) Refusal) → Gives f r → Gives g r
+gives_same f g e (Err n) h = λ room. e room ∙ h room
+gives_same f g e (Ok u) h = λ room. e room ∙ h room
 
 -- the whole text
 
 module _ (s : List ℕ) where
-  pub judge_long : 8192 < length s → Judges s (Refused 1)
+  pub judge_long : 8192 < length s → Judges s (Err refusal.Malformed)
   unfolding check check_with read_check ◌>>=◌ require
   judge_long h room = rw (lt-leb (length s) 8192 h)
 
   module _ (short : length s ≤ 8192) where
-    pub judge_malformed : check_layout semiring s ≡ none → Judges s (Refused 1)
+    pub judge_malformed : check_layout semiring s ≡ none → Judges s (Err refusal.Malformed)
     unfolding check check_with read_check ◌>>=◌ require or_refuse
     judge_malformed h room = rw (le-leb (length s) 8192 short) (rw h)
 
@@ -52,27 +44,10 @@ module _ (s : List ℕ) where
     unfolding check check_with read_check ◌>>=◌ require or_refuse
     laid_out c e room = rw (le-leb (length s) 8192 short) (rw e)
 
-    pub judge_laid : {w : Written} → LaidOut s w → (r : Verdict) → JudgesLines s r → Judges s r
+    pub judge_laid : {w : Written} → LaidOut s w → (r : Result (Unit {0}) Refusal) → JudgesLines w.left.now w.right.now w.steps.now r → Judges s r
     judge_laid {w} o r j =
-        let c : CheckLayout = record { left = slice w.left.from w.left.to s; right = slice w.right.from w.right.to s; steps = o.steps } in
-        gives_same (λ room. ◌>>=◌ (derivation_in c) (judge semiring room)) (check s) (laid_out c o.lines) r (j.exact c o.lines)
-
--- the results of the step lines
-
--- whether they are terms, and then whether they are small
-abbrev Results : List StepLayout → Bool → Type 0
-Results xs true = (ys : List Line) × (read_results xs ≡ some ys) × (all_asked question.Small xs ≡ all_small (map (λ x. x.result) ys))
-Results xs false = read_results xs ≡ none
-
-results : (xs : List StepLayout) → Results xs (all_asked question.Term xs)
-unfolding read_results read_result bind every
-results [] = ([], refl, refl)
-results (x ∷ xs) = go (read_term x.result) refl (all_asked question.Term xs) (results xs)
-  where
-    go : (o : Option Term) → read_term x.result ≡ o → (b : Bool) → Results xs b → Results (x ∷ xs) (asked question.Term o && b)
-    go none e b h = rw e
-    go (some t) e false h = rw e (rw h)
-    go (some t) e true (ys, f, g) = (line_of x t ∷ ys, rw e (rw f), rw (e, g))
+        let c : CheckLayout = record { left = w.left.now; right = w.right.now; steps = o.steps } in
+        gives_same (λ room. ◌>>=◌ (derivation_in c) (judge semiring room)) (check s) (laid_out c o.lines) r (j.exact o.steps o.from_there)
 
 -- terms that were read
 
@@ -97,107 +72,107 @@ module _ (d : Derivation) where
   unfolding every
   second_large h = rw (lt-leb (size d.right) 31 h) (and-false (leb (size d.left) 31))
 
-  module _ (l : size d.left ≤ 31) (r : size d.right ≤ 31) where
-    results_small : all_small (terms_of d) ≡ all_small (map (λ x. x.result) d.path)
-    unfolding every
-    results_small = rw (le-leb (size d.left) 31 l, le-leb (size d.right) 31 r)
+  others_large : all_small (results d.path) ≡ false → all_small (terms_of d) ≡ false
+  unfolding every
+  others_large h = rw h (ap (λ b. leb (size d.left) 31 && b) (and-false (leb (size d.right) 31)) ∙ and-false (leb (size d.left) 31))
+
+  all_are_small : size d.left ≤ 31 → size d.right ≤ 31 → Small d.path → all_small (terms_of d) ≡ true
+  unfolding every
+  all_are_small l r h = rw (le-leb (size d.left) 31 l, le-leb (size d.right) 31 r, h)
 
 -- a text that is well formed
 
-abbrev layout_in : {s : List ℕ} {w : Written} → LaidOut s w → CheckLayout
-layout_in {s} {w} o = record { left = slice w.left.from w.left.to s; right = slice w.right.from w.right.to s; steps = o.steps }
+-- what is answered of the lines
+abbrev answer_of : (left right : List ℕ) → List StepLayout → ℕ → Answer (List ℕ)
+answer_of left right xs room = ◌>>=◌ (derivation_in (record { left = left; right = right; steps = xs })) (judge semiring room)
 
-module _ {s : List ℕ} {w : Written} (o : LaidOut s w) where
-  -- the text has these lines and no others
-  only : {r : Verdict} → Gives (λ room. ◌>>=◌ (derivation_in (layout_in o)) (judge semiring room)) r → JudgesLines s r
-  only {r} h =
+pub foul_left : (left right s : List ℕ) → read_term left ≡ none → JudgesLines left right s (Err refusal.NoTerm)
+unfolding derivation_in ◌>>=◌ or_refuse
+foul_left left right s h = record { exact = λ xs e room. rw h }
+
+pub foul_right : {left first : List ℕ} (right s : List ℕ) → ReadsTerm left first → read_term right ≡ none → JudgesLines left right s (Err refusal.NoTerm)
+unfolding derivation_in ◌>>=◌ or_refuse
+foul_right right s a h = record { exact = λ xs e room. rw a.read (rw h) }
+
+module _ {left right first second : List ℕ} (a : ReadsTerm left first) (b : ReadsTerm right second) where
+  none_read : (xs : List StepLayout) → read_results xs ≡ none → Gives (answer_of left right xs) (Err refusal.NoTerm)
+  unfolding derivation_in ◌>>=◌ or_refuse
+  none_read xs h room = rw a.read (rw b.read (rw h))
+
+  abbrev derived : List Line → Derivation
+  derived ys = record { left = a.term; right = b.term; path = ys }
+
+  module _ (xs : List StepLayout) (ys : List Line) (f : read_results xs ≡ some ys) where
+    all_read : derivation_in (record { left = left; right = right; steps = xs }) ≡ accept_terms (derived ys)
+    unfolding derivation_in ◌>>=◌ or_refuse
+    all_read = rw a.read (rw b.read (rw f))
+
+    large : all_small (terms_of (derived ys)) ≡ false → Gives (answer_of left right xs) (Err refusal.TooLarge)
+    large e room = ap (λ x. ◌>>=◌ x (judge semiring room)) all_read ∙ too_large (derived ys) e room
+
+    small : all_small (terms_of (derived ys)) ≡ true → (r : Result (Unit {0}) Refusal) → Gives (judge_letters (derived ys)) r → Gives (answer_of left right xs) r
+    small e r h =
+        gives_same (judge_letters (derived ys)) (answer_of left right xs)
+        (λ room. ap (λ x. ◌>>=◌ x (judge semiring room)) all_read ∙ small_enough (derived ys) e room) r h
+
+  results_foul : (xs : List StepLayout) (e : Refusal) → (e ≡ refusal.NoTerm → read_results xs ≡ none)
+      → (e ≡ refusal.TooLarge → (ys : List Line) × (read_results xs ≡ some ys) × (all_small (results ys) ≡ false))
+      → (e ≡ refusal.NoTerm) ⊎ (e ≡ refusal.TooLarge) → Gives (answer_of left right xs) (Err e)
+  results_foul xs e foul big (inl g) = subst (λ n. Gives (answer_of left right xs) (Err n)) (sym g) (none_read xs (foul g))
+  results_foul xs e foul big (inr g) =
+      let (ys, h, k) = big g in
+      subst (λ n. Gives (answer_of left right xs) (Err n)) (sym g) (large xs ys h (others_large (derived ys) k))
+
+  pub results_refused : {s : List ℕ} {e : Refusal} → ReadsResults s (Err e) → JudgesLines left right s (Err e)
+  results_refused {e = e} R =
       record {
-        exact = λ x e.
-            let same : layout_in o ≡ x = cc o.lines in
-            subst (λ x. Gives (λ room. ◌>>=◌ (derivation_in x) (judge semiring room)) r) same h;
+        exact = λ xs f.
+            let (foul, big, one) = R.exact xs f in
+            results_foul xs e foul big one;
       }
 
-  pub foul_left : read_term (slice w.left.from w.left.to s) ≡ none → JudgesLines s (Refused 2)
-  unfolding derivation_in ◌>>=◌ or_refuse
-  foul_left h = only (λ room. rw h)
+  module _ {s : List ℕ} {u : Unit {0}} (R : ReadsResults s (Ok u)) where
+    pub large_left : 31 < length first → JudgesLines left right s (Err refusal.TooLarge)
+    large_left h =
+        record {
+          exact = λ xs f.
+              let (ys, g, k) = R.exact xs f in
+              large xs ys g (first_large (derived ys) (omega (arith, size_of a.whole)));
+        }
 
-  module _ {run : List ℕ} {m : ℕ} (a : TermRead (slice w.left.from w.left.to s) run m) where
-    pub foul_right : read_term (slice w.right.from w.right.to s) ≡ none → JudgesLines s (Refused 2)
-    unfolding derivation_in ◌>>=◌ or_refuse
-    foul_right h = only (λ room. rw a.read (rw h))
+    pub large_right : 31 < length second → JudgesLines left right s (Err refusal.TooLarge)
+    large_right h =
+        record {
+          exact = λ xs f.
+              let (ys, g, k) = R.exact xs f in
+              large xs ys g (second_large (derived ys) (omega (arith, size_of b.whole)));
+        }
 
-    module _ {run₂ : List ℕ} {n : ℕ} (b : TermRead (slice w.right.from w.right.to s) run₂ n) {p : Bool} (P : AllPass question.Term s w.steps p) where
-      read_or_not : {q : Bool} → p ≡ q → Results o.steps q
-      read_or_not {q} e = subst (Results o.steps) (sym (P.exact o.steps o.from_there) ∙ e) (results o.steps)
-
-      pub foul_result : not p ≡ true → JudgesLines s (Refused 2)
-      unfolding derivation_in ◌>>=◌ or_refuse
-      foul_result h = let none_read : read_results o.steps ≡ none = read_or_not (not-true p h) in only (λ room. rw a.read (rw b.read (rw none_read)))
-
-      module _ (h : not p ≡ false) where
-        lines_read : (ys : List Line) × (read_results o.steps ≡ some ys) × (all_asked question.Small o.steps ≡ all_small (map (λ x. x.result) ys))
-        lines_read = read_or_not (not-false p h)
-
-        abbrev derived : Derivation
-        derived = record { left = a.term; right = b.term; path = lines_read.0 }
-
-        all_read : derivation_in (layout_in o) ≡ accept_terms derived
-        unfolding derivation_in ◌>>=◌ or_refuse
-        all_read = let e = lines_read.1 in rw a.read (rw b.read (rw e))
-
-        large : all_small (terms_of derived) ≡ false → JudgesLines s (Refused 3)
-        large e = only (λ room. ap (λ x. ◌>>=◌ x (judge semiring room)) all_read ∙ too_large derived e room)
-
-        pub large_left : 31 < m → JudgesLines s (Refused 3)
-        large_left k = large (first_large derived (omega (arith, term_sized a)))
-
-        pub large_right : 31 < n → JudgesLines s (Refused 3)
-        large_right k = large (second_large derived (omega (arith, term_sized b)))
-
-        module _ (km : m ≤ 31) (kn : n ≤ 31) {q : Bool} (Q : AllPass question.Small s w.steps q) where
-          tested : all_small (map (λ x. x.result) lines_read.0) ≡ q
-          tested = sym lines_read.2 ∙ sym (Q.exact o.steps o.from_there)
-
-          all_tested : all_small (terms_of derived) ≡ q
-          all_tested = results_small derived (omega (arith, term_sized a)) (omega (arith, term_sized b)) ∙ tested
-
-          pub large_result : not q ≡ true → JudgesLines s (Refused 3)
-          large_result e = large (all_tested ∙ not-true q e)
-
-          pub lines_judged : not q ≡ false → {xs ys : List ℕ} → xs ≡ take m run → ys ≡ take n run₂ → {r : Verdict} → JudgesTerms s w.steps xs ys r → JudgesLines s r
-          lines_judged e {xs} {ys} f g {r} J =
-              only
-              (gives_same (judge_letters derived) (λ room. ◌>>=◌ (derivation_in (layout_in o)) (judge semiring room))
-              (λ room. ap (λ x. ◌>>=◌ x (judge semiring room)) all_read ∙ small_enough derived (all_tested ∙ not-false q e) room)
-              r
-              (J.exact a.term b.term lines_read.0 (rw f a.whole) (rw g b.whole)
-              (record { layouts = o.steps; lines = o.from_there; results = lines_read.1 })
-              (tested ∙ not-false q e)))
-
--- the front of a buffer into which a run was copied
-pub copied : (m : ℕ) (run : List ℕ) → m ≤ length run → (buffer : List ℕ) → m ≤ length buffer → {kept xs : List ℕ} → kept ≡ sets buffer 0 (take m run)
-    → xs ≡ take m kept → xs ≡ take m run
-copied m run h buffer room stored front =
-    let l = length-take-le m run h in
-    front ∙ ap (take m) stored ∙ (rw l at (front_stored buffer (take m run) (omega (arith, l))))
+    pub lines_judged : length first ≤ 31 → length second ≤ 31 → {r : Result (Unit {0}) Refusal} → JudgesTerms first second s r → JudgesLines left right s r
+    lines_judged l m {r} j =
+        record {
+          exact = λ xs f.
+              let (ys, g, k) = R.exact xs f in
+              small xs ys g (all_are_small (derived ys) (omega (arith, size_of a.whole)) (omega (arith, size_of b.whole)) k) r
+              (j.exact a.term b.term ys a.whole b.whole (record { layouts = xs; lines = f; results = g }) k);
+        }
 
 -- terms and lines that are small
 
-module _ {s : List ℕ} {from : ℕ} {left right : List ℕ} {b : Bool} (F : FewLetters s from left right b) where
-  module _ (t u : Term) (ys : List Line) (ht : IsRun left t) (hu : IsRun right u) (L : LinesAt s from ys) where
-    counted : few (flat_map letters (t ∷ u ∷ map (λ x. x.result) ys)) ≡ b
+module _ {s left right : List ℕ} {b : Bool} (F : FewLetters left right s b) where
+  module _ (t u : Term) (ys : List Line) (ht : IsRun left t) (hu : IsRun right u) (L : LinesAt s ys) where
+    counted : few (flat_map letters (t ∷ u ∷ results ys)) ≡ b
     counted = sym (F.exact L.layouts ys t u L.lines L.results ht hu)
 
-  pub many_letters : not b ≡ true → JudgesTerms s from left right (Refused 4)
+  pub many_letters : b ≡ false → JudgesTerms left right s (Err refusal.TooManyLetters)
   unfolding ◌>>=◌ require
-  many_letters h =
-      record { exact = λ t u ys ht hu L small room. let e = counted t u ys ht hu L ∙ not-true b h in rw e }
+  many_letters h = record { exact = λ t u ys ht hu L small room. let e = counted t u ys ht hu L ∙ h in rw e }
 
-  module _ (h : not b ≡ false) where
-    few_pass : (t u : Term) (ys : List Line) → IsRun left t → IsRun right u → LinesAt s from ys → (room : ℕ)
+  module _ (h : b ≡ true) where
+    few_pass : (t u : Term) (ys : List Line) → IsRun left t → IsRun right u → LinesAt s ys → (room : ℕ)
         → judge_letters (record { left = t; right = u; path = ys }) room ≡ judge semiring room (record { left = t; right = u; path = ys })
     unfolding ◌>>=◌ require
-    few_pass t u ys ht hu L room = let e = counted t u ys ht hu L ∙ not-false b h in rw e
+    few_pass t u ys ht hu L room = let e = counted t u ys ht hu L ∙ h in rw e
 
     no_line : (d : Derivation) → any_line d.path ≡ false → (room : ℕ) → judge semiring room d ≡ refused 11
     unfolding judge ◌>>=◌ require
@@ -208,7 +183,7 @@ module _ {s : List ℕ} {from : ℕ} {left right : List ℕ} {b : Bool} (F : Few
     unfolding judge ◌>>=◌ require is_chain
     of_lines d e room = rw e
 
-    pub no_step : length s ≤ from → JudgesTerms s from left right (Refused 11)
+    pub no_step : length s ≡ 0 → JudgesTerms left right s (Err refusal.NoSteps)
     unfolding any_line
     no_step k =
         record {
@@ -216,20 +191,20 @@ module _ {s : List ℕ} {from : ℕ} {left right : List ℕ} {b : Bool} (F : Few
               few_pass t u ys ht hu L room ∙ no_line (record { left = t; right = u; path = ys }) (ap any_line (none_there L k)) room;
         }
 
-    module _ (k : from < length s) {p : Bool} (P : Leads s from left right p) where
-      led : (t u : Term) (ys : List Line) → IsRun left t → IsRun right u → LinesAt s from ys → Small ys → (room : ℕ)
+    module _ (k : 0 < length s) {p : Bool} (P : Leads left right s p) where
+      led : (t u : Term) (ys : List Line) → IsRun left t → IsRun right u → LinesAt s ys → Small ys → (room : ℕ)
           → judge_letters (record { left = t; right = u; path = ys }) room ≡ ◌>>=◌ (require 12 p) (λ _. fitting room good)
       led t u ys ht hu L small room =
           few_pass t u ys ht hu L room
           ∙ of_lines (record { left = t; right = u; path = ys }) (some_there L k) room
           ∙ ap (λ x. ◌>>=◌ (require 12 x) (λ _. fitting room good)) (sym (P.exact t u ys ht hu L small))
 
-      pub not_led : not p ≡ true → JudgesTerms s from left right (Refused 12)
+      pub not_led : p ≡ false → JudgesTerms left right s (Err refusal.WrongSteps)
       unfolding ◌>>=◌ require
       not_led e =
-          record { exact = λ t u ys ht hu L small room. led t u ys ht hu L small room ∙ ap (λ x. ◌>>=◌ (require 12 x) (λ _. fitting room good)) (not-true p e) }
+          record { exact = λ t u ys ht hu L small room. led t u ys ht hu L small room ∙ ap (λ x. ◌>>=◌ (require 12 x) (λ _. fitting room good)) e }
 
-      pub all_led : not p ≡ false → JudgesTerms s from left right Good
+      pub all_led : p ≡ true → {u : Unit {0}} → JudgesTerms left right s (Ok u)
       unfolding ◌>>=◌ require
       all_led e =
-          record { exact = λ t u ys ht hu L small room. led t u ys ht hu L small room ∙ ap (λ x. ◌>>=◌ (require 12 x) (λ _. fitting room good)) (not-false p e) }
+          record { exact = λ t u ys ht hu L small room. led t u ys ht hu L small room ∙ ap (λ x. ◌>>=◌ (require 12 x) (λ _. fitting room good)) e }

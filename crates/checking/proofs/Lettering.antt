@@ -1,29 +1,29 @@
 -- The letters of the results, gathered one line after the other.
-use Prim.Native.Nat.{ℕ, ◌≤◌, compare}
-use native.Mathlib.Omega.{arith}
-use mathlib.Core.Path.{◌≡◌, refl, sym, ap, ◌∙◌}
-use mathlib.Core.Bool.{Bool, true, false}
-use mathlib.Core.Option.{none, some, bind as ◌then◌, none-ne-some}
-use mathlib.Core.List.{List, [], ◌∷◌, ◌++◌, map, flat_map, foldl-append, append_assoc}
-use lib.ListN.{length, take, length-take}
-use lib.Seq.{slice}
+use Rattle.std.proofs.Common.{◌≡◌, ℕ, ◌≤◌, leb, List, [], ◌∷◌, ◌++◌, length, take, length-take, refl, sym, ap, ◌∙◌, append_assoc, arith, Some, None}
+use Prim.Native.Nat.{compare}
+use Rattle.std.specs.Prelude as answered
+use Rattle.std.specs.Option as answered-option
+use mathlib.Core.List.{flat_map, foldl-append}
 use borrow.Author.Tests.{le-leb, lt-leb}
+use Rattle.std.proofs.Math.Option.{none, some, bind as ◌then◌, none-ne-some}
 use Rattle.terms.specs.Term.{Term}
 use Rattle.terms.specs.Letters.{letters, rising}
 use Rattle.terms.specs.Sort.{lost, insert_all}
 use Rattle.terms.specs.Promises.{Fills, Lists}
 use Rattle.terms.specs.Theory.Insert.{insert_all_grows}
-use Rattle.terms.specs.declared.term.Listed.TheVariants.{All, TooMany}
 use Rattle.terms.proofs.Gathered.{gathered, letters_term, fills_front, fills_length}
 use Rattle.search.specs.Line.{Line}
 use Rattle.text.specs.TermText.{read_term}
-use Rattle.text.specs.SideRead.{TermRead}
 use Rattle.text.specs.Theory.Keyed.{some_then}
 use Rattle.checking.specs.declared.line.Step.{Step}
 use Rattle.checking.specs.Layout.{StepLayout, line_of, read_result, read_results}
-use Rattle.checking.specs.LineRead.{lines_from, LineAt}
-use Rattle.checking.specs.LinesRead.{result_letters, FewMore, FewLetters}
-use Rattle.checking.proofs.StepLines.{no_lines, malformed, line_then}
+use Rattle.checking.specs.LineRead.{lines_from, line_at, LineAt}
+use Rattle.checking.specs.LinesRead.{ReadsTerm, results, Letters}
+use Rattle.checking.proofs.StepLines.{none_left, line_then}
+
+-- the letters of the results
+abbrev result_letters : List Line → List ℕ
+result_letters ys = flat_map letters (results ys)
 
 -- letters put among others
 abbrev put : List ℕ → List ℕ → List ℕ
@@ -31,6 +31,11 @@ put = insert_all lost compare
 
 put_parts : (ns xs ys : List ℕ) → put ns (xs ++ ys) ≡ put (put ns xs) ys
 put_parts ns xs ys = foldl-append _ ns xs ys
+
+-- there is room for the letters of the results of the lines that a text is among the first `n` numbers, which are rising, or there is not
+pub record FewMore (s names : List ℕ) (n : ℕ) (r : answered.Option ℕ) : Type 0 where
+  pub exact : (xs : List StepLayout) (ys : List Line) → lines_from s ≡ some xs → read_results xs ≡ some ys
+      → answered-option.is_some r ≡ leb (length (put (take n names) (result_letters ys))) (length names)
 
 -- the result of the first line, and those of the others
 
@@ -52,14 +57,14 @@ unfolding flat_map
 first_letters x t zs = refl
 
 -- the letters of a line's result, then those of the others
-module _ {s : List ℕ} {at next : ℕ} {x : Step} (l : LineAt s at x next) {run : List ℕ} {m : ℕ} (t : TermRead (slice x.result.from x.result.to s) run m) (front : List ℕ) where
-  letters_then : {P : Type 0} {xs : List StepLayout} {ys : List Line} → lines_from s at ≡ some xs → read_results xs ≡ some ys
-      → ((rest : List StepLayout) (zs : List Line) → lines_from s next ≡ some rest → read_results rest ≡ some zs
-      → put front (result_letters ys) ≡ put (gathered front (take m run)) (result_letters zs) → P) → P
+module _ {s rest : List ℕ} {x : Step} (l : LineAt s x rest) {run : List ℕ} (t : ReadsTerm x.result.now run) (front : List ℕ) where
+  letters_then : {P : Type 0} {xs : List StepLayout} {ys : List Line} → lines_from s ≡ some xs → read_results xs ≡ some ys
+      → ((ws : List StepLayout) (zs : List Line) → lines_from rest ≡ some ws → read_results ws ≡ some zs
+      → put front (result_letters ys) ≡ put (gathered front run) (result_letters zs) → P) → P
   letters_then e f h =
-      line_then l e λ rest k w.
-      results_then l.layout rest (ap read_term l.stands.result ∙ t.read) (ap read_results w ∙ f) λ zs g v.
-      h rest zs k g
+      line_then l e λ ws k w.
+      results_then l.layout ws (ap read_term l.stands.result ∙ t.read) (ap read_results w ∙ f) λ zs g v.
+      h ws zs k g
       (rw (← v, first_letters l.layout t.term zs, letters_term t.whole) (put_parts front (letters t.term) (result_letters zs)))
 
 -- one line after the other
@@ -67,73 +72,90 @@ module _ {s : List ℕ} {at next : ℕ} {x : Step} (l : LineAt s at x next) {run
 take_short : (n : ℕ) (xs : List ℕ) → length (take n xs) ≤ length xs
 take_short n xs = omega (arith, length-take n xs)
 
-module _ {s : List ℕ} {at : ℕ} {names : List ℕ} {count : ℕ} where
-  pub no_more_letters : length s ≤ at → FewMore s at names count true
+module _ {s names : List ℕ} {count : ℕ} where
+  no_more_letters : line_at s ≡ none → {k : ℕ} → FewMore s names count (Some k)
   unfolding read_results flat_map
   no_more_letters h =
       record {
         exact = λ xs ys e f.
-            let k = no_lines s at h in
-            let w : [] ≡ xs = cc in
-            let f : some [] ≡ some ys = rw (← w) at f in
+            let w = none_left s h e in
+            let g : some [] ≡ some ys = rw w at f in
             let v : [] ≡ ys = cc in
             rw (← v) (sym (le-leb (length (take count names)) (length names) (take_short count names)));
       }
 
-  pub few_malformed : {r : Bool} → lines_from s at ≡ none → FewMore s at names count r
-  few_malformed h = record { exact = λ xs ys e f. malformed h e }
-
-  module _ {x : Step} {next : ℕ} (l : LineAt s at x next) where
-    pub few_foul : {r : Bool} → read_term (slice x.result.from x.result.to s) ≡ none → FewMore s at names count r
+  module _ {rest : List ℕ} {x : Step} (l : LineAt s x rest) where
+    few_foul : {r : answered.Option ℕ} → read_term x.result.now ≡ none → FewMore s names count r
     few_foul h =
         record {
           exact = λ xs ys e f.
-              line_then l e λ rest k w.
-              absurd (none-ne-some ys (sym (no_result l.layout rest (ap read_term l.stands.result ∙ h)) ∙ ap read_results w ∙ f));
+              line_then l e λ ws k w.
+              absurd (none-ne-some ys (sym (no_result l.layout ws (ap read_term l.stands.result ∙ h)) ∙ ap read_results w ∙ f));
         }
 
-    module _ {run : List ℕ} {m : ℕ} (t : TermRead (slice x.result.from x.result.to s) run m) where
-      pub too_many : (names' : List ℕ) → Fills (gathered (take count names) (take m run)) names TooMany names' → FewMore s at names count false
+    module _ {run : List ℕ} (t : ReadsTerm x.result.now run) where
+      too_many : (names' : List ℕ) → Fills (gathered (take count names) run) names None names' → FewMore s names count None
       too_many names' g =
           record {
             exact = λ xs ys e f.
-                letters_then l t (take count names) e f λ rest zs k h w.
-                let there = gathered (take count names) (take m run) in
+                letters_then l t (take count names) e f λ ws zs k h w.
+                let there = gathered (take count names) run in
                 rw w (sym (lt-leb (length (put there (result_letters zs))) (length names) (omega (arith, g.0, insert_all_grows lost compare there (result_letters zs)))));
           }
 
-      pub more_letters : {names' : List ℕ} {k : ℕ} → Fills (gathered (take count names) (take m run)) names (All k) names' → {r : Bool}
-          → FewMore s next names' k r → FewMore s at names count r
+      more_letters : {names' : List ℕ} {k : ℕ} → Fills (gathered (take count names) run) names (Some k) names' → {r : answered.Option ℕ}
+          → FewMore rest names' k r → FewMore s names count r
       more_letters {names'} {k} g F =
           record {
             exact = λ xs ys e f.
-                letters_then l t (take count names) e f λ rest zs d h w.
-                let there = gathered (take count names) (take m run) in
-                rw (w, ← (fills_front there names names' g), ← (fills_length there names names' g)) (F.exact rest zs d h);
+                letters_then l t (take count names) e f λ ws zs d h w.
+                let there = gathered (take count names) run in
+                rw (w, ← (fills_front there names names' g), ← (fills_length there names names' g)) (F.exact ws zs d h);
           }
 
 -- both sides first
 
-side_letters : (t u : Term) (ys : List Line) → rising (flat_map letters (t ∷ u ∷ map (λ x. x.result) ys)) ≡ put (rising (letters t ++ letters u)) (result_letters ys)
+side_letters : (t u : Term) (ys : List Line) → rising (flat_map letters (t ∷ u ∷ results ys)) ≡ put (rising (letters t ++ letters u)) (result_letters ys)
 unfolding rising flat_map
 side_letters t u ys = rw (← (append_assoc (letters t) (letters u) (result_letters ys))) (put_parts [] (letters t ++ letters u) (result_letters ys))
 
-module _ {s : List ℕ} {from : ℕ} {left right names names' : List ℕ} (e : length names ≡ 6) where
-  pub sides_too_many : Lists left right names TooMany names' → FewLetters s from left right false
+-- what the loop keeps: what is left decides
+pub record LettersTo (left right s : List ℕ) (room : ℕ) (rest names : List ℕ) (count : ℕ) : Type 0 where
+  pub decides : {r : answered.Option ℕ} → FewMore rest names count r → Letters left right s room r
+
+module _ {left right s names names' : List ℕ} where
+  pub sides_too_many : Lists left right names None names' → Letters left right s (length names) None
   sides_too_many h =
       record {
         exact = λ xs ys t u a b v w.
             let l = rising (letters t ++ letters u) in
             rw (side_letters t u ys)
-            (sym (lt-leb (length (put l (result_letters ys))) 6 (omega (arith, e, (h.terms t u v w).0, insert_all_grows lost compare l (result_letters ys)))));
+            (sym (lt-leb (length (put l (result_letters ys))) (length names) (omega (arith, (h.terms t u v w).0, insert_all_grows lost compare l (result_letters ys)))));
       }
 
-  pub sides_few : {n : ℕ} {r : Bool} → Lists left right names (All n) names' → FewMore s from names' n r → FewLetters s from left right r
-  sides_few h F =
+  pub sides_few : {n : ℕ} → Lists left right names (Some n) names' → LettersTo left right s (length names) s names' n
+  sides_few h =
       record {
-        exact = λ xs ys t u a b v w.
-            let g = h.terms t u v w in
-            let l = rising (letters t ++ letters u) in
-            let six : length names' ≡ 6 = fills_length l names names' g ∙ e in
-            rw (side_letters t u ys, ← (fills_front l names names' g), ← six) (F.exact xs ys a b);
+        decides = λ F.
+            record {
+              exact = λ xs ys t u a b v w.
+                  let g = h.terms t u v w in
+                  let l = rising (letters t ++ letters u) in
+                  rw (side_letters t u ys, ← (fills_front l names names' g), ← (fills_length l names names' g)) (F.exact xs ys a b);
+            };
       }
+
+module _ {left right s : List ℕ} {room : ℕ} {rest names : List ℕ} {count : ℕ} (L : LettersTo left right s room rest names count) where
+  pub all_gathered : line_at rest ≡ none → Letters left right s room (Some count)
+  all_gathered h = L.decides (no_more_letters h)
+
+  module _ {x : Step} {more : List ℕ} (l : LineAt rest x more) where
+    pub foul_result : read_term x.result.now ≡ none → Letters left right s room None
+    foul_result h = L.decides (few_foul l h)
+
+    module _ {run : List ℕ} (t : ReadsTerm x.result.now run) where
+      pub no_room : (names' : List ℕ) → Fills (gathered (take count names) run) names None names' → Letters left right s room None
+      no_room names' g = L.decides (too_many l t names' g)
+
+      pub gathered_on : {names' : List ℕ} {k : ℕ} → Fills (gathered (take count names) run) names (Some k) names' → LettersTo left right s room more names' k
+      gathered_on g = record { decides = λ F. L.decides (more_letters l t g F) }

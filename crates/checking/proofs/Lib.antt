@@ -3,11 +3,12 @@ pub mod Spelling
 pub mod Placed
 pub mod StepParts
 pub mod LineStarts
+pub mod StepLines
+pub mod Refused
+pub mod Results
+pub mod Lettering
 pub mod Walking
 pub mod Placing
-pub mod StepLines
-pub mod Asking
-pub mod Lettering
 pub mod Following
 pub mod Leading
 pub mod Judging

@@ -1,29 +1,18 @@
--- The step lines from a position on, one after the other.
-use Prim.Native.Nat.{ℕ, ◌<◌}
-use native.Mathlib.Omega.{arith}
-use mathlib.Core.Path.{◌≡◌, refl, sym, ap, ◌∙◌}
-use mathlib.Core.Bool.{Bool, true, false}
-use mathlib.Core.Option.{Option, none, some, bind, none-ne-some}
-use mathlib.Core.List.{List, [], ◌∷◌, ◌++◌, append_assoc}
-use lib.Dec.{eqb}
-use lib.ListN.{length, drop, length-append, length-drop}
-use lib.Seq.{slice}
+-- Step lines, one after the other.
+use Rattle.std.proofs.Common.{◌≡◌, ℕ, ◌<◌, Bool, true, false, eqb, List, [], ◌∷◌, ◌++◌, length, refl, sym, ap, ◌∙◌, append_assoc, arith}
+use Rattle.std.proofs.Math.Option.{Option, none, some, bind, none-ne-some}
 use Rattle.terms.specs.Theory.Reflects.{Reflects, eqb_reflects}
 use Rattle.search.specs.Law.{Law, semiring}
 use Rattle.text.specs.Bytes.{ascii, after, end, Split, up_to, line, pieces}
 use Rattle.text.specs.Layout.{keyed}
-use Rattle.text.specs.Answer.{field}
-use Rattle.text.specs.Reading.{split, Valued, Values}
-use Rattle.text.specs.declared.job.Value.TheVariants.{Missing}
+use Rattle.text.specs.Reading.{Valued, Unkeyed}
 use Rattle.text.specs.Theory.AtLeast.{tested, free}
 use Rattle.text.specs.Theory.Pieces.{pieces_behind}
-use Rattle.text.specs.Theory.Keyed.{some_then, after_only, after_key, up_to_parts, keyed_parts}
+use Rattle.text.specs.Theory.Keyed.{some_then, after_only, after_key, up_to_parts}
 use Rattle.text.specs.Theory.UpTo.{cut_pieces, pieces_cut, some_piece}
 use Rattle.checking.specs.declared.line.Step.{Step}
-use Rattle.checking.specs.declared.line.StepLine.{StepLine}
-use Rattle.checking.specs.declared.line.StepLine.TheVariants.{Is, Malformed}
 use Rattle.checking.specs.Layout.{StepLayout, step_layout, step_lines}
-use Rattle.checking.specs.LineRead.{StepIn, lines_from, LineAt, LineIn}
+use Rattle.checking.specs.LineRead.{StepAt, lines_from, line_at, LineAt}
 
 -- a text with the byte in it is cut
 up_to_some : (s : ℕ) (v rest : List ℕ) → up_to s (v ++ (s ∷ rest)) ≡ none → ⊥
@@ -87,56 +76,38 @@ module _ (ws : List Law) where
 
 -- ---- what `step_line` answers
 
-module _ (s : List ℕ) (from : ℕ) where
-  pub no_line : Values s from (ascii "step=") Missing → LineIn s from Malformed
+module _ (s : List ℕ) where
+  pub no_line : Unkeyed s (ascii "step=") → line_at s ≡ none
   unfolding bind
   no_line e = rw (e "step=" refl)
 
-  module _ (start e : ℕ) (v : Valued s from (ascii "step=") start e) where
-    value : keyed "step=" (drop from s) ≡ some (split s start e)
-    value = v.parts "step=" refl
-
-    -- whatever the line's value is
-    pub line_told : (r : StepLine) → StepIn s start e r → LineIn s from r
+  module _ {value rest : List ℕ} (v : Valued s (ascii "step=") value rest) where
+    pub no_step : step_layout semiring value ≡ none → line_at s ≡ none
     unfolding bind
-    line_told Malformed h = rw (value, h)
-    line_told (Is x next) h =
-        rw h.behind (record {
-          ends = omega (arith, v.ends);
-          value = slice start e s;
-          keyed = value;
+    no_step e = rw (v.parts "step=" refl, e)
+
+    pub line_told : (x : Step) → StepAt value x → LineAt s x rest
+    line_told x h =
+        record {
+          shorter = omega (arith, v.shorter, h.shorter);
+          value = value;
+          keyed = v.parts "step=" refl;
           layout = h.layout;
           read = h.read;
           stands = h.stands;
-        })
+        }
 
--- ---- what it says of the lines from there on
+-- ---- what it says of the lines that the text is
 
--- a malformed line, where the text has not ended
-pub lines_malformed : (s : List ℕ) (from : ℕ) → LineIn s from Malformed → from < length s → lines_from s from ≡ none
+-- a malformed line, where there is something
+pub lines_malformed : (s : List ℕ) → line_at s ≡ none → 0 < length s → lines_from s ≡ none
 unfolding bind
-lines_malformed s from e more = go (keyed "step=" (drop from s)) refl e
+lines_malformed s e more = go (keyed "step=" s) refl e
   where
-    go : (o : Option Split) → keyed "step=" (drop from s) ≡ o → bind o (λ c. step_layout semiring c.front) ≡ none → lines_from s from ≡ none
-    go none k f = lines_none semiring (drop from s) k (omega (arith, length-drop from s))
-    go (some c) k f = lines_next semiring (drop from s) k ∙ rw f
+    go : (o : Option Split) → keyed "step=" s ≡ o → bind o (λ c. step_layout semiring c.front) ≡ none → lines_from s ≡ none
+    go none k f = lines_none semiring s k more
+    go (some c) k f = lines_next semiring s k ∙ rw f
 
-module _ {s : List ℕ} {from next : ℕ} {x : Step} (A : LineAt s from x next) where
-  pub line_lines : lines_from s from ≡ bind (lines_from s next) (λ ys. some (A.layout ∷ ys))
-  unfolding bind
-  line_lines = lines_next semiring (drop from s) A.keyed ∙ rw A.read
-
-  -- the next line starts behind this one
-  pub line_later : from < next
-  unfolding field ascii
-  line_later =
-      let p = (keyed_parts "step=" (drop from s) A.keyed).parts in
-      omega (
-        arith,
-        A.ends,
-        ap length p,
-        length-drop from s,
-        length-drop next s,
-        length-append (field "step=" A.value) (drop next s),
-        length-append A.value (10 ∷ []),
-      )
+pub line_lines : {s rest : List ℕ} {x : Step} (A : LineAt s x rest) → lines_from s ≡ bind (lines_from rest) (λ ys. some (A.layout ∷ ys))
+unfolding bind
+line_lines {s} A = lines_next semiring s A.keyed ∙ rw A.read

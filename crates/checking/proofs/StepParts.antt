@@ -1,104 +1,94 @@
--- A step line, part after part.
-use Prim.Native.Nat.{ℕ, ◌+◌, ◌<◌}
-use native.Mathlib.Omega.{arith}
-use mathlib.Core.Path.{◌≡◌, refl, sym}
-use mathlib.Core.Bool.{true, false, false≢true}
-use mathlib.Core.Option.{Option, none, some, bind}
-use mathlib.Core.List.{List}
-use lib.ListN.{length}
-use lib.Seq.{slice}
+-- The value of a step line, part after part.
+use Rattle.std.proofs.Common.{◌≡◌, ℕ, ◌+◌, ◌<◌, true, false, List, length, refl, sym, Some, None, eqb, take, drop, Bor}
+use Prim.Native.Char.{code}
+use Rattle.std.proofs.lemmas.Bool.{false≢true}
+use Rattle.std.proofs.lemmas.Bool.Decides.{Decides-eqb}
+use Rattle.std.proofs.lemmas.Slice.Eq.{strip_prefix_is}
+use Rattle.std.specs.Cmp.Lexicographic.{pointwise}
+use Rattle.std.proofs.Math.Option.{Option, none, some, bind}
 use Rattle.terms.specs.Numbers.{is_some}
 use Rattle.search.specs.Law.{semiring}
 use Rattle.search.specs.Line.{Side}
 use Rattle.search.specs.Coded.{name_of, direction_of}
 use Rattle.search.specs.declared.search.Law.{Law}
 use Rattle.search.specs.declared.search.Direction.{Direction}
-use Rattle.text.specs.Bytes.{ascii}
+use Rattle.text.specs.Bytes.{ascii, after, up_to}
+use Rattle.text.specs.Reading.{CutAt}
 use Rattle.text.specs.StepText.{read_place}
-use Rattle.text.specs.declared.job.Found.TheVariants.{At, Nothing}
 use Rattle.text.specs.Theory.StepRead.{place_only}
-use Rattle.checking.specs.declared.line.LawRead.TheVariants as law-read
-use Rattle.checking.specs.declared.line.DirectionRead.TheVariants as direction-read
-use Rattle.checking.specs.declared.line.Spaces.TheVariants as spaces
+use Rattle.text.proofs.Lines.{after_some, after_none}
 use Rattle.checking.specs.declared.line.Step.{Step}
-use Rattle.checking.specs.declared.line.StepLine.TheVariants.{Is, Malformed}
 use Rattle.checking.specs.Layout.{step_layout}
-use Rattle.checking.specs.LineRead.{Behind, LawIn, DirectionIn, SpaceIn, Spaced, SpacesIn, StepIn}
+use Rattle.checking.specs.LineRead.{LawIn, DirectionIn, StepAt}
 
--- ---- the value of a step line
+-- what `strip_prefix` says of a key
+module _ (key s : List ℕ) where
+  pub behind : (rest : Bor (List ℕ))
+      → (pointwise eqb (take (length key) s) key ≡ true) × (rest.now ≡ drop (length key) s) × (length rest.now + length key ≡ length s) → after key s ≡ some rest.now
+  behind rest h = after_some key rest.now s (strip_prefix_is Decides-eqb s key (Some rest) h)
 
-module _ (s : List ℕ) (from to : ℕ) where
-  pub no_first : SpaceIn s from to Nothing → SpacesIn s from to spaces.Missing
+  pub not_behind : pointwise eqb (take (length key) s) key ≡ false → after key s ≡ none
+  not_behind h = after_none key s (strip_prefix_is Decides-eqb s key None h)
+
+module _ (value : List ℕ) where
+  pub no_first : up_to (code " ") value ≡ none → step_layout semiring value ≡ none
   unfolding step_layout bind
   no_first e = rw e
 
-  module _ (first : ℕ) (a : SpaceIn s from to (At first)) where
-    pub no_second : SpaceIn s (first + 1) to Nothing → SpacesIn s from to spaces.Missing
+  module _ {name turn_on : List ℕ} (a : CutAt value (code " ") name turn_on) where
+    pub no_second : up_to (code " ") turn_on ≡ none → step_layout semiring value ≡ none
     unfolding step_layout bind
     no_second e = rw (a.parts, e)
 
-    pub no_third : (second : ℕ) → SpaceIn s (first + 1) to (At second) → SpaceIn s (second + 1) to Nothing → SpacesIn s from to spaces.Missing
-    unfolding step_layout bind
-    no_third second b e = rw (a.parts, b.parts, e)
-
-module _ (s : List ℕ) (from to : ℕ) (inside : to < length s) where
-  module _ (first second third : ℕ) (z : Spaced s from to first second third) where
-    pub no_law : LawIn (slice from first s) law-read.Unknown → StepIn s from to Malformed
-    unfolding step_layout bind
-    no_law e = rw (z.one.parts, z.two.parts, z.three.parts, e)
-
-    module _ (w : Law) (d : LawIn (slice from first s) (law-read.Is w)) where
-      pub no_direction : DirectionIn (slice (first + 1) second s) direction-read.Unknown → StepIn s from to Malformed
+    module _ {turn place_on : List ℕ} (b : CutAt turn_on (code " ") turn place_on) where
+      pub no_third : up_to (code " ") place_on ≡ none → step_layout semiring value ≡ none
       unfolding step_layout bind
-      no_direction e = rw (z.one.parts, z.two.parts, z.three.parts, d, e)
+      no_third e = rw (a.parts, b.parts, e)
 
-      module _ (v : Direction) (f : DirectionIn (slice (first + 1) second s) (direction-read.Is v)) where
-        pub no_at : Behind s (second + 1) third (ascii "at=") Nothing → StepIn s from to Malformed
+      module _ {at_place to_term : List ℕ} (c : CutAt place_on (code " ") at_place to_term) where
+        pub no_law : LawIn name None → step_layout semiring value ≡ none
         unfolding step_layout bind
-        no_at e = rw (z.one.parts, z.two.parts, z.three.parts, d, f, e)
+        no_law e = rw (a.parts, b.parts, c.parts, e)
 
-        module _ (at : ℕ) (g : Behind s (second + 1) third (ascii "at=") (At at)) where
-          -- a place that is read, or not
-          pub no_place : false ≡ is_some (read_place (slice at third s)) → StepIn s from to Malformed
-          unfolding step_layout bind is_some
-          no_place e = go (read_place (slice at third s)) refl e
-            where
-              go : (o : Option (List Side)) → read_place (slice at third s) ≡ o → false ≡ is_some o → step_layout semiring (slice from to s) ≡ none
-              go none h e = rw (z.one.parts, z.two.parts, z.three.parts, d, f, g.rest, h)
-              go (some p) h e = absurd (false≢true e)
+        module _ (w : Law) (d : LawIn name (Some w)) where
+          pub no_direction : DirectionIn turn None → step_layout semiring value ≡ none
+          unfolding step_layout bind
+          no_direction e = rw (a.parts, b.parts, c.parts, d, e)
 
-          module _ (place : true ≡ is_some (read_place (slice at third s))) where
-            pub no_to : Behind s (third + 1) to (ascii "to=") Nothing → StepIn s from to Malformed
+          module _ (v : Direction) (f : DirectionIn turn (Some v)) where
+            pub no_at : after (ascii "at=") at_place ≡ none → step_layout semiring value ≡ none
             unfolding step_layout bind
-            no_to e = go (read_place (slice at third s)) refl
-              where
-                go : (o : Option (List Side)) → read_place (slice at third s) ≡ o → step_layout semiring (slice from to s) ≡ none
-                go none h = rw (z.one.parts, z.two.parts, z.three.parts, d, f, g.rest, h)
-                go (some p) h = rw (z.one.parts, z.two.parts, z.three.parts, d, f, g.rest, h, e)
+            no_at e = rw (a.parts, b.parts, c.parts, d, f, e)
 
-            module _ (result : ℕ) (k : Behind s (third + 1) to (ascii "to=") (At result)) where
-              abbrev pub step : Step
-              step = record { law = w; direction = v; place = record { from = at; to = third }; result = record { from = result; to = to } }
-
-              pub step_whole : StepIn s from to (Is step (to + 1))
+            module _ {place : List ℕ} (g : after (ascii "at=") at_place ≡ some place) where
+              -- a place that is read, or not
+              pub no_place : false ≡ is_some (read_place place) → step_layout semiring value ≡ none
               unfolding step_layout bind is_some
-              step_whole = go (read_place (slice at third s)) refl place
+              no_place e = go (read_place place) refl e
                 where
-                  go : (o : Option (List Side)) → read_place (slice at third s) ≡ o → true ≡ is_some o → StepIn s from to (Is step (to + 1))
+                  go : (o : Option (List Side)) → read_place place ≡ o → false ≡ is_some o → step_layout semiring value ≡ none
+                  go none h e = rw (a.parts, b.parts, c.parts, d, f, g, h)
+                  go (some p) h e = absurd (false≢true e)
+
+              pub no_to : after (ascii "to=") to_term ≡ none → step_layout semiring value ≡ none
+              unfolding step_layout bind
+              no_to e = go (read_place place) refl
+                where
+                  go : (o : Option (List Side)) → read_place place ≡ o → step_layout semiring value ≡ none
+                  go none h = rw (a.parts, b.parts, c.parts, d, f, g, h)
+                  go (some p) h = rw (a.parts, b.parts, c.parts, d, f, g, h, e)
+
+              pub step_whole : true ≡ is_some (read_place place) → (x : Step) → x.law ≡ w → x.direction ≡ v → x.place.now ≡ place
+                  → after (ascii "to=") to_term ≡ some x.result.now → length x.place.now + length x.result.now < length value → StepAt value x
+              unfolding step_layout bind is_some
+              step_whole placed x law way here k shorter = go (read_place place) refl placed
+                where
+                  go : (o : Option (List Side)) → read_place place ≡ o → true ≡ is_some o → StepAt value x
                   go none h e = absurd (false≢true (sym e))
                   go (some p) h e =
                       record {
-                        behind = refl;
-                        layout = record { law = name_of w; direction = direction_of v; place = p; result = slice result to s };
-                        stands = record {
-                          law = refl;
-                          direction = refl;
-                          place_starts = g.ends;
-                          place_ends = omega (arith, z.three.ends, inside);
-                          place = place_only (slice at third s) h;
-                          result_starts = k.ends;
-                          result_ends = inside;
-                          result = refl;
-                        };
-                        read = rw (z.one.parts, z.two.parts, z.three.parts, d, f, g.rest, h, k.rest);
+                        shorter = shorter;
+                        layout = record { law = name_of x.law; direction = direction_of x.direction; place = p; result = x.result.now };
+                        stands = record { law = refl; direction = refl; place = rw here (place_only place h); result = refl };
+                        read = rw (a.parts, b.parts, c.parts, d, f, g, h, k, law, way);
                       }

@@ -1,16 +1,12 @@
 -- A place followed side by side: what is left of it, at the subterm reached.
-use Prim.Native.Nat.{ℕ, ◌+◌, ◌-◌}
-use native.Mathlib.Omega.{arith}
-use mathlib.Core.Path.{◌≡◌, refl, ap, ◌∙◌}
-use mathlib.Core.Option.{Option, none, some, map}
-use mathlib.Core.List.{List, [], ◌∷◌}
+use Rattle.std.proofs.Common.{◌≡◌, ℕ, ◌+◌, ◌-◌, List, [], ◌∷◌, refl, ap, ◌∙◌, arith, Some, None}
+use Rattle.std.proofs.Math.Option.{Option, none, some, map}
 use Rattle.terms.specs.Term.{Term}
 use Rattle.terms.specs.Held.{IsRun, Holds}
 use Rattle.terms.proofs.Held.{holds_whole}
 use Rattle.search.specs.Line.{Side}
 use Rattle.search.specs.Position.{position}
 use Rattle.search.specs.Used.{PartOn}
-use Rattle.search.specs.declared.chain.Part.TheVariants.{At, Nowhere}
 
 -- of the place p of t the sides q are left, at the term u that starts at position n
 pub record Walks (xs : List ℕ) (t : Term) (p : List Side) (n : ℕ) (q : List Side) : Type 0 where
@@ -36,7 +32,7 @@ module _ {xs : List ℕ} {t : Term} {p : List Side} where
   walk_starts h = record { reached = t; held = holds_whole h; positions = map_self (position p t) }
 
   module _ {n : ℕ} where
-    pub walk_on : {d : Side} {q : List Side} (k : ℕ) → PartOn xs n d (At k) → Walks xs t p n (d ∷ q) → Walks xs t p k q
+    pub walk_on : {d : Side} {q : List Side} (k : ℕ) → PartOn xs n d (Some k) → Walks xs t p n (d ∷ q) → Walks xs t p k q
     walk_on {d} {q} k P w =
         let e = P.exact w.reached w.held in
         let later = e.later in
@@ -49,7 +45,7 @@ module _ {xs : List ℕ} {t : Term} {p : List Side} where
         }
 
     -- there is no such part, and so no such place
-    pub walk_nowhere : {d : Side} {q : List Side} → PartOn xs n d Nowhere → Walks xs t p n (d ∷ q) → position p t ≡ none
+    pub walk_nowhere : {d : Side} {q : List Side} → PartOn xs n d None → Walks xs t p n (d ∷ q) → position p t ≡ none
     walk_nowhere {q = q} P w = w.positions ∙ ap (map (λ i. n + i)) (P.exact w.reached w.held q)
 
     -- nothing is left: this is the place

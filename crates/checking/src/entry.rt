@@ -1,24 +1,44 @@
 // CHECK: a derivation's text comes in, and the answer goes out at the front of the output.
 // A number below 100 is a refusal's; otherwise it is 100 plus the answer's length.
+ghost use Rattle.std.specs.Prelude.{◌≡◌, IfOk};
+ghost use Rattle.text.specs.Refusal.{number_returned};
+ghost use Rattle.checking.specs.Check.{good};
 ghost use Rattle.checking.specs.Claims.{CheckCall};
 
-use crate::judge::{Verdict, judge};
-use text::writer::write_line;
+use super::judge::judge;
+use text::put::{Text, put_in_front};
+use text::refusal::{Refusal, returned};
+use text::writer::Writer;
 
 // The length of the answer.
 const GOOD: usize = 12;
 
+// The answer.
+struct Good;
+
+impl Text for Good {
+    ghost shows = { λ _ t. t ≡ good };
+
+    fn put(&self, w: &mut Writer<'_>) {
+        w.line(b"answer=", b"good");
+    }
+}
+
+// The length of the answer, where the text is a derivation and there is room.
+fn answer(text: &[u8], output: &mut [u8]) -> Result<usize, Refusal>
+    ensures call { CheckCall text.now output.old (number_returned result) output.new }
+    ensures length { IfOk result (λ n. n ≡ 12) }
+{
+    judge(text)?;
+    if output.len() < GOOD {
+        return Err(Refusal::ShortOutput);
+    }
+    put_in_front(&Good, output);
+    Ok(GOOD)
+}
+
 pub fn check(text: &[u8], output: &mut [u8]) -> usize
     ensures { CheckCall text.now output.old result output.new }
 {
-    match judge(text) {
-        Verdict::Refused(n) => n,
-        Verdict::Good => {
-            if output.len() < GOOD {
-                return 8;
-            }
-            write_line(output, 0, b"answer=", b"good");
-            100 + GOOD
-        }
-    }
+    returned(answer(text, output))
 }

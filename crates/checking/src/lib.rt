@@ -7,3 +7,5 @@ pub mod judge;
 pub mod line;
 pub mod lines;
 pub mod place;
+pub mod reader;
+pub mod steps;

@@ -1,146 +1,99 @@
-// The lines of a derivation: where its terms stand, and what is asked of the result of each step line. The text is walked once for each
-// question, so that no buffer depends on the number of lines.
-ghost use Rattle.std.specs.Prelude.{◌≡◌, ◌≤◌, ◌<◌, length};
-ghost use Rattle.std.proofs.Math.Seq.{slice};
+// The lines of a derivation: its terms as they are written, and what is asked of the results of its step lines. The lines are walked once for
+// each question, so that no buffer depends on their number.
+ghost use Rattle.std.specs.Prelude.{◌≡◌, length, MatchOption};
+ghost use Rattle.std.proofs.Math.Option.{none};
 ghost use Rattle.terms.specs.Numbers.{is_some};
-ghost use Rattle.text.specs.TermText.{read_term};
+ghost use Rattle.search.specs.Law.{semiring};
+ghost use Rattle.checking.specs.Layout.{check_layout};
 ghost use Rattle.checking.specs.LineRead.{lines_from};
-ghost use Rattle.checking.specs.LinesRead.{LaysOut, asked, AllPass, FewMore, FewLetters};
+ghost use Rattle.checking.specs.LinesRead.{LaidOut, ReadsResults, Letters, FewLetters};
 
-use crate::line::{StepLine, step_line};
+use super::line::step_line;
+use super::reader::Reader;
+use super::steps::StepLines;
+use search::search::LARGEST;
 use terms::term;
-use terms::term::Listed;
-use text::job::lines::Part;
-use text::job::side::read_term;
-use text::job::{Found, Value, keyed};
+use text::job::keyed;
+use text::refusal::Refusal;
 
-// Where the sides are written, and where the first step line starts.
-#[derive(Drop)]
-pub struct Written {
-    pub left: Part,
-    pub right: Part,
-    pub steps: usize,
-}
+// The most different letters of a derivation.
+const MOST_LETTERS: usize = 6;
 
-// A derivation's lines, where they are well formed.
-#[derive(Drop)]
-pub enum Laid {
-    Lines(Written),
-    Malformed,
-}
-
-// What is asked of a result: that it is a term; that it has at most 31 nodes, too.
+// The sides, and the text that the step lines are.
 #[derive(Clone, Copy)]
-pub enum Question {
-    Term,
-    Small,
+pub struct Written<'a> {
+    pub left: &'a [u8],
+    pub right: &'a [u8],
+    pub steps: &'a [u8],
 }
 
-// Whether all that stands from a position on is step lines.
-fn well_formed(s: &[u8], from: usize) -> bool
-    requires { from ≤ length s.now }
-    ensures { result ≡ is_some (lines_from s.now from) }
+// Whether a text is step lines.
+fn well_formed(text: &[u8]) -> bool
+    ensures { result ≡ is_some (lines_from text.now) }
 {
-    let mut at = from;
-    while at < s.len() {
-        let StepLine::Is(_, next) = step_line(s, at) else {
-            return false;
-        };
-        at = next;
+    let mut rest = text;
+    while let Some((_, more)) = step_line(rest) {
+        rest = more;
     }
-    true
+    rest.is_empty()
 }
 
-// Where the terms stand in the lines of a derivation.
-pub fn layout_of(s: &[u8]) -> Laid
-    ensures { LaysOut s.now result }
+// The terms in the lines of a derivation.
+pub fn layout_of(s: &[u8]) -> Option<Written<'_>>
+    ensures { MatchOption result (check_layout semiring s.now ≡ none) (λ w. LaidOut s.now w) }
 {
-    let Value::Between(left, left_end) = keyed(s, 0, b"left=") else {
-        return Laid::Malformed;
-    };
-    let Value::Between(right, right_end) = keyed(s, left_end + 1, b"right=") else {
-        return Laid::Malformed;
-    };
-    let steps = right_end + 1;
-    if !well_formed(s, steps) {
-        return Laid::Malformed;
+    let (left, rest) = keyed(s, b"left=")?;
+    let (right, steps) = keyed(rest, b"right=")?;
+    if !well_formed(steps) {
+        return None;
     }
-    Laid::Lines(Written {
-        left: Part {
-            from: left,
-            to: left_end,
-        },
-        right: Part {
-            from: right,
-            to: right_end,
-        },
-        steps,
-    })
+    Some(Written { left, right, steps })
 }
 
-// Whether a result, which is written at a place of the text, passes.
-fn passes(q: Question, s: &[u8], res: Part, run: &mut [u32]) -> bool
-    requires { (res.from ≤ res.to) × (res.to < length s.now) × (length s.now ≤ length run.old) }
-    ensures { (result ≡ asked q (read_term (slice res.from res.to s.now))) × (length run.new ≡ length run.old) }
+// Refusals 2 and 3 for the results of step lines that are well formed. One that is no term is refused before one that is too large, so that
+// all are read.
+pub fn read_results<const BYTES: usize>(
+    steps: StepLines<'_, BYTES>,
+    reader: &mut Reader<BYTES>,
+) -> Result<(), Refusal>
+    ensures { ReadsResults steps.entry.text.now result }
 {
-    let Found::At(n) = read_term(s, res.from, res.to, run) else {
-        return false;
-    };
-    match q {
-        Question::Term => true,
-        Question::Small => n <= 31,
-    }
-}
-
-// Whether the result of each step line from a position on passes, where all of them are well formed.
-pub fn all_pass(q: Question, s: &[u8], from: usize, run: &mut [u32]) -> bool
-    requires { (from ≤ length s.now) × (length s.now ≤ length run.old) }
-    ensures { AllPass q s.now from result × (length run.new ≡ length run.old) }
-{
-    let mut at = from;
-    while at < s.len() {
-        let StepLine::Is(x, next) = step_line(s, at) else {
-            return false;
-        };
-        if !passes(q, s, x.result, run) {
-            return false;
+    let mut read = Ok(());
+    for step in steps {
+        let run = reader.read(step.result).ok_or(Refusal::NoTerm)?;
+        if LARGEST < run.len() {
+            read = Err(Refusal::TooLarge);
         }
-        at = next;
     }
-    true
+    read
 }
 
-// Whether there is room for the letters of all results from a position on among the first `n` numbers, which are rising.
-fn few_more(s: &[u8], from: usize, run: &mut [u32], names: &mut [u32], n: usize) -> bool
-    requires { (from ≤ length s.now) × (length s.now ≤ length run.old) }
-    ensures { FewMore s.now from names.old n result × (length run.new ≡ length run.old) }
+// The different letters of both sides and all results, in the front of `names`: how many there are, if there is room for all.
+fn letters<const BYTES: usize>(
+    left: &[u32],
+    right: &[u32],
+    steps: StepLines<'_, BYTES>,
+    reader: &mut Reader<BYTES>,
+    names: &mut [u32],
+) -> Option<usize>
+    ensures { Letters left.now right.now steps.entry.text.now (length names.old) result }
 {
-    let mut at = from;
-    let mut count = n;
-    while at < s.len() {
-        let StepLine::Is(x, next) = step_line(s, at) else {
-            return false;
-        };
-        let Found::At(m) = read_term(s, x.result.from, x.result.to, run) else {
-            return false;
-        };
-        let Listed::All(k) = term::gather(&run[..m], names, count) else {
-            return false;
-        };
-        count = k;
-        at = next;
+    let mut count = term::letters(left, right, names)?;
+    for step in steps {
+        count = term::gather(reader.read(step.result)?, names, count)?;
     }
-    true
+    Some(count)
 }
 
 // Whether both sides and all results together have at most six different letters, where all lines are well formed and all results terms.
-pub fn few_letters(s: &[u8], from: usize, left: &[u32], right: &[u32], run: &mut [u32]) -> bool
-    requires { (from ≤ length s.now) × (length s.now ≤ length run.old) }
-    ensures { FewLetters s.now from left.now right.now result × (length run.new ≡ length run.old) }
+pub fn few_letters<const BYTES: usize>(
+    left: &[u32],
+    right: &[u32],
+    steps: StepLines<'_, BYTES>,
+    reader: &mut Reader<BYTES>,
+) -> bool
+    ensures { FewLetters left.now right.now steps.entry.text.now result }
 {
-    let mut names = [0u32; 6];
-    let Listed::All(n) = term::letters(left, right, &mut names) else {
-        return false;
-    };
-    few_more(s, from, run, &mut names, n)
+    let mut names = [0u32; MOST_LETTERS];
+    letters(left, right, steps, reader, &mut names).is_some()
 }

@@ -1,34 +1,26 @@
 // The position of a place that a step line names.
-ghost use Rattle.std.specs.Prelude.{◌≤◌, length};
-ghost use Rattle.std.proofs.Math.Seq.{slice};
-ghost use Rattle.checking.specs.PlaceRead.{Locates};
+ghost use Rattle.std.specs.Prelude.{◌≡◌};
+ghost use Rattle.search.specs.Coded.{side_of};
+ghost use Rattle.checking.specs.PlaceRead.{named_side, Locates};
 
-use search::chain::{Part, left_part, right_part};
+use search::chain::{Side, part};
 
-// The position, in the run of a term, of the place that is written from one position of a text to another; somewhere in the run if none is.
-pub fn position_of(s: &[u8], from: usize, to: usize, run: &[u32]) -> Part
-    requires { (from ≤ to) × (to ≤ length s.now) }
-    ensures { Locates (slice from to s.now) run.now result }
+// The side that a byte names.
+fn side_in(b: u8) -> Side
+    ensures { side_of result ≡ named_side b }
+{
+    if b == b'l' { Side::Left } else { Side::Right }
+}
+
+// The position, in the run of a term, of a place as it is written; somewhere in the run if it is none. A dot is the root.
+pub fn position_of(place: &[u8], run: &[u32]) -> Option<usize>
+    ensures { Locates place.now run.now result }
 {
     let mut at = 0;
-    let mut i = from;
-    while i < to {
-        let b = s[i];
-        i += 1;
-        if b == b'.' {
-            continue;
-        }
-        if b == b'l' {
-            let Part::At(k) = left_part(run, at) else {
-                return Part::Nowhere;
-            };
-            at = k;
-        } else {
-            let Part::At(k) = right_part(run, at) else {
-                return Part::Nowhere;
-            };
-            at = k;
+    for b in place {
+        if *b != b'.' {
+            at = part(run, at, side_in(*b))?;
         }
     }
-    Part::At(at)
+    Some(at)
 }

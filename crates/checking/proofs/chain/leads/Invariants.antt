@@ -1,13 +1,9 @@
 -- `leads` meets its contract: what the lines left lead to, all lead to.
-use Prim.Native.Nat.{◌-◌, ◌≤◌}
-use mathlib.Core.Path.{◌≡◌}
-use mathlib.Core.Bool.{Bool}
-use lib.ListN.{length, take}
-use Rattle.checking.specs.Judged.{Leads}
+use Rattle.checking.proofs.Leading.{LeadsTo}
 use Rattle.checking.proofs.chain.leads.Given as goal
 
-abbrev pub invariant-loop-at : goal.invariant-loop-at
-invariant-loop-at l = (l.at ≤ length l.s) × (l.n ≤ 31) × (length l.both ≡ 62) × (length l.run ≡ length l.initial.run) × ((r : Bool) → Leads l.s l.at (take l.n l.both) l.right r → Leads l.s l.from l.left l.right r)
-
-abbrev pub decreases-loop-at : goal.decreases-loop-at
-decreases-loop-at l = length l.s - l.at
+abbrev pub invariant-loop-step : goal.invariant-loop-step
+invariant-loop-step g l =
+    (goal.iterator-loop-step g).can_next l.step-iterator
+    × (goal.iterator-loop-step g).is_finite l.step-iterator
+    × LeadsTo l.fn.left l.right l.steps.text.now l.step-iterator.text.now l.term

@@ -1,74 +1,46 @@
 -- `judge_lines` meets its contract: the terms are read, then asked for their size, then judged.
-use Prim.Native.Nat.{ℕ, ◌≤◌}
-use native.Mathlib.Omega.{arith}
-use mathlib.Core.Path.{◌≡◌, sym, ap}
-use mathlib.Core.Bool.{not}
-use mathlib.Core.List.{List}
-use lib.ListN.{length, take, replicate, length-take}
-use lib.Seq.{length-take-le}
-use Rattle.checking.proofs.Judging.{foul_left, foul_right, foul_result, large_left, large_right, large_result, lines_judged, copied}
+use Rattle.std.proofs.lemmas.Result.{err_from_is_err_and}
+use Rattle.text.specs.declared.refusal.Refusal.TheVariants.{NoTerm, TooLarge}
+use Rattle.checking.proofs.Refused.{refused_by}
+use Rattle.checking.proofs.Judging.{foul_left, foul_right, results_refused, large_left, large_right, lines_judged}
 use Rattle.checking.proofs.judge.judge_lines.Goals as goal
 
--- a front is as long as it says
-front_length : (n : ℕ) (xs : List ℕ) → n ≤ length xs → n ≡ length (take n xs)
-front_length n xs h = sym (length-take-le n xs h)
+pub returns-in_err-ok_or : goal.returns-in_err-ok_or
+returns-in_err-ok_or c =
+    let q = refused_by c.read.result NoTerm c.from_residual.result c.from_residual.ensures.1 c.in_err-ok_or.ensures.value in
+    rw q.1 (foul_left c.args.left.now c.args.right.now c.args.steps.text.now (rw q.0 at c.read.ensures))
 
-pub returns-in_default : goal.returns-in_default
-returns-in_default c = foul_left c.requires.0 (rw c.in_default.is at c.read_term.ensures)
+pub returns-in_err-ok_or-2 : goal.returns-in_err-ok_or-2
+returns-in_err-ok_or-2 c =
+    let q = refused_by c.read-2.result NoTerm c.from_residual-in_err-ok_or-2.result c.from_residual-in_err-ok_or-2.ensures.1 c.in_err-ok_or-2.ensures.value in
+    let a = rw c.in_ok-ok_or.ensures.ok_part at c.read.ensures in
+    rw q.1 (foul_right c.args.right.now c.args.steps.text.now a (rw q.0 at c.read-2.ensures))
 
-pub slice_bounds-copy-end-2 : goal.slice_bounds-copy-end-2
-slice_bounds-copy-end-2 c = (rw c.in-At.is at c.read_term.ensures).room
+pub returns-in_err-read_results : goal.returns-in_err-read_results
+returns-in_err-read_results c =
+    let p = err_from_is_err_and c.from_residual-in_err-read_results.result c.from_residual-in_err-read_results.ensures.1 in
+    let a = rw c.in_ok-ok_or.ensures.ok_part at c.read.ensures in
+    let b = rw c.in_ok-ok_or-2.ensures.ok_part at c.read-2.ensures in
+    rw (p.1, p.2) (results_refused a b c.in_err-read_results.ensures)
 
-pub slice_bounds-copy-end-3 : goal.slice_bounds-copy-end-3
-slice_bounds-copy-end-3 c = front_length _ _ (rw c.in-At.is at c.read_term.ensures).room
+pub returns-in_err-left : goal.returns-in_err-left
+returns-in_err-left c =
+    let q = refused_by c.of-left.result TooLarge c.from_residual-in_err-left.result c.from_residual-in_err-left.ensures.1 c.in_err-left.ensures.value in
+    let a = rw c.in_ok-ok_or.ensures.ok_part at c.read.ensures in
+    let b = rw c.in_ok-ok_or-2.ensures.ok_part at c.read-2.ensures in
+    rw q.1 (large_left a b c.in_ok-read_results.ensures (rw q.0 at c.of-left.ensures))
 
-pub returns-in_default-read_term : goal.returns-in_default-read_term
-returns-in_default-read_term c =
-    foul_right c.requires.0 (rw c.in-At.is at c.read_term.ensures) (rw c.in_default-read_term.is at c.read_term-2.ensures)
-
-pub slice_bounds-copy-end-5 : goal.slice_bounds-copy-end-5
-slice_bounds-copy-end-5 c = (rw c.in-At-read_term.is at c.read_term-2.ensures).room
-
-pub slice_bounds-copy-end-6 : goal.slice_bounds-copy-end-6
-slice_bounds-copy-end-6 c = front_length _ _ (rw c.in-At-read_term.is at c.read_term-2.ensures).room
-
-pub returns-then-not-all_pass : goal.returns-then-not-all_pass
-returns-then-not-all_pass c =
-    foul_result c.requires.0 (rw c.in-At.is at c.read_term.ensures) (rw c.in-At-read_term.is at c.read_term-2.ensures) c.all_pass.ensures.0
-    (ap not c.if-not-all_pass.true)
-
-pub returns-then-m-gt31 : goal.returns-then-m-gt31
-returns-then-m-gt31 c =
-    large_left c.requires.0 (rw c.in-At.is at c.read_term.ensures) (rw c.in-At-read_term.is at c.read_term-2.ensures) c.all_pass.ensures.0
-    (ap not c.if-not-all_pass.false) c.if-m-gt31.true
-
-pub returns-then-n-gt31 : goal.returns-then-n-gt31
-returns-then-n-gt31 c =
-    large_right c.requires.0 (rw c.in-At.is at c.read_term.ensures) (rw c.in-At-read_term.is at c.read_term-2.ensures) c.all_pass.ensures.0
-    (ap not c.if-not-all_pass.false) c.if-n-gt31.true
-
-pub all_pass-requires-2 : goal.all_pass-requires-2
-all_pass-requires-2 c = (c.requires.0.steps_start, omega arith)
-
-pub returns-then-not-all_pass-2 : goal.returns-then-not-all_pass-2
-returns-then-not-all_pass-2 c =
-    large_result c.requires.0 (rw c.in-At.is at c.read_term.ensures) (rw c.in-At-read_term.is at c.read_term-2.ensures) c.all_pass.ensures.0
-    (ap not c.if-not-all_pass.false) c.if-m-gt31.false c.if-n-gt31.false c.all_pass-2.ensures.0
-    (ap not c.if-not-all_pass-2.true)
-
-pub judge_terms-requires : goal.judge_terms-requires
-judge_terms-requires c = (
-  c.requires.0.steps_start,
-  omega arith,
-  omega (arith, ap length c.front.ensures, length-take c.in-At.m c.copy.new.out, c.if-m-gt31.false),
-)
+pub returns-in_err-right : goal.returns-in_err-right
+returns-in_err-right c =
+    let q = refused_by c.of-right.result TooLarge c.from_residual-in_err-right.result c.from_residual-in_err-right.ensures.1 c.in_err-right.ensures.value in
+    let a = rw c.in_ok-ok_or.ensures.ok_part at c.read.ensures in
+    let b = rw c.in_ok-ok_or-2.ensures.ok_part at c.read-2.ensures in
+    rw q.1 (large_right a b c.in_ok-read_results.ensures (rw q.0 at c.of-right.ensures))
 
 pub returns : goal.returns
 returns c =
-    let left = rw c.in-At.is at c.read_term.ensures in
-    let right = rw c.in-At-read_term.is at c.read_term-2.ensures in
-    lines_judged c.requires.0 left right c.all_pass.ensures.0 (ap not c.if-not-all_pass.false) c.if-m-gt31.false c.if-n-gt31.false c.all_pass-2.ensures.0
-    (ap not c.if-not-all_pass-2.false)
-    (copied _ _ left.room (replicate 31 0) c.if-m-gt31.false c.copy.ensures c.front.ensures)
-    (copied _ _ right.room (replicate 31 0) c.if-n-gt31.false c.copy-2.ensures c.front-2.ensures)
-    c.judge_terms.ensures
+    let a = rw c.in_ok-ok_or.ensures.ok_part at c.read.ensures in
+    let b = rw c.in_ok-ok_or-2.ensures.ok_part at c.read-2.ensures in
+    let (l, m) = rw c.in_ok-left.ensures.ok_part at c.of-left.ensures in
+    let (r, n) = rw c.in_ok-right.ensures.ok_part at c.of-right.ensures in
+    lines_judged a b c.in_ok-read_results.ensures m n (rw (l, r) at c.judge_terms.ensures)

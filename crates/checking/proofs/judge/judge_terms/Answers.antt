@@ -1,17 +1,30 @@
 -- `judge_terms` meets its contract: letters, a line at least, and the chain.
-use mathlib.Core.Path.{ap}
-use mathlib.Core.Bool.{not}
+use Rattle.std.proofs.Common.{◌≡◌, ℕ, ◌<◌, false, eqb, length, sym, ◌∙◌, arith}
+use Rattle.std.proofs.lemmas.Bool.Decides.{Decides-eqb}
 use Rattle.checking.proofs.Judging.{many_letters, no_step, not_led, all_led}
 use Rattle.checking.proofs.judge.judge_terms.Goals as goal
 
-pub returns-then-not-few_letters : goal.returns-then-not-few_letters
-returns-then-not-few_letters c = many_letters c.few_letters.ensures.0 (ap not c.if-not-few_letters.true)
+some_byte : (n : ℕ) → eqb n 0 ≡ false → 0 < n
+some_byte n e = grind arith
 
-pub returns-then-s-from : goal.returns-then-s-from
-returns-then-s-from c = no_step c.few_letters.ensures.0 (ap not c.if-not-few_letters.false) c.if-s-from.true
+pub returns-then-not-few_letters : goal.returns-then-not-few_letters
+returns-then-not-few_letters c =
+    let F = rw (c.numbers.ensures.is, c.numbers-2.ensures.is) at c.few_letters.ensures in
+    many_letters F c.if-not-few_letters.true
+
+pub returns-then-is_empty : goal.returns-then-is_empty
+returns-then-is_empty c =
+    let F = rw (c.numbers.ensures.is, c.numbers-2.ensures.is) at c.few_letters.ensures in
+    no_step F c.if-not-few_letters.false ((Decides-eqb (length c.args.steps.text.now) 0).0 (sym c.is_empty.ensures ∙ c.if-is_empty.true))
 
 pub returns-then-not-leads : goal.returns-then-not-leads
-returns-then-not-leads c = not_led c.few_letters.ensures.0 (ap not c.if-not-few_letters.false) c.if-s-from.false c.leads.ensures (ap not c.if-not-leads.true)
+returns-then-not-leads c =
+    let F = rw (c.numbers.ensures.is, c.numbers-2.ensures.is) at c.few_letters.ensures in
+    not_led F c.if-not-few_letters.false (some_byte _ (sym c.is_empty.ensures ∙ c.if-is_empty.false))
+    (rw c.numbers-3.ensures.is at c.leads.ensures) c.if-not-leads.true
 
 pub returns : goal.returns
-returns c = all_led c.few_letters.ensures.0 (ap not c.if-not-few_letters.false) c.if-s-from.false c.leads.ensures (ap not c.if-not-leads.false)
+returns c =
+    let F = rw (c.numbers.ensures.is, c.numbers-2.ensures.is) at c.few_letters.ensures in
+    all_led F c.if-not-few_letters.false (some_byte _ (sym c.is_empty.ensures ∙ c.if-is_empty.false))
+    (rw c.numbers-3.ensures.is at c.leads.ensures) c.if-not-leads.false

@@ -1,31 +1,13 @@
--- `direction_in` meets its contract: one of two names, or none.
-use mathlib.Core.Path.{subst}
-use lib.Seq.{slice}
-use Rattle.search.specs.Line.{forward, back}
-use Rattle.text.specs.Bytes.{ascii}
-use Rattle.text.specs.StepText.{direction}
-use Rattle.checking.specs.LineRead.{Spells}
-use Rattle.checking.proofs.Spelling.{forward_known, back_known, direction_unknown}
+-- `direction_in` meets its contract: the first direction with the name.
+use Rattle.std.proofs.Common.{rules, tests, [], ◌∷◌}
+use Rattle.std.proofs.lemmas.Iterator.{YieldsList-from_slice}
+use Rattle.std.proofs.lemmas.Iterator.Consumers.{YieldsList-from_copied}
+use Rattle.std.proofs.lemmas.Iterator.Search.{find_from_yields_List}
+use Rattle.search.specs.declared.search.Direction.TheVariants.{Forward, Back}
+use Rattle.checking.proofs.Spelling.{direction_named, direction_told}
 use Rattle.checking.proofs.line.direction_in.Goals as goal
 
-pub returns-then-spells : goal.returns-then-spells
-unfolding direction ascii
-returns-then-spells c =
-    let a = c.args in
-    let bs = slice a.from a.to a.s.now in
-    forward_known bs (subst (λ t. Spells bs (direction forward) t) c.if-spells.true c.spells.ensures)
-
-pub returns-then-spells-2 : goal.returns-then-spells-2
-unfolding direction ascii
-returns-then-spells-2 c =
-    let a = c.args in
-    let bs = slice a.from a.to a.s.now in
-    back_known bs (subst (λ t. Spells bs (direction back) t) c.if-spells-2.true c.spells-2.ensures)
-
 pub returns : goal.returns
-unfolding direction ascii
 returns c =
-    let a = c.args in
-    let bs = slice a.from a.to a.s.now in
-    direction_unknown bs (subst (λ t. Spells bs (direction forward) t) c.if-spells.false c.spells.ensures)
-    (subst (λ t. Spells bs (direction back) t) c.if-spells-2.false c.spells-2.ensures)
+    let bs = c.args.text.now in
+    direction_told bs c.find.result (find_from_yields_List (direction_named bs) _ _ c.find.result c.find.ensures.ran (YieldsList-from_copied (YieldsList-from_slice (Forward ∷ Back ∷ []) cc)) (λ x b q k. search (rules, tests)))

@@ -1,20 +1,19 @@
--- `is_place` meets its contract: nothing, a dot and what follows it, or sides.
-use native.Mathlib.Omega.{arith}
-use mathlib.Core.Path.{◌∙◌}
-use Rattle.checking.proofs.Placed.{no_place, place_dot, place_sides}
+-- `is_place` meets its contract: nothing, a dot alone, or sides.
+use Rattle.std.proofs.Common.{◌∙◌, rules, tests, arith}
+use Rattle.std.proofs.lemmas.Iterator.{YieldsList-from_slice}
+use Rattle.std.proofs.lemmas.Iterator.Search.{all_from_yields_List}
+use Rattle.text.proofs.Lines.{to_end}
+use Rattle.checking.proofs.Placed.{side, no_place, root_place, side_place}
 use Rattle.checking.proofs.line.is_place.Goals as goal
 
-pub returns-then-to-from : goal.returns-then-to-from
-returns-then-to-from c =
-    let a = c.args in
-    no_place a.s.now a.from a.to c.if-to-from.true c.requires.0
+pub returns-in-empty : goal.returns-in-empty
+returns-in-empty c = no_place c.args.text.now (omega arith)
 
-pub returns-then-s-from-eq46 : goal.returns-then-s-from-eq46
-returns-then-s-from-eq46 c =
-    let a = c.args in
-    place_dot a.s.now a.from a.to (omega arith) c.requires.1 c.if-s-from-eq46.true
+pub returns-in-46 : goal.returns-in-46
+returns-in-46 c = let s = c.args.text.now in c.is_empty.ensures ∙ rw (to_end s 1) (root_place s (omega arith) (omega arith))
 
-pub returns : goal.returns
-returns c =
-    let a = c.args in
-    c.are_sides.ensures ∙ place_sides a.s.now a.from a.to (omega arith) c.requires.1 c.if-s-from-eq46.false
+pub returns-in_default : goal.returns-in_default
+returns-in_default c =
+    let s = c.args.text.now in
+    all_from_yields_List side _ _ c.all.result c.all.ensures.ran (YieldsList-from_slice s cc) (λ x b q k. search (rules, tests))
+    ∙ side_place s (omega arith) (λ e. omega (arith, e))

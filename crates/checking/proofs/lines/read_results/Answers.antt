@@ -1,0 +1,33 @@
+use Rattle.std.proofs.Common.{arith}
+use Rattle.text.specs.declared.refusal.Refusal.TheVariants.{NoTerm}
+use Rattle.checking.proofs.Refused.{refused_by}
+use Rattle.checking.proofs.Results.{at_first, all_read, foul_result, small_result, large_result}
+use Rattle.checking.proofs.lines.read_results.Goals as goal
+
+pub loop-step-init : goal.loop-step-init
+loop-step-init g c = (tt, tt, rw c.into_iter-step-iterator.ensures.into_iter_gives (at_first c.args.steps.text.now))
+
+pub read-requires : goal.read-requires
+read-requires g c = omega (arith, c.in-Some.ensures.steps.shorter, c.loop-step.step-iterator.short)
+
+pub returns-in_err-run : goal.returns-in_err-run
+returns-in_err-run g c =
+    let q = refused_by c.read.result NoTerm c.from_residual.result c.from_residual.ensures.1 c.in_err-run.ensures.value in
+    rw q.1 (foul_result c.loop-step.invariant.2 c.in-Some.ensures.steps (rw q.0 at c.read.ensures))
+
+pub loop-step-preserved-then-run-gt-LARGEST : goal.loop-step-preserved-then-run-gt-LARGEST
+loop-step-preserved-then-run-gt-LARGEST g c = (
+  tt,
+  tt,
+  large_result c.loop-step.invariant.2 c.in-Some.ensures.steps (rw c.in_ok-run.ensures.ok_part at c.read.ensures) c.if-run-gt-LARGEST.true,
+)
+
+pub loop-step-preserved : goal.loop-step-preserved
+loop-step-preserved g c = (
+  tt,
+  tt,
+  small_result c.loop-step.invariant.2 c.in-Some.ensures.steps (rw c.in_ok-run.ensures.ok_part at c.read.ensures) c.if-run-gt-LARGEST.false,
+)
+
+pub returns : goal.returns
+returns g c = all_read c.loop-step.invariant.2 c.in-None.ensures.steps

@@ -1,0 +1,24 @@
+// Terms read one at a time.
+ghost use Rattle.std.specs.Prelude.{◌≡◌, ◌<◌, length, MatchOption};
+ghost use Rattle.std.proofs.Math.Option.{none};
+ghost use Rattle.text.specs.TermText.{read_term};
+ghost use Rattle.checking.specs.LinesRead.{ReadsTerm};
+
+use text::job::side::read_term;
+
+// Room for the items of any term in a text of at most `BYTES` bytes. A text needs it once, however many lines it has.
+#[derive(Drop)]
+pub struct Reader<const BYTES: usize> {
+    pub numbers: [u32; BYTES],
+}
+
+impl<const BYTES: usize> Reader<BYTES> {
+    // The run of the term that a text spells.
+    pub fn read(&mut self, text: &[u8]) -> Option<&[u32]>
+        requires { length text.now < BYTES }
+        ensures { MatchOption result (read_term text.now ≡ none) (λ run. ReadsTerm text.now run.now) }
+    {
+        let n = read_term(text, &mut self.numbers)?;
+        Some(&self.numbers[..n])
+    }
+}
