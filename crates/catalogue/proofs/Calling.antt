@@ -1,18 +1,19 @@
 -- Whole calls: what is promised whatever the buffer held, and on a catalogue.
-use Rattle.std.proofs.Common.{◌≡◌, ℕ, ◌+◌, ◌*◌, ◌<◌, ◌≤◌, ◌⊎◌, List, length, get_or, take, sym, refl, ◌∙◌, ⊎_elim, arith, length-take}
+use Rattle.std.proofs.Common.{◌≡◌, ℕ, ◌+◌, ◌*◌, ◌<◌, ◌≤◌, ◌⊎◌, List, length, get_or, sym, refl, ◌∙◌, ⊎_elim, arith, true, false, Option, Some, None}
+use Rattle.std.specs.Option.{is_some}
+use Rattle.std.proofs.lemmas.Bool.{false≢true}
 use Rattle.terms.specs.Lists.{◌∈◌, here, there, in_left, in_right}
 use Rattle.search.specs.Runs.{Shows}
 use Rattle.words.specs.Spelled.{SLOT}
 use Rattle.words.specs.Multiply.{MOST}
-use Rattle.words.specs.declared.candidate.Lengths.{Lengths}
+use Rattle.words.specs.Candidate.{Sides}
 use Rattle.text.specs.Answer.{refused, accepted, ◌>>=◌}
 use Rattle.catalogue.specs.Catalogue.{PLACES, Entry, Catalogue}
 use Rattle.catalogue.specs.Calls.{Call, puts, withdraws, call, Sound}
 use Rattle.catalogue.specs.Texts.{Kind, same_kind, Text, put_text, withdraw_text, read_put, read_withdrawal, read_call, sent}
 use Rattle.catalogue.specs.Stored.{ROOM, COUNT, LENGTH, Holds, Elsewhere, read_numbers, late_numbers, call_numbers, Harmless, Step, SentCall}
 use Rattle.catalogue.specs.Theory.Numbers.{read_call_numbered, numbers_low}
-use Rattle.catalogue.specs.Promises.{number_of, Seeks, TakesPut, PutsAt, MakesLists, PutsLists, PutsEquation, TakesOut, WithdrawsEntry}
-use Rattle.catalogue.specs.declared.places.Place.TheVariants.{At, Nowhere}
+use Rattle.catalogue.specs.Promises.{Seeks, TakesPut, MakesLists, PutsLists, PutsEquation, TakesOut, WithdrawsEntry}
 use Rattle.catalogue.specs.declared.kind.Key.{Key}
 use Rattle.catalogue.specs.declared.read.Put.{Put}
 use Rattle.catalogue.specs.Theory.Steps.{refused_step, put_listed, put_full, put_step, withdraw_unlisted, withdraw_step}
@@ -32,45 +33,42 @@ accepted_harmless {k = k} inside E e =
 -- ---- a put
 
 -- the lists were made
-module _ (cat : List ℕ) (k n : ℕ) (inside : k < PLACES) (key : Key) {xs ys u v u' v' : List ℕ} {m : Lengths} (M : MakesLists key xs ys u v m u' v')
-    (room-u : SLOT * MOST ≤ length u) (room-v : SLOT * MOST ≤ length v) (kept-u : length u' ≡ length u) (kept-v : length v' ≡ length v) where
+module _ (cat : List ℕ) (k n : ℕ) (inside : k < PLACES) (key : Key) {xs ys : List ℕ} {room : ℕ} {e : Sides} (M : MakesLists key xs ys room e)
+    (enough : SLOT * MOST ≤ room) where
   -- no place has room for them
-  pub lists_long : (ROOM < m.left) ⊎ (ROOM < m.right) → PutsLists cat k n key xs ys 15 cat
+  pub lists_long : (ROOM < length e.left) ⊎ (ROOM < length e.right) → PutsLists cat k n key xs ys 15 cat
   lists_long h =
       record {
         harmless = refused_harmless cat 15 (omega arith) (there (here refl));
-        exact = λ j p q F.
-            let L = M.exact j p q F room-u room-v in
-            absurd
-            (⊎_elim (λ l. omega (arith, simp length-take at L.left_room))
-            (λ l. omega (arith, simp length-take at L.right_room)) h);
-      }
-
-  pub lists_put : {r : ℕ} {cat' : List ℕ} → PutsAt cat k n (number_of key) (take m.left u') (take m.right v') r cat' → PutsLists cat k n key xs ys r cat'
-  lists_put P =
-      record {
-        harmless = accepted_harmless inside P.elsewhere P.returns;
-        exact = λ j p q F. record { left = take m.left u'; right = take m.right v'; listed = M.exact j p q F room-u room-v; stored = P };
+        exact = λ j p q F. let L = M.exact j p q F enough in absurd (⊎_elim (λ l. omega (arith, L.left_room)) (λ l. omega (arith, L.right_room)) h);
       }
 
 module _ (cat : List ℕ) (n : ℕ) (low : 0 < n) where
   module _ (key : Key) (xs ys : List ℕ) where
-    pub put_again : {k : ℕ} → Seeks cat n (At k) → PutsEquation cat n key xs ys 13 cat
-    put_again {k} found =
+    pub put_again : (r : Option ℕ) → Seeks cat n r → true ≡ is_some r → PutsEquation cat n key xs ys 13 cat
+    put_again None found e = absurd (false≢true (sym e))
+    put_again (Some k) found e =
         record {
           harmless = refused_harmless cat 13 (omega arith) (here refl);
           step = λ j p q F c H S. refused_step H (put_listed H S _ k low found);
         }
 
-    module _ (new : Seeks cat n Nowhere) where
-      pub put_nowhere : Seeks cat 0 Nowhere → PutsEquation cat n key xs ys 15 cat
+    module _ (r : Option ℕ) (searched : Seeks cat n r) (absent : false ≡ is_some r) where
+      new : Seeks cat n None
+      new = go r searched absent
+        where
+          go : (r : Option ℕ) → Seeks cat n r → false ≡ is_some r → Seeks cat n None
+          go None h e = h
+          go (Some k) h e = absurd (false≢true e)
+
+      pub put_nowhere : Seeks cat 0 None → PutsEquation cat n key xs ys 15 cat
       put_nowhere full =
           record {
             harmless = refused_harmless cat 15 (omega arith) (there (here refl));
             step = λ j p q F c H S. refused_step H (put_full H S _ new full);
           }
 
-      pub put_there : (k : ℕ) → Seeks cat 0 (At k) → {r : ℕ} {cat' : List ℕ} → PutsLists cat k n key xs ys r cat' → PutsEquation cat n key xs ys r cat'
+      pub put_there : (k : ℕ) → Seeks cat 0 (Some k) → {r : ℕ} {cat' : List ℕ} → PutsLists cat k n key xs ys r cat' → PutsEquation cat n key xs ys r cat'
       put_there k free P =
           record {
             harmless = P.harmless;
@@ -79,11 +77,11 @@ module _ (cat : List ℕ) (n : ℕ) (low : 0 < n) where
 
   -- ---- a withdrawal
 
-  pub not_there : Seeks cat n Nowhere → WithdrawsEntry cat n 14 cat
+  pub not_there : Seeks cat n None → WithdrawsEntry cat n 14 cat
   not_there out =
       record { harmless = refused_harmless cat 14 (omega arith) (here refl); step = λ c H S. refused_step H (withdraw_unlisted H S n out) }
 
-  pub taken_there : (k : ℕ) → Seeks cat n (At k) → {r : ℕ} {cat' : List ℕ} → TakesOut cat k r cat' → WithdrawsEntry cat n r cat'
+  pub taken_there : (k : ℕ) → Seeks cat n (Some k) → {r : ℕ} {cat' : List ℕ} → TakesOut cat k r cat' → WithdrawsEntry cat n r cat'
   taken_there k found W =
       record { harmless = accepted_harmless found.0 W.elsewhere W.returns; step = λ c H S. withdraw_step H S n k low found W }
 
@@ -144,7 +142,7 @@ module _ (bs : List ℕ) where
   unfolding read_call ◌>>=◌
   put_read f = rw f
 
-  pub withdrawal_refused : read_withdrawal bs ≡ refused 1 → read_call (withdraw_text bs) ≡ refused 1
+  pub withdrawal_refused : {n : ℕ} → read_withdrawal bs ≡ refused n → read_call (withdraw_text bs) ≡ refused n
   unfolding read_call ◌>>=◌
   withdrawal_refused e = rw e
 
@@ -152,10 +150,10 @@ module _ (bs : List ℕ) where
   unfolding read_call ◌>>=◌
   withdrawal_read e = rw e
 
-pub put_sent : (bs cat : List ℕ) → length cat ≡ LENGTH → {p : Put} {left rights xs ys : List ℕ} → TakesPut bs p left rights → xs ≡ take p.left left → Shows rights 0 ys
+pub put_sent : (bs cat : List ℕ) → length cat ≡ LENGTH → {p : Put} {rights xs ys : List ℕ} → TakesPut bs p rights → xs ≡ p.left → Shows rights 0 ys
     → {r : ℕ} {cat' : List ℕ} → PutsEquation cat p.number p.key xs ys r cat' → SentCall (put_text bs) cat r cat'
 unfolding call
-put_sent bs cat whole {p} {left} T e f P =
+put_sent bs cat whole T e f P =
     text_read (put_text bs) cat whole (put_read bs T.read) P.harmless
     (P.step T.job (rw e T.left_run) (f.exact T.job.right T.right_run) T.fit)
 

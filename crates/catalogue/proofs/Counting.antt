@@ -1,5 +1,5 @@
 -- The kept count set anew, behind a place that was written to.
-use Rattle.std.proofs.Common.{◌≡◌, ℕ, ◌+◌, ◌*◌, ◌%◌, ◌^◌, ◌<◌, ◌≤◌, List, length, get_or, set, sym, ap, ◌∙◌, subst, arith, length-set, get_or-set_other, get_or-set_same}
+use Rattle.std.proofs.Common.{◌≡◌, ℕ, ◌+◌, ◌*◌, ◌<◌, ◌≤◌, ◌⊎◌, List, length, get_or, set, sym, ap, ◌∙◌, subst, ⊎_elim, arith, length-set, get_or-set_other, get_or-set_same, Some, None}
 use Rattle.catalogue.specs.Catalogue.{PLACES}
 use Rattle.catalogue.specs.Stored.{ROOM, PLACE, COUNT, LENGTH, number_at, KindAt, Elsewhere}
 use Rattle.catalogue.specs.Promises.{AnotherOf, Stores, PutsAt, TakesOut}
@@ -31,29 +31,23 @@ module _ {cat cat₁ : List ℕ} {k : ℕ} (whole : length cat ≡ LENGTH) (insi
   counted_count : get_or (set cat₁ COUNT m) COUNT 0 ≡ m
   counted_count = get_or-set_same cat₁ COUNT m 0 (omega (arith, E.size))
 
--- a count raised and lowered by one, where that does not wrap
-pub one_more : (a r : ℕ) → r ≡ (a + 1) % 2 ^ 32 → a < 4294967295 → r ≡ a + 1
-one_more a r e h = omega arith
-
-pub one_less : (a r : ℕ) → (r + 1) % 2 ^ 32 ≡ a → r < 4294967296 → 0 < a → r + 1 ≡ a
-one_less a r e h p = omega arith
-
 -- an entry was stored, and the count set
 pub put_counted : {cat cat₁ : List ℕ} {k n key : ℕ} {left right : List ℕ} → length cat ≡ LENGTH → k < PLACES → length left ≤ ROOM → length right ≤ ROOM
-    → Stores cat k n key left right cat₁ → (m : ℕ) → (AnotherOf cat PLACES key left right → m ≡ get_or cat COUNT 0)
-    → ((AnotherOf cat PLACES key left right → ⊥) → get_or cat COUNT 0 < 4294967295 → m ≡ get_or cat COUNT 0 + 1)
-    → {r : ℕ} {cat₂ : List ℕ} → (r ≡ 100 + m) × (cat₂ ≡ set cat₁ COUNT m) → PutsAt cat k n key left right r cat₂
-put_counted {cat} {cat₁} {k} {n} {key} {left} {right} whole inside left_room right_room S m known new {r} (e, f) =
+    → Stores cat k n key left right cat₁ → (m : ℕ)
+    → (AnotherOf cat None key left right × (m ≡ get_or cat COUNT 0))
+    ⊎ ((AnotherOf cat None key left right → ⊥) × (get_or cat COUNT 0 < 4294967295 → m ≡ get_or cat COUNT 0 + 1))
+    → {r : ℕ} {cat₂ : List ℕ} → (r ≡ m) × (cat₂ ≡ set cat₁ COUNT m) → PutsAt cat k n key left right (100 + r) cat₂
+put_counted {cat} {cat₁} {k} {n} {key} {left} {right} whole inside left_room right_room S m counted {r} (e, f) =
     let E = S.elsewhere in
     let c = counted_count whole inside E m in
-    subst (PutsAt cat k n key left right r) (sym f)
+    subst (PutsAt cat k n key left right (100 + r)) (sym f)
     (record {
       elsewhere = counted_elsewhere whole inside E m;
       number = counted_number whole inside E m ∙ S.number;
       kind = counted_kind whole inside E m left_room right_room S.kind;
-      known = λ a. c ∙ known a;
-      new = λ a l. c ∙ new a l;
-      returns = e ∙ ap (λ n. 100 + n) (sym c);
+      known = λ a. c ∙ ⊎_elim (λ h. h.1) (λ h. absurd (h.0 a)) counted;
+      new = λ a l. c ∙ ⊎_elim (λ h. absurd (a h.0)) (λ h. h.1 l) counted;
+      returns = ap (λ n. 100 + n) (e ∙ sym c);
     })
 
 -- a place was freed, and the count set
@@ -67,18 +61,18 @@ freed cat k =
     }
 
 pub taken_counted : {cat : List ℕ} {k : ℕ} → length cat ≡ LENGTH → k < PLACES → (m : ℕ)
-    → ((key : ℕ) (left right : List ℕ) → KindAt cat k key left right → length left ≤ ROOM → length right ≤ ROOM → AnotherOf cat k key left right → m ≡ get_or cat COUNT 0)
-    → ((key : ℕ) (left right : List ℕ) → KindAt cat k key left right → length left ≤ ROOM → length right ≤ ROOM → (AnotherOf cat k key left right → ⊥)
-    → 0 < get_or cat COUNT 0 → m + 1 ≡ get_or cat COUNT 0)
-    → {r : ℕ} {cat₂ : List ℕ} → (r ≡ 100 + m) × (cat₂ ≡ set (set cat (PLACE * k) 0) COUNT m) → TakesOut cat k r cat₂
-taken_counted {cat} {k} whole inside m shared last {r} (e, f) =
+    → ((key : ℕ) (left right : List ℕ) → KindAt cat k key left right → length left ≤ ROOM → length right ≤ ROOM
+    → (AnotherOf cat (Some k) key left right × (m ≡ get_or cat COUNT 0))
+    ⊎ ((AnotherOf cat (Some k) key left right → ⊥) × (0 < get_or cat COUNT 0 → m + 1 ≡ get_or cat COUNT 0)))
+    → {r : ℕ} {cat₂ : List ℕ} → (r ≡ m) × (cat₂ ≡ set (set cat (PLACE * k) 0) COUNT m) → TakesOut cat k (100 + r) cat₂
+taken_counted {cat} {k} whole inside m counted {r} (e, f) =
     let E = freed cat k in
     let c = counted_count whole inside E m in
-    subst (TakesOut cat k r) (sym f)
+    subst (TakesOut cat k (100 + r)) (sym f)
     (record {
       elsewhere = counted_elsewhere whole inside E m;
       free = counted_number whole inside E m ∙ get_or-set_same cat (PLACE * k) 0 0 (omega arith);
-      shared = λ key left right K l h a. c ∙ shared key left right K l h a;
-      last = λ key left right K l h a p. ap (λ n. n + 1) c ∙ last key left right K l h a p;
-      returns = e ∙ ap (λ n. 100 + n) (sym c);
+      shared = λ key left right K l h a. c ∙ ⊎_elim (λ q. q.1) (λ q. absurd (q.0 a)) (counted key left right K l h);
+      last = λ key left right K l h a p. ap (λ n. n + 1) c ∙ ⊎_elim (λ q. absurd (a q.0)) (λ q. q.1 p) (counted key left right K l h);
+      returns = ap (λ n. 100 + n) (e ∙ sym c);
     })

@@ -2,7 +2,6 @@
 pub mod Walking
 pub mod Comparing
 pub mod Reading
-pub mod Storing
 pub mod Counting
 pub mod Making
 pub mod Calling

@@ -1,51 +1,51 @@
 -- The lists of an entry, as they are made.
-use Rattle.std.proofs.Common.{◌≡◌, ℕ, ◌≤◌, Bool, true, false, List, length, sym, ap, ◌∙◌, inl, inr, arith}
+use Rattle.std.proofs.Common.{◌≡◌, ℕ, ◌≤◌, Bool, true, false, List, [], length, sym, ap, ◌∙◌, inl, inr, arith}
 use lib.Dec.{compare_is_eq}
 use Rattle.terms.specs.Term.{Term, size}
 use Rattle.terms.specs.Held.{IsRun}
 use Rattle.words.specs.Words.{words, order_lists}
-use Rattle.words.specs.Candidate.{CanonicalTerms}
+use Rattle.words.specs.Candidate.{Sides, Keeps, CanonicalTerms}
 use Rattle.words.specs.WordLists.{CanonicalWords}
-use Rattle.words.specs.declared.candidate.Lengths.{Lengths}
 use Rattle.catalogue.specs.Texts.{lines_by}
-use Rattle.catalogue.specs.Promises.{MakesLists, MakesWordLists}
-use Rattle.catalogue.specs.declared.kind.Key.TheVariants.{Raw}
+use Rattle.catalogue.specs.Promises.{MakesLists}
+use Rattle.catalogue.specs.declared.kind.Key.TheVariants.{Raw, Words}
 use Rattle.catalogue.specs.Theory.Lists.{raw_lists, raw_room, agreed_lists, different_lists, words_room}
 
 -- whether the words of two terms agree
 abbrev Agree : (xs ys : List ℕ) → Bool → Type 0
 Agree xs ys b = (s t : Term) → IsRun xs s → IsRun ys t → size s ≤ 31 → size t ≤ 31 → b ≡ compare_is_eq (order_lists (words s) (words t))
 
-module _ {xs ys u v u' v' : List ℕ} where
+module _ {xs ys : List ℕ} {room : ℕ} {e : Sides} where
   -- the renamed sides
-  pub sides_made : {r : Lengths} → CanonicalTerms xs ys u v r u' v' → MakesLists Raw xs ys u v r u' v'
+  pub sides_made : CanonicalTerms xs ys room e → MakesLists Raw xs ys room e
   unfolding lines_by
   sides_made C =
       record {
-        exact = λ j p q F room-u room-v.
-            let (l, m) = C.exact j.left j.right p q F.small_left F.small_right F.few (omega arith) (omega arith) in
+        exact = λ j p q F enough.
+            let (l, m) = C.exact j.left j.right p q F.small_left F.small_right F.few (omega arith) in
             let (a, b) = raw_room F in
             record { lines = rw (l, m) (raw_lists F); left_room = omega (arith, ap length l); right_room = omega (arith, ap length m) };
       }
 
-  -- nothing where they do
-  pub nothing_made : (b : Bool) → Agree xs ys b → b ≡ true → MakesWordLists xs ys u v (record { left = 0; right = 0 }) u' v'
+  -- nothing where the words agree
+  pub nothing_made : (b : Bool) → Agree xs ys b → b ≡ true → Keeps [] [] room e → MakesLists Words xs ys room e
   unfolding lines_by
-  nothing_made b A e =
+  nothing_made b A h K =
       record {
-        exact = λ j p q F room-u room-v.
-            let same = sym (A j.left j.right p q F.small_left F.small_right) ∙ e in
-            record { lines = inl (agreed_lists (words j.left) (words j.right) same); left_room = omega arith; right_room = omega arith };
+        exact = λ j p q F enough.
+            let same = sym (A j.left j.right p q F.small_left F.small_right) ∙ h in
+            rw (K.exact 0 (record { first = omega arith; second = omega arith; sides = omega arith }))
+            (record { lines = inl (agreed_lists (words j.left) (words j.right) same); left_room = omega arith; right_room = omega arith });
       }
 
   -- otherwise the renamed lists of words
-  pub lists_made : {r : Lengths} (b : Bool) → Agree xs ys b → b ≡ false → CanonicalWords xs ys u v r u' v' → MakesWordLists xs ys u v r u' v'
+  pub lists_made : (b : Bool) → Agree xs ys b → b ≡ false → CanonicalWords xs ys room e → MakesLists Words xs ys room e
   unfolding lines_by
-  lists_made b A e C =
+  lists_made b A h C =
       record {
-        exact = λ j p q F room-u room-v.
-            let differ = sym (A j.left j.right p q F.small_left F.small_right) ∙ e in
-            let (l, m) = C.exact j.left j.right p q F.small_left F.small_right F.few room-u room-v in
+        exact = λ j p q F enough.
+            let differ = sym (A j.left j.right p q F.small_left F.small_right) ∙ h in
+            let (l, m) = C.exact j.left j.right p q F.small_left F.small_right F.few enough in
             let (a, b) = words_room F in
             record {
               lines = inr (rw (l, m) (different_lists (words j.left) (words j.right) differ));

@@ -1,29 +1,26 @@
 -- The texts of a put and of a withdrawal, line by line.
-use Rattle.std.proofs.Common.{◌≡◌, ℕ, ◌+◌, ◌-◌, ◌<◌, ◌≤◌, Bool, true, false, T, leb, List, [], ◌∷◌, ◌++◌, length, take, drop, sym, refl, ap, ◌∙◌, subst, arith, length-drop, drop_of_length-le, take_all, drop-cons, le-leb}
+use Rattle.std.proofs.Common.{◌≡◌, ℕ, ◌<◌, ◌≤◌, Bool, true, false, T, leb, List, [], ◌∷◌, length, sym, refl, ap, ◌∙◌, arith, le-leb}
 use mathlib.Core.Option.{Option, none, some, none-ne-some}
 use borrow.Author.Tests.{lt-leb}
 use Rattle.terms.specs.Theory.Reflects.{Reflects, both_reflect}
-use Rattle.text.specs.Bytes.{ascii, after, end, Split}
+use Rattle.text.specs.Bytes.{ascii, end, Split}
 use Rattle.text.specs.Layout.{keyed, Stated, limit_line}
-use Rattle.text.specs.LayoutRead.{LimitAt}
+use Rattle.text.specs.LayoutRead.{LimitAt, Unlimited}
+use Rattle.text.specs.Reading.{Valued}
 use Rattle.text.specs.Reading as reading
-use Rattle.text.specs.Answer.{Answer, refused, accepted, field, ◌>>=◌, require, or_refuse}
+use Rattle.text.specs.Answer.{Answer, refused, accepted, ◌>>=◌, require, or_refuse}
 use Rattle.text.specs.Job.{read_job}
-use Rattle.text.specs.Accepting.{ReadsJob}
-use Rattle.text.specs.declared.job.accept.Reading.{Reading}
-use Rattle.text.specs.declared.job.accept.Reading.TheVariants.{Refused, Accepted}
+use Rattle.text.specs.Accepting.{TakesOne}
 use Rattle.text.specs.declared.job.accept.Read.{Read}
-use Rattle.text.specs.Theory.Keyed.{keyed_field, after_key, after_only, end_only, keyed_parts}
+use Rattle.text.specs.Theory.Keyed.{end_only}
 use Rattle.text.specs.Theory.StepRead.{which_only}
 use Rattle.text.specs.Theory.JobText.{job_accepted}
 use Rattle.catalogue.specs.Catalogue.{Entry}
 use Rattle.catalogue.specs.Texts.{Kind, key_name, read_key, in_catalogue, read_put, read_withdrawal, lines_by}
 use Rattle.catalogue.specs.Texts as texts
-use Rattle.catalogue.specs.Theory.Written.{printed_key, key_read}
-use Rattle.catalogue.specs.Promises.{key_of, entry, NumberAt, NumberIn, KeyAt, KeyIn, TakesPut}
+use Rattle.catalogue.specs.Theory.Written.{key_read}
+use Rattle.catalogue.specs.Promises.{key_of, entry, NumberAt, Unnumbered, KeyAt, Unkeyed, TakesPut}
 use Rattle.catalogue.specs.declared.kind.Key.{Key}
-use Rattle.catalogue.specs.declared.read.NumberLine.TheVariants.{Wrong}
-use Rattle.catalogue.specs.declared.read.KeyLine.TheVariants.{Unknown}
 
 -- ---- the number
 
@@ -46,59 +43,51 @@ range_told n t = go (in_catalogue n) (in_range n) t
     go false h t = absurd t
 
 module _ (s : List ℕ) where
-  pub no_number : limit_line "number=" s ≡ none → NumberIn s Wrong
-  no_number e m f t = absurd (none-ne-some m (sym e ∙ f))
+  pub no_number : Unlimited s (ascii "number=") → Unnumbered s
+  no_number U m f t = absurd (none-ne-some m (sym (U "number=" refl) ∙ f))
 
-  module _ {n next : ℕ} (L : LimitAt s 0 (ascii "number=") n next) where
+  module _ {n : ℕ} {rest : List ℕ} (L : LimitAt s (ascii "number=") n rest) where
     -- the number that stands there, whatever it is
     stated : (m : Stated) → limit_line "number=" s ≡ some m → m.number ≡ L.number
     stated m f = let e = sym f ∙ L.parts "number=" refl in cc
 
-    pub number_out : (1 ≤ n → n ≤ 999 → ⊥) → NumberIn s Wrong
+    pub number_out : (1 ≤ n → n ≤ 999 → ⊥) → Unnumbered s
     number_out h m f t =
         let (low, high) = range_told m.number t in
         let e = stated m f in
         h (omega (arith, e, L.is)) (omega (arith, e, L.is))
 
-    pub number_there : 1 ≤ n → n ≤ 999 → NumberAt s n next
+    pub number_there : 1 ≤ n → n ≤ 999 → NumberAt s n rest
     number_there low high =
         let e : L.number ≡ n = omega (arith, L.is) in
-        record { ends = L.ends; low = low; high = high; line = L.parts "number=" refl ∙ ap (λ k. some (record { number = k; rest = drop next s })) e }
+        record { low = low; high = high; line = L.parts "number=" refl ∙ ap (λ k. some (record { number = k; rest = rest })) e }
 
 -- ---- the key
 
--- the whole line of a key
-abbrev pub key_line : texts.Key → List ℕ
-key_line k = field "key=" (key_name k)
+module _ (s : List ℕ) where
+  pub no_value : reading.Unkeyed s (ascii "key=") → Unkeyed s
+  no_value U k e = absurd (none-ne-some k (sym (U "key=" refl) ∙ e))
 
-module _ (s : List ℕ) (from : ℕ) where
-  -- a key's line stands at the position
-  pub key_there : (key : Key) → reading.Key s from (key_line (key_of key)) → KeyAt s from key (from + length (key_line (key_of key)))
-  key_there key K =
-      record {
-        ends = K.ends;
-        value = key_name (key_of key);
-        line =
-            ap (keyed "key=") (after_only (key_line (key_of key)) (drop from s) K.rest)
-            ∙ keyed_field "key=" (key_name (key_of key)) (drop (from + length (key_line (key_of key))) s) (printed_key (key_of key));
-        read = key_read (key_of key);
-      }
+  module _ {value rest : List ℕ} (V : Valued s (ascii "key=") value rest) where
+    -- the value is a key's name
+    pub key_there : (key : Key) → value ≡ key_name (key_of key) → KeyAt s key rest
+    key_there key e = record { value = value; line = V.parts "key=" refl; read = ap read_key e ∙ key_read (key_of key) }
 
-  -- neither key's line does
-  pub key_unknown : after (key_line texts.raw) (drop from s) ≡ none → after (key_line texts.worded) (drop from s) ≡ none → KeyIn s from Unknown
-  unfolding read_key
-  key_unknown no-raw no_words k e = go (read_key k.front) refl
-    where
-      absent : (key : texts.Key) → after (key_line key) (drop from s) ≡ none
-      absent texts.raw = no-raw
-      absent texts.worded = no_words
+    -- it is neither key's
+    pub key_unknown : (value ≡ key_name texts.raw → ⊥) → (value ≡ key_name texts.worded → ⊥) → Unkeyed s
+    unfolding read_key
+    key_unknown no-raw no-words k e = go (read_key k.front) refl
+      where
+        same : k.front ≡ value
+        same = let f = sym e ∙ V.parts "key=" refl in cc
 
-      go : (o : Option texts.Key) → read_key k.front ≡ o → read_key k.front ≡ none
-      go none f = f
-      go (some key) f =
-          let value = which_only key_name (texts.raw ∷ texts.worded ∷ []) k.front f in
-          let line : drop from s ≡ key_line key ++ k.rest = (keyed_parts "key=" (drop from s) e).parts ∙ ap (λ v. field "key=" v ++ k.rest) value in
-          absurd (none-ne-some k.rest (sym (absent key) ∙ ap (after (key_line key)) line ∙ after_key (key_line key) k.rest))
+        other : (key : texts.Key) → value ≡ key_name key → ⊥
+        other texts.raw = no-raw
+        other texts.worded = no-words
+
+        go : (o : Option texts.Key) → read_key k.front ≡ o → read_key k.front ≡ none
+        go none f = f
+        go (some key) f = absurd (other key (sym same ∙ which_only key_name (texts.raw ∷ texts.worded ∷ []) k.front f))
 
 -- ---- the whole texts
 
@@ -152,6 +141,17 @@ module _ {A B : Type 0} (f : A → Answer B) where
   unfolding ◌>>=◌ or_refuse
   found o x e = rw e
 
+-- nothing follows, or something
+ended : (n : ℕ) (bs : List ℕ) → length bs < 1 → end n bs ≡ some n
+unfolding end
+ended n [] h = refl
+ended n (b ∷ bs) h = absurd (omega arith)
+
+not_ended : (n : ℕ) (bs : List ℕ) → 1 ≤ length bs → end n bs ≡ none
+unfolding end
+not_ended n [] h = absurd (omega arith)
+not_ended n (b ∷ bs) h = refl
+
 module _ (s : List ℕ) where
   pub long_put : 1024 < length s → read_put s ≡ refused 1
   long_put h = put_staged s ∙ failed (λ _. put_line s) _ (lt-leb (length s) 1024 h)
@@ -167,7 +167,7 @@ module _ (s : List ℕ) where
     withdrawal_from e = withdrawal_staged s ∙ passed (λ _. withdrawal_line s) _ (le-leb (length s) 1024 short) ∙ e
 
     -- no number from 1 to 999 is in the first line
-    module _ (W : NumberIn s Wrong) where
+    module _ (W : Unnumbered s) where
       out_of_range : (m : Stated) → limit_line "number=" s ≡ some m → in_catalogue m.number ≡ false
       out_of_range m e = go (in_catalogue m.number) refl
         where
@@ -196,63 +196,52 @@ module _ (s : List ℕ) where
           go none e = missing withdrawal_end _ e
           go (some m) e = found withdrawal_end _ m e ∙ go' m e (end m.number m.rest) refl
 
-    module _ {n second : ℕ} (N : NumberAt s n second) where
+    module _ {n : ℕ} {rest : List ℕ} (N : NumberAt s n rest) where
       -- what follows the number, where it is the last line, or not
-      rest_from : (o : Option ℕ) → end n (drop second s) ≡ o → withdrawal_line s ≡ ◌>>=◌ (or_refuse 1 o) withdrawal_range
+      rest_from : (o : Option ℕ) → end n rest ≡ o → withdrawal_line s ≡ ◌>>=◌ (or_refuse 1 o) withdrawal_range
       unfolding withdrawal_line withdrawal_end
       rest_from o e = found withdrawal_end _ _ N.line ∙ ap (λ o. ◌>>=◌ (or_refuse 1 o) withdrawal_range) e
 
-      pub more_behind : second < length s → read_withdrawal s ≡ refused 1
-      unfolding end
-      more_behind h = withdrawal_from (rest_from none (rw (drop-cons s second 0 h)) ∙ missing withdrawal_range none refl)
+      pub more_behind : 1 ≤ length rest → read_withdrawal s ≡ refused 1
+      more_behind h = withdrawal_from (rest_from none (not_ended n rest h) ∙ missing withdrawal_range none refl)
 
-      pub withdrawal_read : length s ≤ second → read_withdrawal s ≡ accepted n
-      unfolding withdrawal_range end
+      pub withdrawal_read : length rest < 1 → read_withdrawal s ≡ accepted n
+      unfolding withdrawal_range
       withdrawal_read h =
-          withdrawal_from
-          (rest_from (some n) (rw (drop_of_length-le s h)) ∙ found withdrawal_range (some n) n refl ∙ passed _ _ (range_true n N.low N.high))
+          withdrawal_from (rest_from (some n) (ended n rest h) ∙ found withdrawal_range (some n) n refl ∙ passed _ _ (range_true n N.low N.high))
 
-      key_from : {a : Answer (Entry Kind)} → put_key n (drop second s) ≡ a → read_put s ≡ a
+      key_from : {a : Answer (Entry Kind)} → put_key n rest ≡ a → read_put s ≡ a
       unfolding put_line put_number
       key_from e = put_from (found put_number _ _ N.line ∙ passed _ _ (range_true n N.low N.high) ∙ e)
 
-      pub no_key : KeyIn s second Unknown → read_put s ≡ refused 1
+      pub no_key : Unkeyed rest → read_put s ≡ refused 1
       unfolding put_key
-      no_key U = key_from (go (keyed "key=" (drop second s)) refl)
+      no_key U = key_from (go (keyed "key=" rest) refl)
         where
           behind : Split → Answer (Entry Kind)
           behind k = ◌>>=◌ (or_refuse 1 (read_key k.front)) λ key. put_job n key k.rest
 
-          go : (o : Option Split) → keyed "key=" (drop second s) ≡ o → put_key n (drop second s) ≡ refused 1
+          go : (o : Option Split) → keyed "key=" rest ≡ o → put_key n rest ≡ refused 1
           go none e = missing behind _ e
           go (some k) e = found behind _ k e ∙ missing (λ key. put_job n key k.rest) _ (U k e)
 
-      module _ {key : Key} {third : ℕ} (K : KeyAt s second key third) where
-        job_from : {a : Answer (Entry Kind)} → put_job n (key_of key) (drop third s) ≡ a → read_put s ≡ a
+      module _ {key : Key} {job : List ℕ} (K : KeyAt rest key job) where
+        job_from : {a : Answer (Entry Kind)} → put_job n (key_of key) job ≡ a → read_put s ≡ a
         unfolding put_key
-        job_from e = key_from (found _ _ _ K.line ∙ found (λ key. put_job n key (drop third s)) _ _ K.read ∙ e)
+        job_from e = key_from (found _ _ _ K.line ∙ found (λ key. put_job n key job) _ _ K.read ∙ e)
 
-        -- the job is what stands behind the key
-        rest_whole : take (length s - third) (drop third s) ≡ drop third s
-        rest_whole = take_all (length s - third) (drop third s) (simp length-drop (omega arith))
+        pub job_refused : {m : ℕ} → read_job job ≡ refused m → read_put s ≡ refused m
+        unfolding put_job ◌>>=◌
+        job_refused e = job_from (rw e)
 
-        module _ (left rights : List ℕ) (r : Reading) (R : ReadsJob (take (length s - third) (drop third s)) r left rights) where
-          job_read : ReadsJob (drop third s) r left rights
-          job_read = rw rest_whole at R
-
-          pub job_refused : {m : ℕ} → r ≡ Refused m → read_put s ≡ refused m
-          unfolding put_job ◌>>=◌
-          job_refused e = let f = subst (λ x. ReadsJob (drop third s) x left rights) e job_read in job_from (rw f)
-
-          pub job_taken : (j : Read) → r ≡ Accepted j → TakesPut s (record { number = n; key = key; left = j.left }) left rights
-          unfolding put_job ◌>>=◌
-          job_taken j e =
-              let o = subst (λ x. ReadsJob (drop third s) x left rights) e job_read in
-              record {
-                job = o.job;
-                fit = (rw o.accepted at (job_accepted (drop third s))).sides;
-                low = N.low;
-                read = job_from (rw o.accepted);
-                left_run = o.left_run;
-                right_run = o.right_run;
-              }
+        pub job_taken : {j : Read} {rights : List ℕ} → TakesOne (read_job job) j rights → TakesPut s (record { number = n; key = key; left = j.left }) rights
+        unfolding put_job ◌>>=◌
+        job_taken o =
+            record {
+              job = o.job;
+              fit = (rw o.accepted at (job_accepted job)).sides;
+              low = N.low;
+              read = job_from (rw o.accepted);
+              left_run = o.left_run;
+              right_run = o.right_run;
+            }

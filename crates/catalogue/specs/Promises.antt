@@ -1,11 +1,15 @@
 -- What the functions over the places, and those that read the texts, promise.
-use Rattle.std.specs.Prelude.{◌≡◌, ℕ, ◌+◌, ◌*◌, ◌<◌, ◌≤◌, Bool, T, ◌⊎◌, List, [], ◌∷◌, length, take, drop, ◌≢◌, slice_index, slice_index_or}
+use Rattle.std.specs.Prelude.{◌≡◌, ℕ, ◌+◌, ◌*◌, ◌<◌, ◌≤◌, Bool, T, ◌⊎◌, List, [], ◌∷◌, length, take, drop, ◌≢◌, slice_index, slice_index_or, Option, Some, None}
+use Rattle.std.specs.declared.result.Result.{Result}
+use Rattle.std.specs.declared.result.Result.TheVariants.{Ok, Err}
+use Rattle.text.specs.Refusal as refusals
+use Rattle.text.specs.declared.refusal.Refusal.{Refusal}
 use Rattle.std.proofs.Math.Option.{none, some}
 use Rattle.terms.specs.Held.{IsRun}
 use Rattle.terms.specs.Theory.Reflects.{Reflects}
 use Rattle.words.specs.Spelled.{SLOT}
 use Rattle.words.specs.Multiply.{MOST}
-use Rattle.words.specs.declared.candidate.Lengths.{Lengths}
+use Rattle.words.specs.Candidate.{Sides}
 use Rattle.search.specs.Runs.{Spells}
 use Rattle.text.specs.Bytes.{Split}
 use Rattle.text.specs.Layout.{keyed, Stated, limit_line}
@@ -16,19 +20,9 @@ use Rattle.catalogue.specs.Calls.{Sound}
 use Rattle.catalogue.specs.Texts.{raw, worded, read_key, Kind, same_kind, lines_by, in_catalogue, read_put, read_withdrawal}
 use Rattle.catalogue.specs.Texts as texts
 use Rattle.catalogue.specs.Stored.{ROOM, COUNT, key_number, Lines, number_at, KindAt, Holds, Elsewhere, Harmless, Step}
-use Rattle.catalogue.specs.declared.places.Place.{Place}
-use Rattle.catalogue.specs.declared.places.Place.TheVariants.{At, Nowhere}
 use Rattle.catalogue.specs.declared.kind.Key.{Key}
 use Rattle.catalogue.specs.declared.kind.Key.TheVariants.{Raw, Words}
-use Rattle.catalogue.specs.declared.read.NumberLine.{NumberLine}
-use Rattle.catalogue.specs.declared.read.NumberLine.TheVariants as number-line
-use Rattle.catalogue.specs.declared.read.KeyLine.{KeyLine}
-use Rattle.catalogue.specs.declared.read.KeyLine.TheVariants as key_line
 use Rattle.catalogue.specs.declared.read.Put.{Put}
-use Rattle.catalogue.specs.declared.read.PutRead.{PutRead}
-use Rattle.catalogue.specs.declared.read.PutRead.TheVariants as put_read
-use Rattle.catalogue.specs.declared.read.Withdrawal.{Withdrawal}
-use Rattle.catalogue.specs.declared.read.Withdrawal.TheVariants.{Of, Malformed}
 
 -- the key that the program's stands for, and its number
 abbrev pub key_of : Key → texts.Key
@@ -41,20 +35,20 @@ number_of key = key_number (key_of key)
 -- ---- the places
 
 -- of `place_of`
-abbrev pub Seeks : List ℕ → ℕ → Place → Type 0
-Seeks cat n (At k) = (k < PLACES) × (number_at cat k ≡ n) × ((j : ℕ) → j < k → number_at cat j ≢ n)
-Seeks cat n Nowhere = (j : ℕ) → j < PLACES → number_at cat j ≢ n
+abbrev pub Seeks : List ℕ → ℕ → Option ℕ → Type 0
+Seeks cat n (Some k) = (k < PLACES) × (number_at cat k ≡ n) × ((j : ℕ) → j < k → number_at cat j ≢ n)
+Seeks cat n None = (j : ℕ) → j < PLACES → number_at cat j ≢ n
 
 -- a list stands from one position on, with its length at another
 abbrev pub ListAt : List ℕ → (size from : ℕ) → List ℕ → Type 0
 ListAt cat size from list = (slice_index cat size ≡ length list) × (take (length list) (drop from cat) ≡ list)
 
--- place k is another than `but` and has an entry of the kind
-abbrev pub OtherOf : List ℕ → (but key : ℕ) → (left right : List ℕ) → ℕ → Type 0
-OtherOf cat but key left right k = (k ≢ but) × (number_at cat k ≢ 0) × KindAt cat k key left right
+-- place k is another than `but`, if one is named, and has an entry of the kind
+abbrev pub OtherOf : List ℕ → (but : Option ℕ) → (key : ℕ) → (left right : List ℕ) → ℕ → Type 0
+OtherOf cat but key left right k = (Some k ≢ but) × (number_at cat k ≢ 0) × KindAt cat k key left right
 
 -- a place other than `but` has an entry of the kind
-abbrev pub AnotherOf : List ℕ → (but key : ℕ) → (left right : List ℕ) → Type 0
+abbrev pub AnotherOf : List ℕ → (but : Option ℕ) → (key : ℕ) → (left right : List ℕ) → Type 0
 AnotherOf cat but key left right = (k : ℕ) × (k < PLACES) × OtherOf cat but key left right k
 
 -- of `store_list`: numbers stay but for the length and the room of the list
@@ -77,8 +71,8 @@ pub record PutsAt (cat : List ℕ) (k n key : ℕ) (left right : List ℕ) (r : 
   pub elsewhere : Elsewhere cat cat' k
   pub number : number_at cat' k ≡ n
   pub kind : KindAt cat' k key left right
-  pub known : AnotherOf cat PLACES key left right → slice_index cat' COUNT ≡ slice_index cat COUNT
-  pub new : (AnotherOf cat PLACES key left right → ⊥) → slice_index cat COUNT < 4294967295 → slice_index cat' COUNT ≡ slice_index cat COUNT + 1
+  pub known : AnotherOf cat None key left right → slice_index cat' COUNT ≡ slice_index cat COUNT
+  pub new : (AnotherOf cat None key left right → ⊥) → slice_index cat COUNT < 4294967295 → slice_index cat' COUNT ≡ slice_index cat COUNT + 1
   pub returns : r ≡ 100 + slice_index cat' COUNT
 
 -- two lists stand for the lines bs of a key, and places have room for them
@@ -91,13 +85,9 @@ abbrev pub entry : ℕ → texts.Key → (lines : List ℕ) → Entry Kind
 entry n key lines = record { number = n; kind = record { key = key; lines = lines } }
 
 -- of `lists_of`: xs and ys are the runs of an equation's sides
-pub record MakesLists (key : Key) (xs ys u v : List ℕ) (r : Lengths) (u' v' : List ℕ) : Type 0 where
-  pub exact : (j : Job) → IsRun xs j.left → IsRun ys j.right → Fit j.left j.right → SLOT * MOST ≤ length u → SLOT * MOST ≤ length v
-      → Listed (key_of key) (take r.left u') (take r.right v') (lines_by (key_of key) j)
-
--- of `word_lists`
-abbrev pub MakesWordLists : (xs ys u v : List ℕ) → Lengths → (u' v' : List ℕ) → Type 0
-MakesWordLists = MakesLists Words
+pub record MakesLists (key : Key) (xs ys : List ℕ) (room : ℕ) (e : Sides) : Type 0 where
+  pub exact : (j : Job) → IsRun xs j.left → IsRun ys j.right → Fit j.left j.right → SLOT * MOST ≤ room
+      → Listed (key_of key) e.left e.right (lines_by (key_of key) j)
 
 -- the entry of an equation is stored in place k by its lists
 pub record StoresJob (cat : List ℕ) (k n : ℕ) (key : Key) (j : Job) (r : ℕ) (cat' : List ℕ) : Type 0 where
@@ -122,16 +112,16 @@ pub record PutsEquation (cat : List ℕ) (n : ℕ) (key : Key) (xs ys : List ℕ
 -- of `is_shared`: whether another place has the kind that place k has
 abbrev pub Shares : List ℕ → ℕ → Bool → Type 0
 Shares cat k r = (key : ℕ) (left right : List ℕ) → KindAt cat k key left right → length left ≤ ROOM → length right ≤ ROOM
-    → Reflects (AnotherOf cat k key left right) r
+    → Reflects (AnotherOf cat (Some k) key left right) r
 
 -- of `take_out`: the kept count is one less where no other place has the kind, as far as there is one
 pub record TakesOut (cat : List ℕ) (k r : ℕ) (cat' : List ℕ) : Type 0 where
   pub elsewhere : Elsewhere cat cat' k
   pub free : number_at cat' k ≡ 0
   pub shared : (key : ℕ) (left right : List ℕ) → KindAt cat k key left right → length left ≤ ROOM → length right ≤ ROOM
-      → AnotherOf cat k key left right → slice_index cat' COUNT ≡ slice_index cat COUNT
+      → AnotherOf cat (Some k) key left right → slice_index cat' COUNT ≡ slice_index cat COUNT
   pub last : (key : ℕ) (left right : List ℕ) → KindAt cat k key left right → length left ≤ ROOM → length right ≤ ROOM
-      → (AnotherOf cat k key left right → ⊥) → 0 < slice_index cat COUNT → slice_index cat' COUNT + 1 ≡ slice_index cat COUNT
+      → (AnotherOf cat (Some k) key left right → ⊥) → 0 < slice_index cat COUNT → slice_index cat' COUNT + 1 ≡ slice_index cat COUNT
   pub returns : r ≡ 100 + slice_index cat' COUNT
 
 -- of `withdraw_entry`
@@ -141,45 +131,41 @@ pub record WithdrawsEntry (cat : List ℕ) (n r : ℕ) (cat' : List ℕ) : Type 
 
 -- ---- the texts
 
--- the first line has a number from 1 to 999, and the next line starts at `next`
-pub record NumberAt (s : List ℕ) (n next : ℕ) : Type 0 where
-  pub ends : next ≤ length s
+-- the first line has a number from 1 to 999, and the text goes on with `rest`
+pub record NumberAt (s : List ℕ) (n : ℕ) (rest : List ℕ) : Type 0 where
   pub low : 1 ≤ n
   pub high : n ≤ 999
-  pub line : limit_line "number=" s ≡ some (record { number = n; rest = drop next s })
+  pub line : limit_line "number=" s ≡ some (record { number = n; rest = rest })
 
--- of `number_line`
-abbrev pub NumberIn : List ℕ → NumberLine → Type 0
-NumberIn s (number-line.Is n next) = NumberAt s n next
-NumberIn s number-line.Wrong = (m : Stated) → limit_line "number=" s ≡ some m → T (in_catalogue m.number) → ⊥
+-- or it has none
+abbrev pub Unnumbered : List ℕ → Type 0
+Unnumbered s = (m : Stated) → limit_line "number=" s ≡ some m → T (in_catalogue m.number) → ⊥
 
--- the line at a position has a key, and the next line starts at `next`
-pub record KeyAt (s : List ℕ) (from : ℕ) (key : Key) (next : ℕ) : Type 0 where
-  pub ends : next ≤ length s
+-- the first line has a key, and the text goes on with `rest`
+pub record KeyAt (s : List ℕ) (key : Key) (rest : List ℕ) : Type 0 where
   pub value : List ℕ
-  pub line : keyed "key=" (drop from s) ≡ some (record { front = value; rest = drop next s })
+  pub line : keyed "key=" s ≡ some (record { front = value; rest = rest })
   pub read : read_key value ≡ some (key_of key)
 
--- of `key_line`
-abbrev pub KeyIn : List ℕ → ℕ → KeyLine → Type 0
-KeyIn s from (key_line.Is key next) = KeyAt s from key next
-KeyIn s from key_line.Unknown = (k : Split) → keyed "key=" (drop from s) ≡ some k → read_key k.front ≡ none
+-- or it has none
+abbrev pub Unkeyed : List ℕ → Type 0
+Unkeyed s = (k : Split) → keyed "key=" s ≡ some k → read_key k.front ≡ none
 
--- a put was read: left has its run at the front of a buffer, and right in slot 0
-pub record TakesPut (bs : List ℕ) (p : Put) (left rights : List ℕ) : Type 0 where
+-- a put was read: left has its run, and right has its run in slot 0
+pub record TakesPut (bs : List ℕ) (p : Put) (rights : List ℕ) : Type 0 where
   pub job : Job
   pub fit : Fit job.left job.right
   pub low : 0 < p.number
   pub read : read_put bs ≡ accepted (entry p.number (key_of p.key) (lines_by (key_of p.key) job))
-  pub left_run : IsRun (take p.left left) job.left
+  pub left_run : IsRun p.left job.left
   pub right_run : Spells rights 0 job.right
 
 -- of `read_put`
-abbrev pub ReadsPut : List ℕ → PutRead → (left rights : List ℕ) → Type 0
-ReadsPut bs (put_read.Refused n) left rights = read_put bs ≡ refused n
-ReadsPut bs (put_read.Accepted p) left rights = TakesPut bs p left rights
+abbrev pub ReadsPut : List ℕ → Result Put Refusal → (rights : List ℕ) → Type 0
+ReadsPut bs (Err e) rights = read_put bs ≡ refused (refusals.number_of e)
+ReadsPut bs (Ok p) rights = TakesPut bs p rights
 
 -- of `read_withdrawal`
-abbrev pub ReadsWithdrawal : List ℕ → Withdrawal → Type 0
-ReadsWithdrawal bs (Of n) = (0 < n) × (read_withdrawal bs ≡ accepted n)
-ReadsWithdrawal bs Malformed = read_withdrawal bs ≡ refused 1
+abbrev pub ReadsWithdrawal : List ℕ → Result ℕ Refusal → Type 0
+ReadsWithdrawal bs (Ok n) = (0 < n) × (read_withdrawal bs ≡ accepted n)
+ReadsWithdrawal bs (Err e) = read_withdrawal bs ≡ refused (refusals.number_of e)

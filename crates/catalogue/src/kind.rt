@@ -1,43 +1,33 @@
 // The key of an entry, and the two lists of numbers that stand for its lines.
 ghost use Rattle.std.specs.Prelude.{◌≡◌};
-ghost use Rattle.catalogue.specs.Promises.{number_of, MakesWordLists, MakesLists};
+ghost use Rattle.catalogue.specs.Promises.{number_of, MakesLists};
 
 use text::answer::rename::same_words;
 use words::candidate::words::canonical_words;
-use words::candidate::{Lengths, canonical_terms};
+use words::candidate::{Equation, canonical_terms};
 
-#[derive(Clone, Copy)]
+// Each with the number that stands for it in a place.
+#[derive(Clone, Copy, PartialEq, Eq)]
 pub enum Key {
-    Raw,
-    Words,
+    Raw = 0,
+    Words = 1,
 }
 
-// What stands for a key in a place.
-pub fn key_number(key: Key) -> u32
-    ensures { result ≡ number_of key }
-{
-    match key {
-        Key::Raw => 0,
-        Key::Words => 1,
+impl From<Key> for u32 {
+    ghost from_gives = { λ key n. n ≡ number_of key };
+
+    fn from(key: Key) -> u32 {
+        key as u32
     }
 }
 
-// The renamed lists of words of two terms, in two buffers: nothing where the words agree.
-fn word_lists(left: &[u32], right: &[u32], u: &mut [u32], v: &mut [u32]) -> Lengths
-    ensures { MakesWordLists left.now right.now u.old v.old result u.new v.new }
-{
-    if same_words(left, right) {
-        return Lengths { left: 0, right: 0 };
-    }
-    canonical_words(left, right, u, v)
-}
-
-// The lists for the lines of a key, in two buffers: the renamed sides, or the renamed lists of words.
-pub fn lists_of(key: Key, left: &[u32], right: &[u32], u: &mut [u32], v: &mut [u32]) -> Lengths
-    ensures { MakesLists key left.now right.now u.old v.old result u.new v.new }
+// The lists for the lines of a key: the renamed sides, or the renamed lists of words, of which there are none where the words agree.
+pub fn lists_of<const N: usize>(key: Key, left: &[u32], right: &[u32], lists: &mut Equation<N>)
+    ensures { MakesLists key left.now right.now N lists.new }
 {
     match key {
-        Key::Raw => canonical_terms(left, right, u, v),
-        Key::Words => word_lists(left, right, u, v),
+        Key::Raw => canonical_terms(left, right, lists),
+        Key::Words if same_words(left, right) => lists.keep(&[], &[]),
+        Key::Words => canonical_words(left, right, lists),
     }
 }

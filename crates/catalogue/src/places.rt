@@ -6,9 +6,6 @@ ghost use Rattle.catalogue.specs.Stored as stored;
 ghost use Rattle.catalogue.specs.Stored.{KindAt};
 ghost use Rattle.catalogue.specs.Promises.{Seeks, ListAt, OtherOf, AnotherOf, StoresList, Stores};
 
-use terms::term::equal_by_fours;
-use words::normal_form::copy;
-
 pub const PLACES: usize = 64;
 
 pub const PLACE: usize = 5408;
@@ -17,116 +14,99 @@ pub const PLACE: usize = 5408;
 pub const ROOM: usize = 2700;
 
 // Where the kept count stands.
-pub const COUNT: usize = 346112;
+pub const COUNT: usize = PLACES * PLACE;
 
 // The length of the buffer.
-pub const LENGTH: usize = 346113;
+pub const LENGTH: usize = COUNT + 1;
 
-// A place, where there is one.
-#[derive(Drop)]
-pub enum Place {
-    At(usize),
-    Nowhere,
+// Of a place, where its key, the lengths of its two lists and the lists themselves stand; its first number is the entry's.
+pub const KEY: usize = 1;
+
+pub const LEFT_LENGTH: usize = 2;
+
+pub const RIGHT_LENGTH: usize = 3;
+
+pub const LEFT: usize = 8;
+
+pub const RIGHT: usize = LEFT + ROOM;
+
+// What makes two entries of one kind: the number of their key, and the two lists of their lines.
+#[derive(Clone, Copy)]
+pub struct Kind<'a> {
+    pub key: u32,
+    pub left: &'a [u32],
+    pub right: &'a [u32],
+    ghost left_fits: { length left.now ≤ stored.ROOM },
+    ghost right_fits: { length right.now ≤ stored.ROOM },
 }
 
 // The first place that has a number; free places have 0.
-pub fn place_of(cat: &[u32], n: u32) -> Place
-    requires { length cat.now ≡ stored.LENGTH }
-    ensures { Seeks cat.now n result }
+pub fn place_of(catalogue: &[u32; LENGTH], n: u32) -> Option<usize>
+    ensures { Seeks catalogue.now n result }
 {
-    let mut k = 0;
-    while k < PLACES {
-        if cat[PLACE * k] == n {
-            return Place::At(k);
-        }
-        k += 1;
-    }
-    Place::Nowhere
+    (0..PLACES).find(|&k| catalogue[PLACE * k] == n)
 }
 
 // Whether a list stands from one position on, with its length at another.
-fn has_list(cat: &[u32], size: usize, from: usize, list: &[u32]) -> bool
-    requires { (size < length cat.now) × (from + stored.ROOM ≤ length cat.now) × (length list.now ≤ stored.ROOM) × (length cat.now ≡ stored.LENGTH) }
-    ensures { Reflects (ListAt cat.now size from list.now) result }
+fn has_list(catalogue: &[u32; LENGTH], size: usize, from: usize, list: &[u32]) -> bool
+    requires { (size < stored.LENGTH) × (from + stored.ROOM ≤ stored.LENGTH) × (length list.now ≤ stored.ROOM) }
+    ensures { Reflects (ListAt catalogue.now size from list.now) result }
 {
-    let n = cat[size] as usize;
-    if n != list.len() {
-        return false;
-    }
-    let end = from + n;
-    equal_by_fours(&cat[from..end], list)
+    catalogue[size] as usize == list.len() && catalogue[from..].starts_with(list)
 }
 
-// Whether place k has the key with this number and both lists.
-fn has_kind_at(cat: &[u32], k: usize, key: u32, left: &[u32], right: &[u32]) -> bool
-    requires { (length cat.now ≡ stored.LENGTH) × (k < abstract.PLACES) × (length left.now ≤ stored.ROOM) × (length right.now ≤ stored.ROOM) }
-    ensures { Reflects (KindAt cat.now k key left.now right.now) result }
+// Whether place k has an entry of the kind.
+fn has_kind_at(catalogue: &[u32; LENGTH], k: usize, kind: Kind<'_>) -> bool
+    requires { k < abstract.PLACES }
+    ensures { Reflects (KindAt catalogue.now k kind.entry.key kind.entry.left.now kind.entry.right.now) result }
 {
     let at = PLACE * k;
-    if cat[at + 1] != key {
-        return false;
-    }
-    if !has_list(cat, at + 2, at + 8, left) {
-        return false;
-    }
-    has_list(cat, at + 3, at + 2708, right)
+    catalogue[at + KEY] == kind.key
+        && has_list(catalogue, at + LEFT_LENGTH, at + LEFT, kind.left)
+        && has_list(catalogue, at + RIGHT_LENGTH, at + RIGHT, kind.right)
 }
 
 // Whether place k is another than `but` and has an entry of the kind.
-fn is_another(cat: &[u32], k: usize, but: usize, key: u32, left: &[u32], right: &[u32]) -> bool
-    requires { (length cat.now ≡ stored.LENGTH) × (k < abstract.PLACES) × (length left.now ≤ stored.ROOM) × (length right.now ≤ stored.ROOM) }
-    ensures { Reflects (OtherOf cat.now but key left.now right.now k) result }
+fn is_another(catalogue: &[u32; LENGTH], k: usize, but: Option<usize>, kind: Kind<'_>) -> bool
+    requires { k < abstract.PLACES }
+    ensures { Reflects (OtherOf catalogue.now but kind.entry.key kind.entry.left.now kind.entry.right.now k) result }
 {
-    if k == but {
-        return false;
-    }
-    if cat[PLACE * k] == 0 {
-        return false;
-    }
-    has_kind_at(cat, k, key, left, right)
+    but != Some(k) && catalogue[PLACE * k] != 0 && has_kind_at(catalogue, k, kind)
 }
 
 // Whether a place other than `but` has an entry of the kind.
-pub fn has_another(cat: &[u32], but: usize, key: u32, left: &[u32], right: &[u32]) -> bool
-    requires { (length cat.now ≡ stored.LENGTH) × (length left.now ≤ stored.ROOM) × (length right.now ≤ stored.ROOM) }
-    ensures { Reflects (AnotherOf cat.now but key left.now right.now) result }
+pub fn has_another(catalogue: &[u32; LENGTH], but: Option<usize>, kind: Kind<'_>) -> bool
+    ensures { Reflects (AnotherOf catalogue.now but kind.entry.key kind.entry.left.now kind.entry.right.now) result }
 {
-    let mut k = 0;
-    while k < PLACES {
-        if is_another(cat, k, but, key, left, right) {
-            return true;
-        }
-        k += 1;
-    }
-    false
+    (0..PLACES).any(|k| is_another(catalogue, k, but, kind))
 }
 
 // Stores a list from one position on, and its length at another before it.
-fn store_list(cat: &mut [u32], size: usize, from: usize, list: &[u32])
-    requires { (size < from) × (from + stored.ROOM ≤ length cat.old) × (length list.now ≤ stored.ROOM) × (length cat.old ≡ stored.LENGTH) }
-    ensures { StoresList cat.old size from list.now cat.new }
+fn store_list(catalogue: &mut [u32; LENGTH], size: usize, from: usize, list: &[u32])
+    requires { (size < from) × (from + stored.ROOM ≤ stored.LENGTH) × (length list.now ≤ stored.ROOM) }
+    ensures { StoresList catalogue.old size from list.now catalogue.new }
 {
-    cat[size] = list.len() as u32;
-    copy(cat, from, list);
+    catalogue[size] = list.len() as u32;
+    let end = from + list.len();
+    catalogue[from..end].copy_from_slice(list);
 }
 
 // Stores an entry in place k.
-pub fn store(cat: &mut [u32], k: usize, n: u32, key: u32, left: &[u32], right: &[u32])
-    requires { (length cat.old ≡ stored.LENGTH) × (k < abstract.PLACES) × (length left.now ≤ stored.ROOM) × (length right.now ≤ stored.ROOM) }
-    ensures { Stores cat.old k n key left.now right.now cat.new }
+pub fn store(catalogue: &mut [u32; LENGTH], k: usize, n: u32, kind: Kind<'_>)
+    requires { k < abstract.PLACES }
+    ensures { Stores catalogue.old k n kind.entry.key kind.entry.left.now kind.entry.right.now catalogue.new }
 {
     let at = PLACE * k;
-    cat[at] = n;
-    cat[at + 1] = key;
-    store_list(cat, at + 2, at + 8, left);
-    store_list(cat, at + 3, at + 2708, right);
+    catalogue[at] = n;
+    catalogue[at + KEY] = kind.key;
+    store_list(catalogue, at + LEFT_LENGTH, at + LEFT, kind.left);
+    store_list(catalogue, at + RIGHT_LENGTH, at + RIGHT, kind.right);
 }
 
-// Sets the kept count: what a call that leaves it so returns.
-pub fn keep_count(cat: &mut [u32], n: u32) -> usize
-    requires { length cat.old ≡ stored.LENGTH }
-    ensures { (result ≡ 100 + n) × (cat.new ≡ slice_set cat.old stored.COUNT n) }
+// Sets the kept count: what a call that leaves it so answers.
+pub fn keep_count(catalogue: &mut [u32; LENGTH], n: u32) -> usize
+    ensures { (result ≡ n) × (catalogue.new ≡ slice_set catalogue.old stored.COUNT n) }
 {
-    cat[COUNT] = n;
-    100 + n as usize
+    catalogue[COUNT] = n;
+    n as usize
 }

@@ -1,115 +1,79 @@
 // The texts of a put and of a withdrawal.
-ghost use Rattle.std.specs.Prelude.{◌≡◌, ◌≤◌, length};
+ghost use Rattle.std.specs.Prelude.{◌≤◌, length, MatchOption};
 ghost use Rattle.search.specs.Index.{SLOT};
-ghost use Rattle.catalogue.specs.Promises.{NumberIn, KeyIn, ReadsPut, ReadsWithdrawal};
+ghost use Rattle.catalogue.specs.Promises.{Unnumbered, NumberAt, Unkeyed, KeyAt, ReadsPut, ReadsWithdrawal};
 
 use crate::kind::Key;
-use text::job::accept::{Reading, read_job};
-use text::job::has_key;
-use text::job::lines::{Limit, limit_line};
+use text::job::accept::read_job;
+use text::job::keyed;
+use text::job::lines::limit_line;
+use text::job::side::Run;
+use text::refusal::Refusal;
 
-// A number from 1 to 999, and where the next line starts.
-#[derive(Drop)]
-enum NumberLine {
-    Is(u32, usize),
-    Wrong,
-}
+// The most bytes of a text.
+const LONGEST: usize = 1024;
 
-// A key, and where the next line starts.
-#[derive(Drop)]
-enum KeyLine {
-    Is(Key, usize),
-    Unknown,
-}
+// The largest number of an entry.
+const LARGEST: u32 = 999;
 
-// Number and key of a put, and the length of left's run.
+// Number and key of a put, and left's run.
 #[derive(Drop)]
 pub struct Put {
     pub number: u32,
     pub key: Key,
-    pub left: usize,
+    pub left: Run,
 }
 
-// The number of a refusal, or what was read.
-#[derive(Drop)]
-pub enum PutRead {
-    Refused(usize),
-    Accepted(Put),
-}
-
-// The number of a withdrawal, or that the text is none.
-#[derive(Drop)]
-pub enum Withdrawal {
-    Of(u32),
-    Malformed,
-}
-
-// The number in the first line of a text.
-fn number_line(s: &[u8]) -> NumberLine
-    ensures { NumberIn s.now result }
+// The number in the first line of a text, from 1 to `LARGEST`, and what follows the line.
+fn number_line(s: &[u8]) -> Option<(u32, &[u8])>
+    ensures { MatchOption result (Unnumbered s.now) (λ v. NumberAt s.now v.0 v.1.now) }
 {
-    let Limit::Is(n, next) = limit_line(s, 0, b"number=") else {
-        return NumberLine::Wrong;
-    };
-    if n == 0 {
-        return NumberLine::Wrong;
+    let (n, rest) = limit_line(s, b"number=")?;
+    if !(1..=LARGEST).contains(&n) {
+        return None;
     }
-    if 999 < n {
-        return NumberLine::Wrong;
-    }
-    NumberLine::Is(n, next)
+    Some((n, rest))
 }
 
-// The key in the line that starts at a position.
-fn key_line(s: &[u8], from: usize) -> KeyLine
-    requires { from ≤ length s.now }
-    ensures { KeyIn s.now from result }
+// The key in the first line of a text, and what follows the line.
+fn key_line(s: &[u8]) -> Option<(Key, &[u8])>
+    ensures { MatchOption result (Unkeyed s.now) (λ v. KeyAt s.now v.0 v.1.now) }
 {
-    if has_key(s, from, b"key=raw\n") {
-        return KeyLine::Is(Key::Raw, from + 8);
-    }
-    if has_key(s, from, b"key=words\n") {
-        return KeyLine::Is(Key::Words, from + 10);
-    }
-    KeyLine::Unknown
+    let (value, rest) = keyed(s, b"key=")?;
+    let key = if value == b"raw".as_slice() {
+        Key::Raw
+    } else if value == b"words".as_slice() {
+        Key::Words
+    } else {
+        return None;
+    };
+    Some((key, rest))
 }
 
-// A put: refusals 1 to 6. Left's run is kept in one buffer, that of right in a slot.
-pub fn read_put(s: &[u8], left: &mut [u32], rights: &mut [u32]) -> PutRead
-    requires { (31 ≤ length left.old) × (SLOT ≤ length rights.old) }
-    ensures { ReadsPut s.now result left.new rights.new }
+// A put: refusals 1 to 6. The run of right is kept in a slot.
+pub fn read_put(s: &[u8], rights: &mut [u32]) -> Result<Put, Refusal>
+    requires { SLOT ≤ length rights.old }
+    ensures { ReadsPut s.now result rights.new }
 {
-    if 1024 < s.len() {
-        return PutRead::Refused(1);
+    if LONGEST < s.len() {
+        return Err(Refusal::Malformed);
     }
-    let NumberLine::Is(number, second) = number_line(s) else {
-        return PutRead::Refused(1);
-    };
-    let KeyLine::Is(key, third) = key_line(s, second) else {
-        return PutRead::Refused(1);
-    };
-    match read_job(&s[third..], left, rights) {
-        Reading::Refused(n) => PutRead::Refused(n),
-        Reading::Accepted(j) => PutRead::Accepted(Put {
-            number,
-            key,
-            left: j.left,
-        }),
-    }
+    let (number, rest) = number_line(s).ok_or(Refusal::Malformed)?;
+    let (key, rest) = key_line(rest).ok_or(Refusal::Malformed)?;
+    let left = read_job(rest, rights)?.left;
+    Ok(Put { number, key, left })
 }
 
 // A withdrawal: refusal 1.
-pub fn read_withdrawal(s: &[u8]) -> Withdrawal
+pub fn read_withdrawal(s: &[u8]) -> Result<u32, Refusal>
     ensures { ReadsWithdrawal s.now result }
 {
-    if 1024 < s.len() {
-        return Withdrawal::Malformed;
+    if LONGEST < s.len() {
+        return Err(Refusal::Malformed);
     }
-    let NumberLine::Is(n, next) = number_line(s) else {
-        return Withdrawal::Malformed;
-    };
-    if next < s.len() {
-        return Withdrawal::Malformed;
+    let (n, rest) = number_line(s).ok_or(Refusal::Malformed)?;
+    if !rest.is_empty() {
+        return Err(Refusal::Malformed);
     }
-    Withdrawal::Of(n)
+    Ok(n)
 }

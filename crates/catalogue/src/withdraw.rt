@@ -1,60 +1,53 @@
 // An entry withdrawn from a catalogue.
-ghost use Rattle.std.specs.Prelude.{◌≡◌, ◌<◌, length};
-ghost use Rattle.terms.specs.Theory.Reflects.{Reflects};
+ghost use Rattle.std.specs.Prelude.{◌<◌, ◌+◌};
+ghost use Rattle.text.specs.Refusal.{number_returned};
 ghost use Rattle.catalogue.specs.Catalogue as abstract;
-ghost use Rattle.catalogue.specs.Stored as stored;
 ghost use Rattle.catalogue.specs.Promises.{Shares, TakesOut, WithdrawsEntry};
 
-use crate::places::{COUNT, PLACE, Place, ROOM, has_another, keep_count, place_of};
+use crate::places::{
+    COUNT, KEY, Kind, LEFT, LEFT_LENGTH, LENGTH, PLACE, RIGHT, RIGHT_LENGTH, ROOM, has_another,
+    keep_count, place_of,
+};
+use text::refusal::Refusal;
 
 // Whether another place has an entry of the kind that place k has. Lengths that no list has are left uncompared.
-fn is_shared(cat: &[u32], k: usize) -> bool
-    requires { (length cat.now ≡ stored.LENGTH) × (k < abstract.PLACES) }
-    ensures { Shares cat.now k result }
+fn is_shared(catalogue: &[u32; LENGTH], k: usize) -> bool
+    requires { k < abstract.PLACES }
+    ensures { Shares catalogue.now k result }
 {
     let at = PLACE * k;
-    let m = cat[at + 2] as usize;
-    let n = cat[at + 3] as usize;
-    if ROOM < m {
+    let left = catalogue[at + LEFT_LENGTH] as usize;
+    let right = catalogue[at + RIGHT_LENGTH] as usize;
+    if ROOM < left || ROOM < right {
         return true;
     }
-    if ROOM < n {
-        return true;
-    }
-    let left = at + 8;
-    let left_end = left + m;
-    let right = at + 2708;
-    let right_end = right + n;
-    has_another(
-        cat,
-        k,
-        cat[at + 1],
-        &cat[left..left_end],
-        &cat[right..right_end],
-    )
+    let kind = Kind {
+        key: catalogue[at + KEY],
+        left: &catalogue[at + LEFT..at + LEFT + left],
+        right: &catalogue[at + RIGHT..at + RIGHT + right],
+    };
+    has_another(catalogue, Some(k), kind)
 }
 
 // Place k freed, and the kept count after that.
-fn take_out(cat: &mut [u32], k: usize) -> usize
-    requires { (length cat.old ≡ stored.LENGTH) × (k < abstract.PLACES) }
-    ensures { TakesOut cat.old k result cat.new }
+fn take_out(catalogue: &mut [u32; LENGTH], k: usize) -> usize
+    requires { k < abstract.PLACES }
+    ensures { TakesOut catalogue.old k (100 + result) catalogue.new }
 {
-    let shared = is_shared(cat, k);
-    let count = cat[COUNT];
-    cat[PLACE * k] = 0;
-    if shared {
-        return keep_count(cat, count);
-    }
-    keep_count(cat, std::num::wrapping_sub_u32(count, 1))
+    let shared = is_shared(catalogue, k);
+    let count = catalogue[COUNT];
+    catalogue[PLACE * k] = 0;
+    keep_count(
+        catalogue,
+        if shared { count } else { count.wrapping_sub(1) },
+    )
 }
 
 // The entry with a number withdrawn: refusal 14.
-pub fn withdraw_entry(cat: &mut [u32], n: u32) -> usize
-    requires { (length cat.old ≡ stored.LENGTH) × (0 < n) }
-    ensures { WithdrawsEntry cat.old n result cat.new }
+pub fn withdraw_entry(catalogue: &mut [u32; LENGTH], n: u32) -> Result<usize, Refusal>
+    requires { 0 < n }
+    ensures { WithdrawsEntry catalogue.old n (number_returned result) catalogue.new }
 {
-    let Place::At(k) = place_of(cat, n) else {
-        return 14;
-    };
-    take_out(cat, k)
+    let k = place_of(catalogue, n).ok_or(Refusal::NumberUnknown)?;
+    Ok(take_out(catalogue, k))
 }

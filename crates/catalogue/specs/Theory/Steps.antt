@@ -3,7 +3,6 @@ use Rattle.std.specs.Prelude.{◌≡◌, ℕ, ◌+◌, ◌-◌, ◌<◌, Bool, t
 use Rattle.std.proofs.Common.{arith, sym, ap, subst, ◌∙◌, length-set, get_or-set_same, get_or-set_other}
 use Rattle.std.proofs.lemmas.Bool.{false≢true}
 use Rattle.std.proofs.Math.Option.{Option, none, some, none-ne-some}
-use Rattle.std.proofs.Math.Seq.{set_out}
 use borrow.Author.Tests.{le-ltb}
 use Rattle.text.specs.Answer.{Answer, refused, accepted, ◌>>=◌, require, or_refuse}
 use Rattle.catalogue.specs.Catalogue.{PLACES, Entry, Catalogue, held, entry_of, listed, put_first, take_out, has_kind, fresh, put, withdraw}
@@ -11,7 +10,7 @@ use Rattle.catalogue.specs.Calls.{Sound}
 use Rattle.catalogue.specs.Texts.{Key, Kind, same_kind}
 use Rattle.catalogue.specs.Stored.{COUNT, key_number, Lines, number_at, Stored, At, Holds, Step}
 use Rattle.catalogue.specs.Promises.{Seeks, AnotherOf, PutsAt, Listed, entry, TakesOut}
-use Rattle.catalogue.specs.declared.places.Place.TheVariants as place
+use Rattle.std.specs.Prelude as code
 use Rattle.catalogue.specs.Theory.Kinds.{kinds_bound}
 use Rattle.catalogue.specs.Theory.Places.{take_between}
 use Rattle.catalogue.specs.Theory.Kept.{kinds_with}
@@ -63,18 +62,18 @@ module _ {cat : List ℕ} {c : Catalogue Kind} (H : Holds cat c) (S : Sound same
 
   -- refusals: 13 and 15 of a put, 14 of a withdrawal
 
-  unlisted : (n : ℕ) → Seeks cat n place.Nowhere → (entry_of n (held c.places) ≡ none) × (listed n (held c.places) ≡ false)
+  unlisted : (n : ℕ) → Seeks cat n code.None → (entry_of n (held c.places) ≡ none) × (listed n (held c.places) ≡ false)
   unlisted n out =
       unlisted_at n c.places (λ j i e a m. let h : j < PLACES = omega (arith, S.places) in out j h ((stored_at j h a).number ∙ m))
 
-  pub put_listed : (e : Entry Kind) (k : ℕ) → 0 < e.number → Seeks cat e.number (place.At k) → put same_kind e c ≡ refused 13
+  pub put_listed : (e : Entry Kind) (k : ℕ) → 0 < e.number → Seeks cat e.number (code.Some k) → put same_kind e c ≡ refused 13
   unfolding put ◌>>=◌ require
   put_listed e k pos (h, number, _) =
       let (d, a) = number_entry k h (omega arith) in
       let found : listed e.number (held c.places) ≡ true = listed_at e.number c.places k d a (sym (stored_at k h a).number ∙ number) in
       rw found
 
-  pub put_full : (e : Entry Kind) → Seeks cat e.number place.Nowhere → Seeks cat 0 place.Nowhere → put same_kind e c ≡ refused 15
+  pub put_full : (e : Entry Kind) → Seeks cat e.number code.None → Seeks cat 0 code.None → put same_kind e c ≡ refused 15
   unfolding put ◌>>=◌ require
   put_full e out full =
       let all : length (held c.places) ≡ length c.places =
@@ -82,30 +81,42 @@ module _ {cat : List ℕ} {c : Catalogue Kind} (H : Holds cat c) (S : Sound same
       let (_, new) = unlisted e.number out in
       rw (new, le-ltb (length (held c.places)) PLACES (omega (arith, S.places)))
 
-  pub withdraw_unlisted : (n : ℕ) → Seeks cat n place.Nowhere → withdraw same_kind n c ≡ refused 14
+  pub withdraw_unlisted : (n : ℕ) → Seeks cat n code.None → withdraw same_kind n c ≡ refused 14
   unfolding withdraw ◌>>=◌ or_refuse
   withdraw_unlisted n out = let (none-such, _) = unlisted n out in rw none-such
 
-  -- a kind is found in a place other than `but` exactly when the entries but for that place's have it
-  another : (k : Kind) {l r : List ℕ} → Lines k.key l r k.lines → (but : ℕ)
-      → (has_kind same_kind k (held (slice_set c.places but none)) ≡ true) ↔ AnotherOf cat but (key_number k.key) l r
-  another k L but = (
+  -- a kind is found in a place other than `but` exactly when the entries of the places that are left have it
+  another : (k : Kind) {l r : List ℕ} → Lines k.key l r k.lines → (but : code.Option ℕ) (ps : List (Option (Entry Kind))) → length ps ≡ length c.places
+      → ((j : ℕ) → code.Some j ≢ but → at ps j ≡ at c.places j) → ((j : ℕ) → j < PLACES → code.Some j ≡ but → at ps j ≡ none)
+      → (has_kind same_kind k (held ps) ≡ true) ↔ AnotherOf cat but (key_number k.key) l r
+  another k L but ps size left gone = (
     λ t.
-        let (j, e, a, m) = kind_found same_kind k (slice_set c.places but none) t in
-        let h : j < PLACES = omega (arith, place_inside (slice_set c.places but none) j a, length-set c.places but none, S.places) in
-        let other : j ≡ but → ⊥ =
-        λ p. none-ne-some e (sym (get_or-set_same c.places but none none (omega (arith, S.places))) ∙ ap (at (slice_set c.places but none)) (sym p) ∙ a) in
-        let R = stored_at j h (sym (get_or-set_other c.places but j none none other) ∙ a) in
+        let (j, e, a, m) = kind_found same_kind k ps t in
+        let h : j < PLACES = omega (arith, place_inside ps j a, size, S.places) in
+        let other : code.Some j ≡ but → ⊥ = λ p. none-ne-some e (sym (gone j h p) ∙ a) in
+        let R = stored_at j h (sym (left j other) ∙ a) in
         (j, h, (other, λ z. omega (arith, R.number, R.listed), (kind_tested cat j R k L).0 m)),
     λ (j, h, (other, full, K)).
         let (e, a) = number_entry j h (omega arith) in
-        kind_at same_kind k (slice_set c.places but none) j e (get_or-set_other c.places but j none none other ∙ a) ((kind_tested cat j (stored_at j h a) k L).1 K),
+        kind_at same_kind k ps j e (left j other ∙ a) ((kind_tested cat j (stored_at j h a) k L).1 K),
   )
+
+  -- in any place
+  known_anywhere : (k : Kind) {l r : List ℕ} → Lines k.key l r k.lines → (has_kind same_kind k (held c.places) ≡ true) ↔ AnotherOf cat code.None (key_number k.key) l r
+  known_anywhere k L = another k L code.None c.places refl (λ j h. refl) (λ j h e. absurd (let z : ◌≡◌ {A = ℕ} 0 1 = cc in omega arith))
+
+  -- in a place other than number i
+  known_elsewhere : (k : Kind) {l r : List ℕ} → Lines k.key l r k.lines → (i : ℕ) → i < PLACES
+      → (has_kind same_kind k (held (slice_set c.places i none)) ≡ true) ↔ AnotherOf cat (code.Some i) (key_number k.key) l r
+  known_elsewhere k L i inside =
+      another k L (code.Some i) (slice_set c.places i none) (length-set c.places i none)
+      (λ j h. get_or-set_other c.places i j none none (λ e. h (ap (λ n. code.Some n) e)))
+      (λ j h e. let f : j ≡ i = cc in ap (at (slice_set c.places i none)) f ∙ get_or-set_same c.places i none none (omega (arith, S.places)))
 
   -- ---- a put into the first free place
 
   module _ {n : ℕ} {key : Key} {left right lines : List ℕ} (L : Listed key left right lines) (pos : 0 < n) where
-    pub put_step : (k : ℕ) → Seeks cat 0 (place.At k) → Seeks cat n place.Nowhere → {r : ℕ} {cat' : List ℕ} → PutsAt cat k n (key_number key) left right r cat'
+    pub put_step : (k : ℕ) → Seeks cat 0 (code.Some k) → Seeks cat n code.None → {r : ℕ} {cat' : List ℕ} → PutsAt cat k n (key_number key) left right r cat'
         → Step c (put same_kind (entry n key lines) c) r cat'
     put_step k (h, free, filled) out {r} {cat'} P =
         accepted_step {d = d} (put_accepted same_kind e c (unlisted n out).1 (omega (arith, room_at c.places k (omega (arith, S.places)) empty, S.places)))
@@ -136,14 +147,11 @@ module _ {cat : List ℕ} {c : Catalogue Kind} (H : Holds cat c) (S : Sound same
               lines = L.lines;
             }
 
-        all : set c.places PLACES none ≡ c.places
-        all = set_out c.places PLACES none (omega (arith, S.places))
-
         known : (b : Bool) → has_kind same_kind e.kind (held c.places) ≡ b → slice_index cat' COUNT ≡ c.kept + fresh same_kind e.kind (held c.places)
         known true t =
             omega (
               arith,
-              P.known ((another e.kind L.lines PLACES).0 (ap (λ ps. has_kind same_kind e.kind (held ps)) all ∙ t)),
+              P.known ((known_anywhere e.kind L.lines).0 t),
               fresh_known same_kind e.kind (held c.places) t,
               H.kept,
             )
@@ -151,7 +159,7 @@ module _ {cat : List ℕ} {c : Catalogue Kind} (H : Holds cat c) (S : Sound same
             omega (
               arith,
               P.new
-                  (λ A. false≢true (sym f ∙ ap (λ ps. has_kind same_kind e.kind (held ps)) (sym all) ∙ (another e.kind L.lines PLACES).1 A))
+                  (λ A. false≢true (sym f ∙ (known_anywhere e.kind L.lines).1 A))
                   (omega (arith, H.kept, S.kept, kinds_bound same_kind (held c.places), held_short c.places, S.places)),
               fresh_unknown same_kind e.kind (held c.places) f,
               H.kept,
@@ -162,7 +170,7 @@ module _ {cat : List ℕ} {c : Catalogue Kind} (H : Holds cat c) (S : Sound same
 
   -- ---- a withdrawal from the first place with the number
 
-  pub withdraw_step : (n k : ℕ) → 0 < n → Seeks cat n (place.At k) → {r : ℕ} {cat' : List ℕ} → TakesOut cat k r cat' → Step c (withdraw same_kind n c) r cat'
+  pub withdraw_step : (n k : ℕ) → 0 < n → Seeks cat n (code.Some k) → {r : ℕ} {cat' : List ℕ} → TakesOut cat k r cat' → Step c (withdraw same_kind n c) r cat'
   withdraw_step n k pos (h, number, before) {r} {cat'} W =
       accepted_step {d = d} (withdraw_accepted same_kind n c found) (W.returns ∙ ap (λ m. 100 + m) count)
       (subst (λ ps. Holds cat' (record { places = ps; kept = d.kept })) (sym taken) (rewritten k h H W.elsewhere none W.free d.kept count))
@@ -196,7 +204,7 @@ module _ {cat : List ℕ} {c : Catalogue Kind} (H : Holds cat c) (S : Sound same
           omega (
             arith,
             W.shared (key_number e.kind.key) R.left R.right R.kind R.left_room R.right_room
-                ((another e.kind R.lines k).0 (ap (λ ps. has_kind same_kind e.kind (held ps)) (sym taken) ∙ t)),
+                ((known_elsewhere e.kind R.lines k h).0 (ap (λ ps. has_kind same_kind e.kind (held ps)) (sym taken) ∙ t)),
             fresh_known same_kind e.kind (held (take_out n c.places)) t,
             H.kept,
           )
@@ -205,7 +213,7 @@ module _ {cat : List ℕ} {c : Catalogue Kind} (H : Holds cat c) (S : Sound same
           omega (
             arith,
             W.last (key_number e.kind.key) R.left R.right R.kind R.left_room R.right_room
-                (λ A. false≢true (sym f ∙ ap (λ ps. has_kind same_kind e.kind (held ps)) taken ∙ (another e.kind R.lines k).1 A))
+                (λ A. false≢true (sym f ∙ ap (λ ps. has_kind same_kind e.kind (held ps)) taken ∙ (known_elsewhere e.kind R.lines k h).1 A))
                 (omega (arith, H.kept, S.kept, kinds_with kinds_told (take_between n c.places e found).0, one)),
             one,
             H.kept,

@@ -1,20 +1,15 @@
-use Rattle.std.proofs.Common.{arith}
-use Rattle.catalogue.proofs.Walking.{none_yet, none_next}
-use Rattle.catalogue.proofs.Comparing.{refuted, confirmed}
+-- `has_another` meets its contract.
+use Rattle.std.proofs.Common.{rules, refl}
+use Rattle.std.proofs.lemmas.Iterator.{cases_from_any, YieldsList-from_range}
+use Rattle.catalogue.specs.Catalogue.{PLACES}
+use Rattle.catalogue.specs.Promises.{OtherOf}
+use Rattle.catalogue.proofs.Walking.{one_found}
 use Rattle.catalogue.proofs.places.has_another.Goals as goal
 
--- src/places.rt:95:5
-pub loop-k-init : goal.loop-k-init
-loop-k-init c = (omega arith, none_yet _)
-
--- src/places.rt:97:13
-pub returns-then-is_another : goal.returns-then-is_another
-returns-then-is_another c = (c.loop-k.k, c.loop-k-test.true, confirmed c.is_another.result c.is_another.ensures c.if-is_another.true)
-
--- src/places.rt:95:5
-pub loop-k-preserved : goal.loop-k-preserved
-loop-k-preserved c = (omega arith, none_next _ _ c.loop-k.invariant.1 (refuted c.is_another.result c.is_another.ensures c.if-is_another.false))
-
--- src/places.rt:90:1
 pub returns : goal.returns
-returns c = λ (k, h, o). c.loop-k.invariant.1 k (omega arith) o
+returns c =
+    let a = c.args in
+    let other = OtherOf a.catalogue.now a.but a.kind.key a.kind.left.now a.kind.right.now in
+    one_found other PLACES c.any.result
+    (cases_from_any _ _ c.any.result other (λ k. other k → ⊥) c.any.ensures.ran (YieldsList-from_range 0 PLACES PLACES refl refl)
+    (λ k q d. search rules) (λ k q d. search rules))

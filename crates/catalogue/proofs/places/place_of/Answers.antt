@@ -1,19 +1,13 @@
-use Rattle.std.proofs.Common.{arith}
-use Rattle.catalogue.proofs.Walking.{none_yet, none_next}
+-- `place_of` meets its contract.
+use Rattle.std.proofs.Common.{◌≡◌, rules}
+use Rattle.std.proofs.lemmas.Iterator.{first_from_Range}
+use Rattle.catalogue.specs.Stored.{number_at}
+use Rattle.catalogue.proofs.Walking.{place_found}
 use Rattle.catalogue.proofs.places.place_of.Goals as goal
 
--- src/places.rt:38:5
-pub loop-k-init : goal.loop-k-init
-loop-k-init c = (omega arith, none_yet _)
-
--- src/places.rt:40:13
-pub returns-then-cat-k : goal.returns-then-cat-k
-returns-then-cat-k c = (omega arith, c.if-cat-k.true, c.loop-k.invariant.1)
-
--- src/places.rt:38:5
-pub loop-k-preserved : goal.loop-k-preserved
-loop-k-preserved c = (omega arith, none_next _ _ c.loop-k.invariant.1 c.if-cat-k.false)
-
--- src/places.rt:33:1
 pub returns : goal.returns
-returns c = λ j h. c.loop-k.invariant.1 j (omega arith)
+returns c =
+    let a = c.args in
+    place_found a.catalogue.now a.n c.find.result
+    (first_from_Range _ _ _ c.find.result (λ k. number_at a.catalogue.now k ≡ a.n) (λ k. number_at a.catalogue.now k ≡ a.n → ⊥) c.find.ensures.ran
+    (λ k q d. search rules) (λ k q d. search rules))

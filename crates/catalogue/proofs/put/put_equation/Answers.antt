@@ -1,30 +1,27 @@
 -- `put_equation` meets its contract.
-use Rattle.std.proofs.Common.{subst}
-use Rattle.catalogue.specs.Promises.{Seeks}
+use Rattle.std.proofs.Common.{◌≡◌, arith, Some, None}
+use Rattle.std.proofs.lemmas.Result.{err_from_is_err_and}
+use Rattle.text.specs.declared.refusal.Refusal.TheVariants.{CatalogueFull}
 use Rattle.catalogue.proofs.Calling.{put_again, put_nowhere, put_there}
 use Rattle.catalogue.proofs.put.put_equation.Goals as goal
 
--- src/put.rt:68:9
-pub returns-in_default : goal.returns-in_default
-returns-in_default c =
-    let cat = c.args.cat.now in
-    put_again cat c.args.n c.requires.1 c.args.key _ _ (subst (Seeks cat c.args.n) c.in_default.is c.place_of.ensures)
+pub returns-then-is_some : goal.returns-then-is_some
+returns-then-is_some c =
+    let a = c.args in
+    put_again a.catalogue.now a.n c.requires a.key a.left.now a.right.now c.place_of.result c.place_of.ensures c.if-is_some.ensures
 
--- src/put.rt:71:9
-pub returns-in_default-place_of : goal.returns-in_default-place_of
-returns-in_default-place_of c =
-    let cat = c.args.cat.now in
-    put_nowhere cat c.args.n c.requires.1 c.args.key _ _ (subst (Seeks cat c.args.n) c.in-Nowhere.is c.place_of.ensures)
-    (subst (Seeks cat 0) c.in_default-place_of.is c.place_of-2.ensures)
+pub returns-in_err-k : goal.returns-in_err-k
+returns-in_err-k c =
+    let a = c.args in
+    let p = err_from_is_err_and c.from_residual.result c.from_residual.ensures.1 in
+    let full : c.place_of-2.result ≡ None = grind arith in
+    let e : c.in_err-k.field-0.0 ≡ CatalogueFull = grind arith in
+    rw (p.1, p.2, e)
+    (put_nowhere a.catalogue.now a.n c.requires a.key a.left.now a.right.now c.place_of.result c.place_of.ensures c.if-is_some.ensures (rw full at c.place_of-2.ensures))
 
--- src/put.rt:73:5
-pub put_lists-requires : goal.put_lists-requires
-put_lists-requires c =
-    (c.requires.0, (subst (Seeks c.args.cat.now 0) c.in-At.is c.place_of-2.ensures).0)
-
--- src/put.rt:63:1
 pub returns : goal.returns
 returns c =
-    let cat = c.args.cat.now in
-    put_there cat c.args.n c.requires.1 c.args.key _ _ (subst (Seeks cat c.args.n) c.in-Nowhere.is c.place_of.ensures)
-    c.in-At.k (subst (Seeks cat 0) c.in-At.is c.place_of-2.ensures) c.put_lists.ensures
+    let a = c.args in
+    let free : c.place_of-2.result ≡ Some c.in_ok-k.k = grind arith in
+    put_there a.catalogue.now a.n c.requires a.key a.left.now a.right.now c.place_of.result c.place_of.ensures c.if-is_some.ensures
+    c.in_ok-k.k (rw free at c.place_of-2.ensures) c.put_lists.ensures

@@ -1,22 +1,11 @@
 -- `put_lists` meets its contract.
-use Rattle.std.proofs.Common.{inl, inr, arith, length-take}
-use Rattle.catalogue.proofs.Calling.{lists_long, lists_put}
+use Rattle.std.proofs.Common.{inl, inr, ⊎_elim, ap, length, arith}
+use Rattle.catalogue.proofs.Calling.{lists_long}
 use Rattle.catalogue.proofs.put.put_lists.Goals as goal
 
--- src/put.rt:54:9
-pub returns-then-l-gt-ROOM : goal.returns-then-l-gt-ROOM
-returns-then-l-gt-ROOM c = lists_long c.args.cat.now c.args.k c.args.n c.requires.1 c.args.key c.lists_of-lists.ensures (omega arith) (omega arith) c.lists_of-lists.auto.u c.lists_of-lists.auto.v (inl (omega (arith, c.if-l-gt-ROOM.true)))
-
--- src/put.rt:57:9
-pub returns-then-m-gt-ROOM : goal.returns-then-m-gt-ROOM
-returns-then-m-gt-ROOM c = lists_long c.args.cat.now c.args.k c.args.n c.requires.1 c.args.key c.lists_of-lists.ensures (omega arith) (omega arith) c.lists_of-lists.auto.u c.lists_of-lists.auto.v (inr (omega (arith, c.if-m-gt-ROOM.true)))
-
--- src/put.rt:59:5
-pub put_at-requires : goal.put_at-requires
-put_at-requires c = (omega arith, omega arith, rw c.front.ensures (simp length-take (omega arith)), rw c.front-2.ensures (simp length-take (omega arith)))
-
--- src/put.rt:37:1
-pub returns : goal.returns
-returns c =
-    lists_put c.args.cat.now c.args.k c.args.n c.requires.1 c.args.key c.lists_of-lists.ensures (omega arith) (omega arith) c.lists_of-lists.auto.u c.lists_of-lists.auto.v
-    (rw (← c.key_number.ensures, ← c.front.ensures, ← c.front-2.ensures) c.put_at.ensures)
+pub returns-then-left-gt-ROOM : goal.returns-then-left-gt-ROOM
+returns-then-left-gt-ROOM c =
+    let a = c.args in
+    lists_long a.catalogue.now a.k a.n c.requires a.key c.lists_of.ensures (omega arith)
+    (⊎_elim (λ l. inl (omega (arith, ap length c.left-left.ensures.is))) (λ l. inr (omega (arith, l.1, ap length c.right-right.ensures.is)))
+    c.then-left-gt-ROOM.either)

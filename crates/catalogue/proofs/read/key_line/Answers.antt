@@ -1,31 +1,21 @@
 -- `key_line` meets its contract.
-use Rattle.std.proofs.Common.{subst}
+use Rattle.std.proofs.Common.{rules}
 use Rattle.text.specs.Bytes.{ascii}
-use Rattle.text.specs.Answer.{field}
-use Rattle.text.specs.Reading.{Keys}
-use Rattle.catalogue.specs.Texts.{raw, worded, key_name}
+use Rattle.catalogue.specs.Texts.{key_name}
 use Rattle.catalogue.specs.declared.kind.Key.TheVariants.{Raw, Words}
-use Rattle.catalogue.proofs.Reading.{key_line, key_there, key_unknown}
+use Rattle.catalogue.proofs.Reading.{no_value, key_there, key_unknown}
+use Rattle.catalogue.proofs.read.key_line.Goals.{then-eq, else-eq+then-eq-2}
 use Rattle.catalogue.proofs.read.key_line.Goals as goal
 
--- src/read.rt:67:9
-pub returns-then-has_key : goal.returns-then-has_key
-unfolding ascii key_name field
-returns-then-has_key c =
-    let a = c.args in
-    key_there a.s.now a.from Raw (subst (Keys a.s.now a.from (key_line raw)) c.if-has_key.true c.has_key.ensures)
+pub returns-in_err-value : goal.returns-in_err-value
+unfolding ascii
+returns-in_err-value c = rw c.from_residual.ensures (no_value _ c.in_err-value.ensures)
 
--- src/read.rt:70:9
-pub returns-then-has_key-2 : goal.returns-then-has_key-2
-unfolding ascii key_name field
-returns-then-has_key-2 c =
-    let a = c.args in
-    key_there a.s.now a.from Words (subst (Keys a.s.now a.from (key_line worded)) c.if-has_key-2.true c.has_key-2.ensures)
+pub returns-else-eq-2 : goal.returns-else-eq-2
+unfolding ascii key_name
+returns-else-eq-2 c = key_unknown _ c.in_ok-value.ensures (search rules) (search rules)
 
--- src/read.rt:62:1
 pub returns : goal.returns
-unfolding ascii key_name field
+unfolding ascii key_name
 returns c =
-    let a = c.args in
-    key_unknown a.s.now a.from (subst (Keys a.s.now a.from (key_line raw)) c.if-has_key.false c.has_key.ensures)
-    (subst (Keys a.s.now a.from (key_line worded)) c.if-has_key-2.false c.has_key-2.ensures)
+    elim c.if-eq.branch [ then-eq w ↦ rw w.key-is (key_there _ c.in_ok-value.ensures Raw (search rules)) | else-eq+then-eq-2 w ↦ rw w.key-is (key_there _ c.in_ok-value.ensures Words (search rules)) ]

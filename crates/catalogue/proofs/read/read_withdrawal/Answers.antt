@@ -1,29 +1,30 @@
 -- `read_withdrawal` meets its contract.
-use Rattle.std.proofs.Common.{◌≡◌, ℕ, List, subst, arith}
-use Rattle.catalogue.specs.Promises.{NumberAt, NumberIn}
-use Rattle.catalogue.specs.declared.read.NumberLine.{NumberLine}
-use Rattle.catalogue.specs.declared.read.NumberLine.TheVariants.{Is}
+use Rattle.std.proofs.Common.{◌≡◌, arith, Some, None}
+use Rattle.std.proofs.lemmas.Option.{MatchOption-at_some, MatchOption-at_none}
+use Rattle.std.proofs.lemmas.Result.{err_from_is_err_and}
+use Rattle.text.specs.declared.refusal.Refusal.TheVariants.{Malformed}
+use Rattle.catalogue.specs.Promises.{NumberAt}
 use Rattle.catalogue.proofs.Reading.{long_withdrawal, no_withdrawal, more_behind, withdrawal_read}
 use Rattle.catalogue.proofs.read.read_withdrawal.Goals as goal
 
--- src/read.rt:104:9
-pub returns-then-s-gt1024 : goal.returns-then-s-gt1024
-returns-then-s-gt1024 c = long_withdrawal _ c.if-s-gt1024.true
+pub returns-then-s-gt-LONGEST : goal.returns-then-s-gt-LONGEST
+returns-then-s-gt-LONGEST c = long_withdrawal _ c.if-s-gt-LONGEST.true
 
--- src/read.rt:107:9
-pub returns-in_default : goal.returns-in_default
-returns-in_default c =
-    let s = c.args.s.now in
-    no_withdrawal s c.if-s-gt1024.false (subst (NumberIn s) c.in_default.is c.number_line.ensures)
+pub returns-in_err-n : goal.returns-in_err-n
+returns-in_err-n c =
+    let p = err_from_is_err_and c.from_residual.result c.from_residual.ensures.1 in
+    let none : c.number_line.result ≡ None = grind arith in
+    let e : c.in_err-n.field-0.0 ≡ Malformed = grind arith in
+    rw (p.1, p.2, e) (no_withdrawal _ c.if-s-gt-LONGEST.false (MatchOption-at_none _ _ none c.number_line.ensures))
 
--- the number as it was read
-number : (s : List ℕ) {r : NumberLine} {n next : ℕ} → NumberIn s r → r ≡ Is n next → NumberAt s n next
-number s h e = subst (NumberIn s) e h
+pub returns-then-not-is_empty : goal.returns-then-not-is_empty
+returns-then-not-is_empty c =
+    let some : c.number_line.result ≡ Some (c.in_ok-n.n, c.in_ok-n.rest) = grind arith in
+    let N : NumberAt c.args.s.now c.in_ok-n.n c.in_ok-n.rest.now = MatchOption-at_some _ _ _ some c.number_line.ensures in
+    more_behind _ c.if-s-gt-LONGEST.false N (grind arith)
 
--- src/read.rt:110:9
-pub returns-then-next-s : goal.returns-then-next-s
-returns-then-next-s c = more_behind _ c.if-s-gt1024.false (number c.args.s.now c.number_line.ensures c.in-Is.is) (omega (arith, (number c.args.s.now c.number_line.ensures c.in-Is.is).ends, c.if-next-s.true))
-
--- src/read.rt:100:1
 pub returns : goal.returns
-returns c = ((number c.args.s.now c.number_line.ensures c.in-Is.is).low, withdrawal_read _ c.if-s-gt1024.false (number c.args.s.now c.number_line.ensures c.in-Is.is) (omega (arith, c.if-next-s.false)))
+returns c =
+    let some : c.number_line.result ≡ Some (c.in_ok-n.n, c.in_ok-n.rest) = grind arith in
+    let N : NumberAt c.args.s.now c.in_ok-n.n c.in_ok-n.rest.now = MatchOption-at_some _ _ _ some c.number_line.ensures in
+    (N.low, withdrawal_read _ c.if-s-gt-LONGEST.false N (grind arith))

@@ -1,19 +1,20 @@
 -- `withdraw_entry` meets its contract.
-use Rattle.std.proofs.Common.{subst}
-use Rattle.catalogue.specs.Promises.{Seeks}
+use Rattle.std.proofs.Common.{◌≡◌, arith, Some, None}
+use Rattle.std.proofs.lemmas.Result.{err_from_is_err_and}
+use Rattle.text.specs.declared.refusal.Refusal.TheVariants.{NumberUnknown}
 use Rattle.catalogue.proofs.Calling.{not_there, taken_there}
 use Rattle.catalogue.proofs.withdraw.withdraw_entry.Goals as goal
 
--- src/withdraw.rt:64:9
-pub returns-in_default : goal.returns-in_default
-returns-in_default c =
-    not_there c.args.cat.now c.args.n c.requires.1 (subst (Seeks c.args.cat.now c.args.n) c.in_default.is c.place_of.ensures)
+pub returns-in_err-k : goal.returns-in_err-k
+returns-in_err-k c =
+    let a = c.args in
+    let p = err_from_is_err_and c.from_residual.result c.from_residual.ensures.1 in
+    let none : c.place_of.result ≡ None = grind arith in
+    let e : c.in_err-k.field-0.0 ≡ NumberUnknown = grind arith in
+    rw (p.1, p.2, e) (not_there a.catalogue.now a.n c.requires (rw none at c.place_of.ensures))
 
--- src/withdraw.rt:66:5
-pub take_out-requires : goal.take_out-requires
-take_out-requires c = (c.requires.0, (subst (Seeks c.args.cat.now c.args.n) c.in-At.is c.place_of.ensures).0)
-
--- src/withdraw.rt:59:1
 pub returns : goal.returns
 returns c =
-    taken_there c.args.cat.now c.args.n c.requires.1 c.in-At.k (subst (Seeks c.args.cat.now c.args.n) c.in-At.is c.place_of.ensures) c.take_out.ensures
+    let a = c.args in
+    let some : c.place_of.result ≡ Some c.in_ok-k.k = grind arith in
+    taken_there a.catalogue.now a.n c.requires c.in_ok-k.k (rw some at c.place_of.ensures) c.take_out.ensures
