@@ -1,32 +1,41 @@
 // FIND on standard input, with 400 slots and 32,768 output bytes.
 #![tactic(auto)]
 
-ghost use Rattle.std.specs.Prelude.{◌≡◌, length};
 ghost use Rattle.text.specs.Entry.{program};
 ghost use Rattle.text.specs.Prints.{Prints};
 
 use std::io::{self, Read, Write};
-use text::answer::outcome;
+use text::answer::outcome::Refused;
 use text::entry;
+use text::put::put_in_front;
 
-// What the program prints, at the front of the output: the answer, or two lines with the refusal's number.
-fn respond(input: &[u8], output: &mut [u8], workspace: &mut [u32]) -> usize
-    requires { (length output.old ≡ 32768) × (length workspace.old ≡ 16000) }
+// 400 slots.
+const WORKSPACE: usize = 16000;
+
+const OUTPUT: usize = 32768;
+
+// A number from here on is an answer's, a lower one a refusal's.
+const ANSWER: usize = 100;
+
+// What the program prints, at the front of the output: the answer, or two lines with the refusal's number. The program of
+// CHECK has these lines over its own entry; no library below both says what a program prints, and one for it is no plainer.
+fn respond(input: &[u8], output: &mut [u8; OUTPUT], workspace: &mut [u32; WORKSPACE]) -> usize
     ensures { Prints (program input.now) output.new result }
 {
     let number = entry::find(input, output, workspace);
-    if 100 <= number {
-        return number - 100;
+    if ANSWER <= number {
+        number - ANSWER
+    } else {
+        put_in_front(&Refused(number), output)
     }
-    outcome::put_refused(output, 0, number)
 }
 
 // One byte more than a job may have is read, so that a longer input is seen to be too long.
 fn main(rt: HostRuntime) -> io::Result<()> {
     let mut input = Vec::new(rt.alloc());
     rt.stdin().take(4097).read_to_end(&mut input)?;
-    let mut output = [0u8; 32768];
-    let mut workspace = [0u32; 16000];
+    let mut output = [0; OUTPUT];
+    let mut workspace = [0; WORKSPACE];
     let length = respond(&input, &mut output, &mut workspace);
     rt.stdout().write_all(&output[..length])
 }

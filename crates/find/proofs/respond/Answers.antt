@@ -1,13 +1,11 @@
 -- `respond` meets its contract: below 100 the number is a refusal's, and its text is put.
+use Rattle.std.proofs.Common.{refl, arith}
 use Rattle.find.proofs.Printing.{answer_prints, refusal_prints}
 use Rattle.find.proofs.respond.Goals as goal
 
-pub returns-then-number-ge100 : goal.returns-then-number-ge100
-returns-then-number-ge100 c =
-    let p = c.requires in
-    answer_prints p.0 p.1 c.find-number.ensures c.if-number-ge100.true
+pub returns-then-number-ge-ANSWER : goal.returns-then-number-ge-ANSWER
+returns-then-number-ge-ANSWER c = answer_prints (omega arith) (omega arith) c.find-number.ensures c.if-number-ge-ANSWER.true
 
-pub returns : goal.returns
-returns c =
-    let p = c.requires in
-    refusal_prints p.0 p.1 c.find-number.ensures c.if-number-ge100.false c.put_refused.ensures
+pub returns-else-number-ge-ANSWER : goal.returns-else-number-ge-ANSWER
+returns-else-number-ge-ANSWER c =
+    refusal_prints (omega arith) (omega arith) c.find-number.ensures c.if-number-ge-ANSWER.false (c.put_in_front.ensures _ refl)
