@@ -1,9 +1,5 @@
 -- What a call of CHECK leaves is what the program prints.
-use Prim.Native.Nat.{ℕ, ◌-◌, ◌≤◌, ◌<◌}
-use mathlib.Core.Path.{◌≡◌, ap}
-use mathlib.Core.List.{List}
-use native.Mathlib.Omega.{arith}
-use lib.ListN.{length}
+use Rattle.std.proofs.Common.{◌≡◌, ℕ, ◌-◌, ◌<◌, ◌≤◌, List, length, ap, arith}
 use Rattle.text.specs.Answer.{refused, printed}
 use Rattle.text.specs.Claims.{CallClaims}
 use Rattle.text.specs.Put.{Put}

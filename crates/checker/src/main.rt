@@ -1,31 +1,37 @@
 // CHECK on standard input, with 64 output bytes.
 #![tactic(auto)]
 
-ghost use Rattle.std.specs.Prelude.{◌≡◌, length};
 ghost use Rattle.text.specs.Prints.{Prints};
 ghost use Rattle.checking.specs.Check.{program};
 
 use checking::entry;
 use std::io::{self, Read, Write};
-use text::answer::outcome;
+use text::answer::outcome::Refused;
+use text::put::put_in_front;
 
-// What the program prints, at the front of the output: the answer, or two lines with the refusal's number.
-fn respond(input: &[u8], output: &mut [u8]) -> usize
-    requires { length output.old ≡ 64 }
+const OUTPUT: usize = 64;
+
+// A number from here on is an answer's, a lower one a refusal's.
+const ANSWER: usize = 100;
+
+// What the program prints, at the front of the output: the answer, or two lines with the refusal's number. The program of
+// FIND has these lines over its own entry; no library below both says what a program prints, and one for it is no plainer.
+fn respond(input: &[u8], output: &mut [u8; OUTPUT]) -> usize
     ensures { Prints (program input.now) output.new result }
 {
     let number = entry::check(input, output);
-    if 100 <= number {
-        return number - 100;
+    if ANSWER <= number {
+        number - ANSWER
+    } else {
+        put_in_front(&Refused(number), output)
     }
-    outcome::put_refused(output, 0, number)
 }
 
 // One byte more than a derivation may have is read, so that a longer input is seen to be too long.
 fn main(rt: HostRuntime) -> io::Result<()> {
     let mut input = Vec::new(rt.alloc());
     rt.stdin().take(8193).read_to_end(&mut input)?;
-    let mut output = [0u8; 64];
+    let mut output = [0; OUTPUT];
     let length = respond(&input, &mut output);
     rt.stdout().write_all(&output[..length])
 }
