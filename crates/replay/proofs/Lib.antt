@@ -1,5 +1,4 @@
 -- Laws that the proofs share.
 pub mod Filling
 pub mod Looking
-pub mod Calling
-pub mod Counting
+pub mod Reading

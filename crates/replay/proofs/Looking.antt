@@ -1,112 +1,61 @@
--- Lists compared from the front.
-use Rattle.std.proofs.Common.{◌≡◌, ℕ, zero, suc, ◌+◌, ◌-◌, ◌%◌, ◌^◌, ◌<◌, ◌≤◌, Bool, true, false, leb, List, [], ◌∷◌, ◌++◌, length, get_or, take, drop, sym, refl, ap, ◌∙◌, ⊎_elim, le_of_suc-le-suc, not-suc-le-zero, add-one, arith, length-append, length-drop, drop_of_length-le, get_or-drop, take_all, drop-cons, take-suc, get_or-append-add}
-use lib.ListN.{get_or-append, get_or-eq_default}
-use Rattle.terms.specs.Theory.Order.{below?}
-use Rattle.terms.specs.Theory.Reflects.{Reflects, leb_reflects}
-use Rattle.replay.specs.Dirt.{bytes, due}
-use Rattle.replay.proofs.Filling.{Reached, reached_start, reached_number, reached_more, length_dirt}
+-- An output and what is due of it.
+use Rattle.std.proofs.Common.{◌≡◌, ℕ, suc, ◌+◌, ◌-◌, ◌%◌, ◌^◌, ◌<◌, ◌↔◌, IsTrue, nat_le, List, [], ◌∷◌, length, get_or, take, drop, arith, ◌∙◌, refl, ap, sym, append-nil, get_or-drop, add-zero, length-drop, le-leb, leb-true, min, nat_eq, Bool}
+use Rattle.std.proofs.lemmas.List.{drop_more, drop_all, drop_min, drop-drop, take_rest}
+use Rattle.std.proofs.lemmas.Bool.Decides.{Decides-eqb}
+use Rattle.std.proofs.lemmas.Slice.Eq.{slice_eq-Decides}
+use Rattle.std.proofs.Math.Seq.{drop-nil}
+use Rattle.std.specs.Cmp.Lexicographic.{pointwise}
+use Rattle.replay.specs.Dirt.{dirt, due}
+use Rattle.replay.proofs.Filling.{dirt_none}
 
--- in a list, the number to take outside it does not matter
-pub getD_inside : (xs : List ℕ) (i d e : ℕ) → i < length xs → get_or xs i d ≡ get_or xs i e
-getD_inside [] i d e h = absurd (not-suc-le-zero h)
-getD_inside (x ∷ xs) zero d e h = refl
-getD_inside (x ∷ xs) (suc i) d e h = getD_inside xs i d e (le_of_suc-le-suc h)
+-- what is due from here on: a byte of the text, or the filled one behind it, and then what is due from the next on
+due_suc : (text : List ℕ) (b m : ℕ) → due text b (suc m) ≡ get_or text 0 b ∷ due (drop 1 text) ((b + 37) % 2 ^ 8) m
+unfolding dirt
+due_suc [] b m = refl
+due_suc (x ∷ text) b m = refl
 
--- a test that holds as another does
-reflects_as : {P Q : Type 0} (r : Bool) → (P → Q) → (Q → P) → Reflects P r → Reflects Q r
-reflects_as true f g p = f p
-reflects_as false f g p = λ q. p (g q)
+due_more : (text : List ℕ) (b i n : ℕ) → i < n
+    → due (drop i text) b (n - i) ≡ get_or text i b ∷ due (drop (i + 1) text) ((b + 37) % 2 ^ 8) (n - (i + 1))
+due_more text b i n l =
+    let m = n - (i + 1) in
+    let e : n - i ≡ suc m = omega arith in
+    let here : get_or (drop i text) 0 b ≡ get_or text i b = rw (get_or-drop i text 0 b, add-zero) in
+    ap (λ (k : ℕ). due (drop i text) b k) e
+    ∙ due_suc (drop i text) b m
+    ∙ ap (λ (x : ℕ). x ∷ due (drop 1 (drop i text)) ((b + 37) % 2 ^ 8) m) here
+    ∙ ap (λ (t : List ℕ). get_or text i b ∷ due t ((b + 37) % 2 ^ 8) m) (drop-drop 1 i text)
 
--- ---- from a position on
+module _ (output text : List ℕ) (b i d : ℕ) (l : i < length output) (t : d ≡ get_or text i b) where
+  abbrev pub DueFrom : (b i : ℕ) → Type 0
+  DueFrom b i = drop i output ≡ due (drop i text) b (length output - i)
 
--- the lists agree from there on if they do from i on
-abbrev pub Agrees : (a b : List ℕ) (from i : ℕ) → Type 0
-Agrees a b from i = (from ≤ i) × (drop i a ≡ drop i b → drop from a ≡ drop from b)
+  here : drop i output ≡ get_or output i 0 ∷ drop (i + 1) output
+  here = drop_more output i 0 l
 
-module _ (a b : List ℕ) (from i : ℕ) (h : Agrees a b from i) where
-  lengths : drop from a ≡ drop from b → length a - from ≡ length b - from
-  lengths e = sym (length-drop from a) ∙ ap length e ∙ length-drop from b
+  expected : due (drop i text) b (length output - i) ≡ d ∷ due (drop (i + 1) text) ((b + 37) % 2 ^ 8) (length output - (i + 1))
+  expected = rw t (due_more text b i (length output) l)
 
-  at_here : drop from a ≡ drop from b → get_or a i 0 ≡ get_or b i 0
-  at_here e =
-      let k : from + (i - from) ≡ i = omega arith in
-      ap (λ (j : ℕ). get_or a j 0) (sym k) ∙ sym (get_or-drop from a (i - from) 0) ∙ ap (λ (l : List ℕ). get_or l (i - from) 0) e
-      ∙ get_or-drop from b (i - from) 0 ∙ ap (λ (j : ℕ). get_or b j 0) k
+  pub due_step : (y : ℕ) → get_or output i 0 ≡ d → y ≡ (b + 37) % 2 ^ 8 → DueFrom b i ↔ DueFrom y (i + 1)
+  due_step y e w =
+      (λ h. let both = sym here ∙ h ∙ expected in rw w (cc both), λ h. let g = rw w at h in here ∙ rw (e, g) (sym expected))
 
-  pub agrees_more : i < length a → i < length b → get_or a i 0 ≡ get_or b i 0 → Agrees a b from (i + 1)
-  agrees_more k l e = (
-    omega arith,
-    λ d. h.1 (drop-cons a i 0 k ∙ ap (λ (x : ℕ). x ∷ drop (suc i) a) e ∙ ap (λ (l : List ℕ). get_or b i 0 ∷ l) (rw add-one at d) ∙ sym (drop-cons b i 0 l)),
-  )
+  pub other_byte : (get_or output i 0 ≡ d → ⊥) → DueFrom b i → ⊥
+  other_byte n h = let both = sym here ∙ h ∙ expected in n (cc both)
 
-  pub second_ends : i < length a → length b ≤ i → drop from a ≡ drop from b → ⊥
-  second_ends k l e = omega (arith, lengths e)
+pub due_end : (output text : List ℕ) (b i : ℕ) → i ≡ length output
+    → IsTrue (nat_le (length text) (length output)) ↔ (drop i output ≡ due (drop i text) b (length output - i))
+due_end output text b i e =
+    let none : drop i output ≡ [] = drop_all i output (omega arith) in
+    let behind : due (drop i text) b (length output - i) ≡ drop i text = rw (dirt_none (λ x. (x + 37) % 2 ^ 8) b i (length output) (omega arith)) (simp (drop-nil, append-nil)) in (
+      λ t. none ∙ sym (behind ∙ drop_all i text (omega (arith, leb-true (length text) (length output) t))),
+      λ h. let k = ap length (sym none ∙ h ∙ behind) in le-leb (length text) (length output) (omega (arith, length-drop i text, k)),
+    )
 
-  pub differs_here : (get_or a i 0 ≡ get_or b i 0 → ⊥) → drop from a ≡ drop from b → ⊥
-  differs_here n e = n (at_here e)
-
-  pub first_ends : length a ≤ i → Reflects (drop from a ≡ drop from b) (leb (length b) i)
-  first_ends k =
-      reflects_as
-      (leb (length b) i)
-      (λ l. h.1 (drop_of_length-le a k ∙ sym (drop_of_length-le b l)))
-      (λ e. omega (arith, lengths e))
-      (leb_reflects (length b) i)
-
--- ---- an output and what is due of it
-
--- the first i bytes are due, and b is the next one of the dirt
-pub record Due (output text : List ℕ) (first b i : ℕ) : Type 0 where
-  pub within : i ≤ length output
-  pub next : Reached 37 (2 ^ 8) first (length output) b i
-  pub front : take i output ≡ take i (due text first (length output))
-
--- the byte of the text, or of the dirt behind it
-due_here : (text : List ℕ) (first n b i : ℕ) → Reached 37 (2 ^ 8) first n b i → i < n → get_or (due text first n) i b ≡ get_or text i b
-due_here text first n b i h l =
-    ⊎_elim
-    (λ k. get_or-append text (drop (length text) (bytes first n)) b i k)
-    (λ k.
-    let e : i ≡ length text + (i - length text) = omega arith in
-    ap (λ (j : ℕ). get_or (due text first n) j b) e
-    ∙ get_or-append-add text (drop (length text) (bytes first n)) (i - length text) b
-    ∙ get_or-drop (length text) (bytes first n) (i - length text) b
-    ∙ ap (λ (j : ℕ). get_or (bytes first n) j b) (sym e)
-    ∙ reached_number 37 (2 ^ 8) first n b i h l b
-    ∙ sym (get_or-eq_default text b k))
-    (below? i (length text))
-
-length_due : (text : List ℕ) (first n : ℕ) → length (due text first n) ≡ length text + (n - length text)
-length_due text first n = simp (length-append, length-drop, length_dirt)
-
-pub due_start : (output text : List ℕ) (first : ℕ) → Due output text first first 0
-due_start output text first = record { within = omega arith; next = reached_start 37 (2 ^ 8) first (length output); front = refl }
-
-module _ {output text : List ℕ} {first b i : ℕ} (h : Due output text first b i) where
-  pub due_more : (d y : ℕ) → d ≡ get_or text i b → i < length output → get_or output i 0 ≡ d → y ≡ (b + 37) % 2 ^ 8
-      → Due output text first y (i + 1)
-  due_more d y t l e w =
-      let n = length output in
-      let k : i < length (due text first n) = omega (arith, length_due text first n) in
-      record {
-        within = omega arith;
-        next = reached_more 37 (2 ^ 8) first n b i h.next l y w;
-        front = rw add-one
-            (take-suc output i 0 l
-            ∙ ap (λ (xs : List ℕ). xs ++ (get_or output i 0 ∷ [])) h.front
-            ∙ ap (λ (x : ℕ). take i (due text first n) ++ (x ∷ [])) (e ∙ t ∙ sym (due_here text first n b i h.next l))
-            ∙ sym (take-suc (due text first n) i b k));
-      }
-
-  pub other_byte : (d : ℕ) → d ≡ get_or text i b → i < length output → (get_or output i 0 ≡ d → ⊥) → output ≡ due text first (length output) → ⊥
-  other_byte d t l n e =
-      n (getD_inside output i 0 b l ∙ ap (λ (xs : List ℕ). get_or xs i b) e ∙ due_here text first (length output) b i h.next l ∙ sym t)
-
-  pub due_end : length output ≤ i → Reflects (output ≡ due text first (length output)) (leb (length text) (length output))
-  due_end l =
-      let n = length output in
-      reflects_as
-      (leb (length text) n)
-      (λ k. sym (take_all i output l) ∙ h.front ∙ take_all i (due text first n) (omega (arith, length_due text first n)))
-      (λ e. omega (arith, length_due text first n, ap length e))
-      (leb_reflects (length text) n)
+-- from a position on, also from one past an end
+pub same_from : (a b : List ℕ) (from i j : ℕ) (r : Bool) → i ≡ min from (length a) → j ≡ min from (length b)
+    → r ≡ pointwise nat_eq (take (length a - i) (drop i a)) (take (length b - j) (drop j b)) → IsTrue r ↔ (drop from a ≡ drop from b)
+same_from a b from i j r k l e =
+    let x : drop i a ≡ drop from a = rw k (drop_min from a) in
+    let y : drop j b ≡ drop from b = rw l (drop_min from b) in
+    let tested = rw (take_rest a i, take_rest b j, x, y) at e in
+    slice_eq-Decides Decides-eqb (drop from a) (drop from b) r tested

@@ -1,18 +1,18 @@
 -- What dirty buffers hold before a call, and what is due of the output after it.
 use Rattle.std.specs.Prelude.{ℕ, zero, suc, ◌+◌, ◌%◌, ◌^◌, List, [], ◌∷◌, ◌++◌, length, take, drop}
 
--- n numbers below `size`: the first, and each `step` more than the one before it, modulo `size`
-unfoldable pub dirt : (step size first n : ℕ) → List ℕ
-dirt step size x zero = []
-dirt step size x (suc n) = x ∷ dirt step size ((x + step) % size) n
+-- n numbers: the first, and each the one that follows the one before it
+unfoldable pub dirt : {A : Type 0} (following : A → A) (first : A) (n : ℕ) → List A
+dirt following x zero = []
+dirt following x (suc n) = x ∷ dirt following (following x) n
 
 -- the dirt of an output
 abbrev pub bytes : (first n : ℕ) → List ℕ
-bytes first n = dirt 37 (2 ^ 8) first n
+bytes first n = dirt (λ x. (x + 37) % 2 ^ 8) first n
 
 -- the dirt of a workspace
 abbrev pub numbers : (first n : ℕ) → List ℕ
-numbers first n = dirt 2654435769 (2 ^ 32) first n
+numbers first n = dirt (λ x. (x + 2654435769) % 2 ^ 32) first n
 
 -- one list written over the front of another, which keeps its length
 abbrev pub over : List ℕ → List ℕ → List ℕ

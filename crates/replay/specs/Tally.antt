@@ -1,31 +1,32 @@
 -- What is counted of the calls.
-use Rattle.std.specs.Prelude.{ℕ, ◌+◌, ◌*◌, Bool, true, false, ◌&&◌, List, nat_le, nat_lt, slice_index, slice_set}
+use Rattle.std.specs.Prelude.{ℕ, ◌+◌, ◌&&◌, [], nat_le, nat_lt, slice_index, slice_set, slice_index_or, Result, Ok, Err, if◌then◌else◌}
+use Rattle.replay.specs.Records.{number_of}
 use Rattle.replay.specs.declared.record.Record.{Record}
+use Rattle.replay.specs.declared.record.Entry.{Entry}
 use Rattle.replay.specs.declared.call.Fault.{Fault}
-use Rattle.replay.specs.declared.call.Fault.TheVariants.{Nothing, Buffers, Number, Output, Workspace, Catalogue}
+use Rattle.replay.specs.declared.tally.Tally.{Tally}
 
--- one more at a position, up to a million; past the end nothing is counted
-abbrev pub one_more : (at : ℕ) → List ℕ → List ℕ
-one_more at xs = elim (nat_lt (slice_index xs at) 1000000) [ true ↦ slice_set xs at (slice_index xs at + 1) | false ↦ xs ]
+-- what is counted in a row and a column
+abbrev pub count_at : (row column : ℕ) → Tally → ℕ
+count_at row column t = slice_index (slice_index_or t.counts row []) column
+
+-- one more at a place, up to a million
+abbrev pub one_more : (place : ℕ × ℕ) → Tally → Tally
+one_more place t =
+    let n = count_at place.0 place.1 t in
+    let row = slice_set (slice_index_or t.counts place.0 []) place.1 (n + 1) in
+    if nat_lt n 1000000 then record { counts = slice_set t.counts place.0 row } else t
 
 -- the number of a refusal; 0 for an answer, which is stored as 0 or, of PUT and WITHDRAW, as 100 and more
 abbrev pub refusal : (number : ℕ) → ℕ
-refusal number = elim (nat_lt 99 number) [ true ↦ 0 | false ↦ number ]
+refusal number = if nat_lt 99 number then 0 else number
 
 -- where a call is counted by its entry and its stored number; with all calls where one of them is too large
-abbrev pub place : (entry number : ℕ) → ℕ
-place entry number = elim (nat_le entry 6 && nat_le (refusal number) 15) [ true ↦ entry * 16 + refusal number | false ↦ 0 ]
+abbrev pub place : (entry : Entry) (number : ℕ) → ℕ × ℕ
+place entry number =
+    if nat_le (number_of entry) 6 && nat_le (refusal number) 15 then (number_of entry, refusal number) else (0, 0)
 
-abbrev pub is_fault : Fault → Bool
-is_fault Nothing = false
-is_fault Buffers = true
-is_fault (Number m n) = true
-is_fault Output = true
-is_fault Workspace = true
-is_fault Catalogue = true
-
--- the counts with one call more: at 0 all calls, at 1 those that differ
-abbrev pub counted : Record → Fault → List ℕ → List ℕ
-counted c f xs =
-    let all = one_more (place c.entry c.number) (one_more 0 xs) in
-    elim (is_fault f) [ true ↦ one_more 1 all | false ↦ all ]
+-- the counts with one call more: in row 0 all calls in column 0, those that differ in column 1
+abbrev pub counted : Record → (held : Result (Unit {0}) Fault) → Tally → Tally
+counted c (Ok u) t = one_more (place c.entry c.number) (one_more (0, 0) t)
+counted c (Err f) t = one_more (0, 1) (one_more (place c.entry c.number) (one_more (0, 0) t))

@@ -7,179 +7,114 @@ mod record;
 mod report;
 mod tally;
 
-ghost use Rattle.std.specs.Prelude.{◌<◌, ◌≤◌, IfOk, length};
+ghost use Rattle.std.specs.Prelude.{◌≤◌, IfOk, length};
 
-use crate::record::Reading;
+use crate::call::{Buffers, Fault};
+use crate::record::Entry;
 use crate::report::Report;
+use crate::tally::Tally;
 use catalogue::places::LENGTH;
-use std::io::{self, Read};
+use std::io::{self, ErrorKind, Read};
 
-// Makes the call that starts here, and answers where the next one does.
-fn replay_one(
-    report: &mut Report,
-    s: &[u8],
-    at: usize,
-    first: u8,
-    output: &mut [u8],
-    workspace: &mut [u32],
-    former: &mut [u32],
-    catalogue: &mut [u32],
-    before: &mut [u32],
-    counts: &mut [u32],
-) -> usize
-    requires { at < length s.now }
-    ensures { (at < result) × (result ≤ length s.now) }
-{
-    let reading = record::record_at(s, at);
-    let Reading::Whole(call) = reading else {
-        report.print("the list breaks off\n");
-        return s.len();
-    };
-    let fault = call::fault_of(s, call, first, output, workspace, former, catalogue, before);
-    tally::count(report, counts, call, fault);
-    call.next
-}
+const OUTPUT: usize = 32768;
 
-// Makes the calls that start before a position, and answers where the next one does. Each finds the workspace
-// and the catalogue as former calls left them, and an output full of other bytes.
-fn replay(
-    report: &mut Report,
-    s: &[u8],
-    upto: usize,
-    output: &mut [u8],
-    workspace: &mut [u32],
-    former: &mut [u32],
-    catalogue: &mut [u32],
-    before: &mut [u32],
-    counts: &mut [u32],
-) -> usize
-    requires { upto ≤ length s.now }
-    ensures { result ≤ length s.now }
-{
-    let mut first: u8 = 0;
-    let mut at: usize = 0;
-    while at < upto {
-        at = replay_one(
-            report, s, at, first, output, workspace, former, catalogue, before, counts,
-        );
-        first = std::num::wrapping_add_u8(first, 1);
-    }
-    at
-}
+const WORKSPACE: usize = 16040;
+
+// How many bytes of the list are read at a time, and how many times at most.
+const PART: usize = 131072;
+
+const PARTS: usize = 64;
 
 // Reads until the buffer is full or the input ends, and answers how many bytes it put at the front.
 fn read_full(input: &mut impl Read, buffer: &mut [u8]) -> io::Result<usize>
     ensures { IfOk result (λ n. n ≤ length buffer.new) }
 {
     let mut done: usize = 0;
-    while done < buffer.len() {
-        let n = input.read(&mut buffer[done..])?;
-        if n == 0 {
-            break;
+    // A read that is interrupted is made again; one into a full buffer answers 0.
+    for _ in 0..u64::MAX {
+        match input.read(&mut buffer[done..]) {
+            Ok(0) => break,
+            Ok(n) => done += n,
+            Err(error) if error.kind() == ErrorKind::Interrupted => {}
+            Err(error) => return Err(error),
         }
-        done += n;
     }
     Ok(done)
 }
 
-// The list is read part by part; what is not replayed of a part is moved to the front of the next.
-fn replay_list(
-    list: &mut impl Read,
-    report: &mut Report,
-    input: &mut [u8],
-    output: &mut [u8],
-    workspace: &mut [u32],
-    former: &mut [u32],
-    catalogue: &mut [u32],
-    before: &mut [u32],
-    counts: &mut [u32],
-) -> io::Result<()> {
-    dirt::fill_numbers(workspace, 7);
-    let mut held: usize = 0;
-    let mut part: usize = 0;
-    while part < 64 {
-        let n = read_full(list, &mut input[held..])?;
-        let end = held + n;
-        let upto = record::starts_up_to(end, input.len());
-        let next = replay(
-            report,
-            &input[..end],
-            upto,
-            output,
-            workspace,
-            former,
-            catalogue,
-            before,
-            counts,
-        );
-        if end < input.len() {
-            return Ok(());
+// What calls are made on, counted in and reported by.
+#[derive(Drop)]
+struct Replay {
+    buffers: Buffers<OUTPUT, WORKSPACE, LENGTH>,
+    tally: Tally,
+    report: Report,
+}
+
+impl Replay {
+    // Makes the calls that start before a position of the list's part, and answers how many of its bytes are left. Each
+    // finds the workspace and the catalogue as former calls left them, and an output full of other bytes.
+    fn replay_part(&mut self, list: &[u8], upto: usize) -> usize
+        requires { upto ≤ length list.now }
+        ensures { result ≤ length list.now }
+    {
+        let mut first: u8 = 0;
+        let mut rest = list;
+        while list.len() - upto < rest.len() {
+            let Some((call, behind)) = record::read(rest) else {
+                self.report.print("the list breaks off\n");
+                return 0;
+            };
+            let held = self.buffers.replay(&call, first);
+            self.tally.count(&call, held);
+            if let Err(fault) = held {
+                self.report_first(call.entry, fault);
+            }
+            first = first.wrapping_add(1);
+            rest = behind;
         }
-        held = record::move_to_front(input, next);
-        part += 1;
+        rest.len()
     }
-    report.print("the list is too long\n");
-    Ok(())
-}
 
-fn print_field(report: &mut Report, name: &str, n: u32) {
-    report.print(name);
-    report.print(n);
-}
-
-// The answers and the refusals 1 to 15 of an entry.
-fn print_entry(report: &mut Report, counts: &[u32], name: &str, entry: usize) {
-    report.print(name);
-    if 6 < entry {
-        return;
+    // Only the first call that differs is printed.
+    fn report_first(&mut self, entry: Entry, fault: Fault) {
+        if self.tally.differences() == 1 {
+            let call = self.tally.calls();
+            self.report.print(format_args!("difference: call {call} of entry {entry} {fault}\n"));
+        }
     }
-    print_field(report, " answers=", tally::count_at(counts, entry * 16));
-    let mut n: usize = 1;
-    while n < 16 {
-        report.print(" refused_");
-        report.print(n);
-        print_field(report, "=", tally::count_at(counts, entry * 16 + n));
-        n += 1;
-    }
-    report.print("\n");
-}
 
-fn print_counts(report: &mut Report, counts: &[u32]) {
-    print_field(report, "calls=", tally::count_at(counts, tally::CALLS));
-    print_field(
-        report,
-        "\ndifferences=",
-        tally::count_at(counts, tally::DIFFERENCES),
-    );
-    report.print("\n");
-    print_entry(report, counts, "find", 1);
-    print_entry(report, counts, "words", 2);
-    print_entry(report, counts, "rename", 3);
-    print_entry(report, counts, "check", 4);
-    print_entry(report, counts, "put", 5);
-    print_entry(report, counts, "withdraw", 6);
+    // The list is read part by part; what is not replayed of a part is moved to the front of the next.
+    fn replay_list(&mut self, list: &mut impl Read, input: &mut [u8]) -> io::Result<()> {
+        dirt::fill(&mut self.buffers.workspace, 7);
+        let mut held: usize = 0;
+        for _ in 0..PARTS {
+            let end = held + read_full(list, &mut input[held..])?;
+            let upto = record::starts_up_to(end, input.len());
+            let left = self.replay_part(&input[..end], upto);
+            if end < input.len() {
+                return Ok(());
+            }
+            held = record::move_to_front(input, end - left);
+        }
+        self.report.print("the list is too long\n");
+        Ok(())
+    }
 }
 
 fn main(rt: HostRuntime) -> io::Result<()> {
-    let mut input = [0u8; 131072];
-    let mut output = [0u8; 32768];
-    let mut workspace = [0u32; 16040];
-    let mut former = [0u32; 16040];
-    let mut catalogue = [0u32; LENGTH];
-    let mut before = [0u32; LENGTH];
-    let mut counts = [0u32; 112];
-    let mut report = Report::new(rt.stdout());
-    replay_list(
-        &mut rt.stdin(),
-        &mut report,
-        &mut input,
-        &mut output,
-        &mut workspace,
-        &mut former,
-        &mut catalogue,
-        &mut before,
-        &mut counts,
-    )?;
-    print_counts(&mut report, &counts);
-    report.end()
+    let mut input = [0u8; PART];
+    let mut replay = Replay {
+        buffers: Buffers {
+            output: [0; OUTPUT],
+            workspace: [0; WORKSPACE],
+            former: [0; WORKSPACE],
+            catalogue: [0; LENGTH],
+            before: [0; LENGTH],
+        },
+        tally: Tally::new(),
+        report: Report::new(rt.stdout()),
+    };
+    replay.replay_list(&mut rt.stdin(), &mut input)?;
+    replay.report.print(&replay.tally);
+    replay.report.end()
 }

@@ -1,92 +1,113 @@
 // The list of stored calls: where its records start, and what stands in them.
-ghost use Rattle.std.specs.Prelude.{◌≡◌, ◌-◌, ◌≤◌, length, drop};
-ghost use Rattle.replay.specs.Records.{Reads};
+ghost use Rattle.std.specs.Prelude.{◌≡◌, ◌-◌, ◌<◌, ◌≤◌, length, drop};
+ghost use Rattle.replay.specs.Records.{Reads, entry_of, number_of, IsEnd};
 ghost use Rattle.replay.specs.Dirt.{over};
 
-// A number, and the position after the byte that ends it.
-#[derive(Drop)]
-pub struct Number {
-    pub value: usize,
-    pub next: usize,
+use std::fmt;
+
+// The entry that a stored call is made of.
+#[derive(Clone, Copy, Debug, PartialEq, Eq)]
+pub enum Entry {
+    Find,
+    Words,
+    Rename,
+    Check,
+    Put,
+    Withdraw,
+    // Any other number; such a call is made of CHECK.
+    Other(usize),
 }
 
-// A stored call. Its job ends where its answer starts, and that ends where the next record starts.
+impl From<usize> for Entry {
+    ghost from_gives = { λ n e. e ≡ entry_of n };
+
+    fn from(number: usize) -> Entry {
+        match number {
+            1 => Entry::Find,
+            2 => Entry::Words,
+            3 => Entry::Rename,
+            4 => Entry::Check,
+            5 => Entry::Put,
+            6 => Entry::Withdraw,
+            _ => Entry::Other(number),
+        }
+    }
+}
+
+impl Entry {
+    // The number that stands for the entry in the list.
+    pub fn number(self) -> usize
+        ensures { result ≡ number_of self }
+    {
+        match self {
+            Entry::Find => 1,
+            Entry::Words => 2,
+            Entry::Rename => 3,
+            Entry::Check => 4,
+            Entry::Put => 5,
+            Entry::Withdraw => 6,
+            Entry::Other(number) => number,
+        }
+    }
+}
+
+impl fmt::Display for Entry {
+    fn fmt<W: fmt::Write>(&self, f: &mut fmt::Formatter<W>) -> fmt::Result {
+        write!(f, "{}", self.number())
+    }
+}
+
+// A stored call.
 #[derive(Clone, Copy)]
-pub struct Record {
-    pub entry: usize,
+pub struct Record<'a> {
+    pub entry: Entry,
     pub slots: usize,
     pub room: usize,
     pub number: usize,
-    pub job: usize,
-    pub answer: usize,
-    pub next: usize,
+    pub job: &'a [u8],
+    pub answer: &'a [u8],
 }
 
-#[derive(Drop)]
-pub enum Reading {
-    Broken,
-    Whole(Record),
-}
-
-fn wide(x: u8) -> usize
-    ensures { result ≤ 255 }
-{
-    x as usize
-}
-
-// The decimal number that starts here; of a long one, the first seven digits.
-fn number_at(s: &[u8], at: usize) -> Number
-    requires { at ≤ length s.now }
-    ensures { (result.value ≤ 9999999) × (at ≤ result.next) × (result.next ≤ length s.now) }
+// The decimal number at the front of a list, and the list behind the byte that ends it; of a long one, the first six digits.
+fn number(list: &[u8]) -> (usize, &[u8])
+    ensures small { result.0 ≤ 9999999 }
+    ensures end { IsEnd list.now result.1.now }
+    ensures shorter { length result.1.now ≤ length list.now - 1 }
 {
     let mut value: usize = 0;
-    let mut i = at;
-    while i < s.len() {
-        let b = s[i];
-        i += 1;
-        if b < b'0' {
-            return Number { value, next: i };
+    for (i, byte) in list.iter().enumerate() {
+        if !byte.is_ascii_digit() || 99999 < value {
+            return (value, &list[i + 1..]);
         }
-        if b'9' < b {
-            return Number { value, next: i };
-        }
-        if 99999 < value {
-            return Number { value, next: i };
-        }
-        value = value * 10 + wide(b - b'0');
+        value = value * 10 + usize::from(*byte - b'0');
     }
-    Number { value, next: i }
+    (value, &list[list.len()..])
 }
 
-// The record that starts here.
-pub fn record_at(s: &[u8], at: usize) -> Reading
-    requires { at ≤ length s.now }
-    ensures { Reads s.now at result }
+// The record that starts the list, and the list behind it.
+pub fn read(list: &[u8]) -> Option<(Record<'_>, &[u8])>
+    ensures { Reads list.now result }
 {
-    let entry = number_at(s, at);
-    let slots = number_at(s, entry.next);
-    let room = number_at(s, slots.next);
-    let job_length = number_at(s, room.next);
-    let number = number_at(s, job_length.next);
-    let answer_length = number_at(s, number.next);
-    let job = answer_length.next;
-    let answer = job + job_length.value;
-    let next = answer + answer_length.value;
-    if s.len() < next {
-        return Reading::Broken;
+    if list.is_empty() {
+        return None;
     }
-    if next <= at {
-        return Reading::Broken;
-    }
-    Reading::Whole(Record {
-        entry: entry.value,
-        slots: slots.value,
-        room: room.value,
-        number: number.value,
+    let (entry, rest) = number(list);
+    let (slots, rest) = number(rest);
+    let (room, rest) = number(rest);
+    let (job_length, rest) = number(rest);
+    let (due, rest) = number(rest);
+    let (answer_length, rest) = number(rest);
+    let (job, rest) = rest.split_at_checked(job_length)?;
+    let (answer, rest) = rest.split_at_checked(answer_length)?;
+    let record = Record {
+        entry: Entry::from(entry),
+        slots,
+        room,
+        number: due,
         job,
         answer,
-        next,
-    })
+    };
+    Some((record, rest))
 }
 
 // No record is longer: one that starts as far before the end of a part of the list is whole.
@@ -97,25 +118,17 @@ pub fn starts_up_to(end: usize, size: usize) -> usize
     ensures { result ≤ end }
 {
     if end < size {
-        return end;
+        end
+    } else {
+        end.saturating_sub(LONGEST)
     }
-    if end < LONGEST {
-        return 0;
-    }
-    end - LONGEST
 }
 
 // Moves the bytes from a position on to the front, and answers how many they are.
 pub fn move_to_front(s: &mut [u8], from: usize) -> usize
     ensures { (result ≡ length s.old - from) × (s.new ≡ over (drop from s.old) s.old) }
 {
-    let mut to: usize = 0;
-    let mut at = from;
-    while at < s.len() {
-        let b = s[at];
-        s[to] = b;
-        to += 1;
-        at += 1;
-    }
-    to
+    let from = from.min(s.len());
+    s.copy_within(from.., 0);
+    s.len() - from
 }

@@ -16,6 +16,8 @@ impl Report {
         }
     }
 
+    // The buffer of a print is not laid on the stack beside a call's: no caller takes it in.
+    #[inline(never)]
     pub fn print<D: Display + Drop>(&mut self, text: D) {
         if self.outcome.is_ok() {
             self.outcome = self.to.print(text);

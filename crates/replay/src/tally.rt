@@ -1,115 +1,109 @@
 // Counts of calls: how many, how many that differ, and for each entry its answers and refusals.
-ghost use Rattle.std.specs.Prelude.{◌≡◌, slice_index};
-ghost use Rattle.replay.specs.Tally.{one_more, refusal, place, is_fault, counted};
+ghost use Rattle.std.specs.Prelude.{◌≡◌, ◌<◌, ℕ};
+ghost use Rattle.replay.specs.Tally.{count_at, one_more, refusal, place, counted};
 
-use crate::call::Fault;
-use crate::record::Record;
-use crate::report::Report;
+use crate::call::{ANSWER, Fault};
+use crate::record::{Entry, Record};
+use std::fmt;
 
-// Where the calls and the differences are counted; entry e has its answers at 16 e, refusal n at 16 e + n.
-pub const CALLS: usize = 0;
+const ROWS: usize = 7;
 
-pub const DIFFERENCES: usize = 1;
+const COLUMNS: usize = 16;
 
-fn add_one(counts: &mut [u32], at: usize)
-    ensures { counts.new ≡ one_more at counts.old }
-{
-    if counts.len() <= at {
-        return;
-    }
-    let n = counts[at];
-    if n < 1000000 {
-        counts[at] = n + 1;
-    }
-}
+// A row and a column each: where all calls are counted, and where those that differ.
+const CALLS: (usize, usize) = (0, 0);
 
-pub fn count_at(counts: &[u32], at: usize) -> u32
-    ensures { result ≡ slice_index counts.now at }
-{
-    if counts.len() <= at {
-        return 0;
-    }
-    counts[at]
+const DIFFERENCES: (usize, usize) = (0, 1);
+
+// Nothing is counted beyond.
+const MOST: u32 = 1000000;
+
+// The row of an entry's number counts its answers in column 0 and each refusal in the column of its number; row 0 is of
+// all entries.
+#[derive(Clone, Copy)]
+pub struct Tally {
+    pub counts: [[u32; COLUMNS]; ROWS],
 }
 
 // The number of a refusal: an answer is stored as 0 or, of PUT and WITHDRAW, as 100 and more.
 fn refusal_of(number: usize) -> usize
     ensures { result ≡ refusal number }
 {
-    if 99 < number {
-        return 0;
-    }
-    number
+    if ANSWER <= number { 0 } else { number }
 }
 
-// Where a call is counted by its entry and what it is to give.
-fn place_of(entry: usize, number: usize) -> usize
-    ensures { result ≡ place entry number }
+// Where a call is counted by its entry and what it is to give: with all calls where one of them is too large.
+fn place_of(entry: Entry, number: usize) -> (usize, usize)
+    ensures place { result ≡ place entry number }
+    ensures row { result.0 < ROWS }
+    ensures column { result.1 < COLUMNS }
 {
-    let n = refusal_of(number);
-    if 6 < entry {
-        return 0;
-    }
-    if 15 < n {
-        return 0;
-    }
-    entry * 16 + n
-}
-
-fn is_fault(fault: Fault) -> bool
-    ensures { result ≡ is_fault fault }
-{
-    match fault {
-        Fault::Nothing => false,
-        Fault::Buffers => true,
-        Fault::Number(_, _) => true,
-        Fault::Output => true,
-        Fault::Workspace => true,
-        Fault::Catalogue => true,
+    let row = entry.number();
+    let column = refusal_of(number);
+    if row < ROWS && column < COLUMNS {
+        (row, column)
+    } else {
+        CALLS
     }
 }
 
-// The first call that differs is printed.
-fn count_difference(report: &mut Report, counts: &mut [u32], call: Record, fault: Fault)
-    ensures { counts.new ≡ one_more 1 counts.old }
-{
-    if count_at(counts, DIFFERENCES) == 0 {
-        print_fault(report, count_at(counts, CALLS), call, fault);
-    }
-    add_one(counts, DIFFERENCES);
-}
-
-pub fn count(report: &mut Report, counts: &mut [u32], call: Record, fault: Fault)
-    ensures { counts.new ≡ counted call fault counts.old }
-{
-    add_one(counts, CALLS);
-    add_one(counts, place_of(call.entry, call.number));
-    if is_fault(fault) {
-        count_difference(report, counts, call, fault);
-    }
-}
-
-fn print_number(report: &mut Report, n: usize) {
-    report.print(n);
-}
-
-fn print_fault(report: &mut Report, at: u32, call: Record, fault: Fault) {
-    report.print("difference: call ");
-    report.print(at);
-    report.print(" of entry ");
-    print_number(report, call.entry);
-    match fault {
-        Fault::Nothing => {}
-        Fault::Buffers => report.print(" needs larger buffers"),
-        Fault::Number(n, due) => {
-            report.print(" returned ");
-            print_number(report, n);
-            report.print(", due ");
-            print_number(report, due);
+impl Tally {
+    pub fn new() -> Tally
+        ensures { (row column : ℕ) → count_at row column result ≡ 0 }
+    {
+        Tally {
+            counts: [[0; COLUMNS]; ROWS],
         }
-        Fault::Output => report.print(" left other bytes in the output"),
-        Fault::Workspace => report.print(" changed the workspace"),
-        Fault::Catalogue => report.print(" changed the catalogue"),
     }
-    report.print("\n");
+
+    pub fn calls(&self) -> u32
+        ensures { result ≡ count_at 0 0 self.now }
+    {
+        self.counts[0][0]
+    }
+
+    pub fn differences(&self) -> u32
+        ensures { result ≡ count_at 0 1 self.now }
+    {
+        self.counts[0][1]
+    }
+
+    fn add_one(&mut self, place: (usize, usize))
+        requires row { place.0 < ROWS }
+        requires column { place.1 < COLUMNS }
+        ensures { self.new ≡ one_more place self.old }
+    {
+        let (row, column) = place;
+        let n = self.counts[row][column];
+        if n < MOST {
+            self.counts[row][column] = n + 1;
+        }
+    }
+
+    pub fn count(&mut self, call: &Record<'_>, held: Result<(), Fault>)
+        ensures { self.new ≡ counted call.now held self.old }
+    {
+        self.add_one(CALLS);
+        self.add_one(place_of(call.entry, call.number));
+        if held.is_err() {
+            self.add_one(DIFFERENCES);
+        }
+    }
+}
+
+const NAMES: [&str; 6] = ["find", "words", "rename", "check", "put", "withdraw"];
+
+impl fmt::Display for Tally {
+    fn fmt<W: fmt::Write>(&self, f: &mut fmt::Formatter<W>) -> fmt::Result {
+        writeln!(f, "calls={}", self.calls())?;
+        writeln!(f, "differences={}", self.differences())?;
+        for (name, row) in NAMES.iter().zip(&self.counts[1..]) {
+            write!(f, "{name} answers={}", row[0])?;
+            for (number, count) in row.iter().enumerate().skip(1) {
+                write!(f, " refused_{number}={count}")?;
+            }
+            writeln!(f)?;
+        }
+        Ok(())
+    }
 }
