@@ -6,12 +6,13 @@ use mathlib.Core.List.{List, [], ◌∷◌, ◌++◌, append_assoc, append-nil}
 use mathlib.Core.Option.{some}
 use lib.ListN.{length, take, drop, get_or, length-append, length-drop, take-append-drop}
 use lib.Seq.{take_at, take-take}
+use Rattle.std.proofs.lemmas.List.{drop-take}
 use Rattle.terms.specs.Term.{Term, letter, zero, one, add, mul, size}
 use Rattle.terms.specs.Run.{ADD, MUL, run}
 use Rattle.terms.specs.Held.{Fine, IsRun, Holds}
 use Rattle.terms.specs.Theory.Held.{length_run}
 use Rattle.terms.specs.Theory.ReadRun.{run_read}
-use Rattle.terms.proofs.Positions.{drop_head, drop_past, drop_take}
+use Rattle.terms.proofs.Positions.{drop_head, drop_past}
 
 pub size_pos : (t : Term) → 0 < size t
 unfolding size
@@ -65,7 +66,7 @@ holds_part {xs} {i} {t} f e =
 pub front_holds : (xs ys : List ℕ) (n : ℕ) {i : ℕ} {t : Term} → take n ys ≡ take n xs → i + size t ≤ n → Holds xs i t → Holds ys i t
 front_holds xs ys n {i} {t} e h p =
     holds_part p.fine
-    (sym (drop_take i (size t) ys)
+    (sym (drop-take i (size t) ys)
     ∙ ap (drop i) (sym (take-take (i + size t) n ys h) ∙ ap (take (i + size t)) e ∙ take-take (i + size t) n xs h)
-    ∙ drop_take i (size t) xs
+    ∙ drop-take i (size t) xs
     ∙ (held_part (size t) p refl).whole)

@@ -6,11 +6,12 @@ use mathlib.Core.Path.{◌≡◌, refl, sym, ap, ◌∙◌}
 use mathlib.Core.Logic.{⊎_elim}
 use mathlib.Core.List.{List, [], ◌∷◌, ◌++◌, append_assoc, append-nil}
 use lib.ListN.{length, take, drop, set, get_or, length-append, length-drop, take-append-drop, drop_of_length-le}
-use lib.Seq.{take_all, take-length, length-take-le, take-append_seam, take-suc, take-append-le, drop-append-le, take_at, set_at, append_snoc, get_or-take}
+use lib.Seq.{take_all, length-take-le, take-append_seam, take-suc, take-append-le, drop-append-le, take_at, set_at, append_snoc, get_or-take}
 use borrow.Author.Tests.{lt-leb, le-leb, leb-true, not-false}
 use Rattle.std.specs.Prelude.{not, Some, None, nat_le}
 use Rattle.std.specs.List.{copy_within, position_or_len}
 use Rattle.std.proofs.lemmas.List.Sums.{prefix_len_stops, prefix_len-le-length}
+use Rattle.std.proofs.lemmas.List.{take_min}
 use Rattle.terms.proofs.Positions.{drop_one}
 use Rattle.terms.specs.Compare.{eq}
 use Rattle.terms.specs.Sort.{lost, repeat, insert}
@@ -92,13 +93,6 @@ unfolding put_in
 put_in_room x ys z i h =
     rw (take-append-le i ys (z ∷ []) h, drop-append-le i ys (z ∷ []) h, ← (append_assoc (take i ys) (x ∷ drop i ys) (z ∷ [])))
     (take_at (take i ys ++ (x ∷ drop i ys)) (z ∷ []) (length (ys ++ (z ∷ []))) (split_length x ys i ∙ sym (length-append ys (z ∷ []))))
-
-take_min : (n : ℕ) (xs : List ℕ) → take (min n (length xs)) xs ≡ take n xs
-take_min n xs =
-    ⊎_elim
-    (λ h. let e : min n (length xs) ≡ n = omega arith in rw e)
-    (λ h. let e : min n (length xs) ≡ length xs = omega arith in rw (e, take-length, take_all n xs h))
-    (below? n (length xs))
 
 -- the promise of `insert`, where the first n numbers end at m and `at` is the place for x among them
 

@@ -1,12 +1,11 @@
 -- The part of a list from a position on.
 use Prim.Native.Nat.{ℕ, zero, suc, ◌+◌, ◌<◌}
 use native.Mathlib.Omega.{arith}
-use native.Mathlib.Nat.{zero-add, suc-add}
 use native.Mathlib.Numerals.{add-one}
 use mathlib.Core.Path.{◌≡◌, sym, ap, ◌∙◌}
 use mathlib.Core.List.{List, [], ◌∷◌, ◌++◌}
 use lib.ListN.{length, take, drop, get_or}
-use lib.Seq.{drop-drop, drop-append_seam, drop-cons, take-nil, get_or-take}
+use lib.Seq.{drop-drop, drop-append_seam, drop-cons, get_or-take}
 
 pub drop_one : (xs : List ℕ) (i : ℕ) → i < length xs → drop i xs ≡ get_or xs i 0 ∷ drop (i + 1) xs
 drop_one xs i h = rw (add-one, drop-cons xs i 0)
@@ -22,11 +21,6 @@ drop_head xs i x ys e = let p = drop_head_suc xs i x ys e in (p.0, p.1, rw add-o
 
 pub drop_past : (xs us vs : List ℕ) (i : ℕ) → drop i xs ≡ us ++ vs → drop (i + length us) xs ≡ vs
 drop_past xs us vs i e = sym (drop-drop (length us) i xs) ∙ ap (drop (length us)) e ∙ drop-append_seam us vs
-
-pub drop_take : (i m : ℕ) (xs : List ℕ) → drop i (take (i + m) xs) ≡ take m (drop i xs)
-drop_take zero m xs = rw zero-add
-drop_take (suc i) m [] = rw suc-add (sym (take-nil m))
-drop_take (suc i) m (x ∷ xs) = rw suc-add (drop_take i m xs)
 
 -- where the first n numbers of two lists agree
 pub front_getD : (xs ys : List ℕ) (n i : ℕ) → take n ys ≡ take n xs → i < n → get_or ys i 0 ≡ get_or xs i 0

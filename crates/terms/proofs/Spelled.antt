@@ -127,7 +127,7 @@ spells_one xs = go (build token xs)
 
 -- the promise, from what was found of the numbers
 
-some_of : {A : Type 0} (o : Option A) → is_some o ≡ true → (x : A) × (o ≡ some x)
+pub some_of : {A : Type 0} (o : Option A) → is_some o ≡ true → (x : A) × (o ≡ some x)
 unfolding is_some
 some_of none e = absurd (let z : ◌≡◌ {A = ℕ} 0 1 = cc in omega arith)
 some_of (some x) e = (x, refl)

@@ -50,6 +50,17 @@ smaller_of lt a b = a
 smaller_of eq a b = a
 smaller_of gt a b = b
 
+-- two in order: exchanged if the second comes before the first
+abbrev pub in_order_of : {A : Type 0} → Ordering → A → A → A × A
+in_order_of lt a b = (a, b)
+in_order_of eq a b = (a, b)
+in_order_of gt a b = (b, a)
+
+-- of `in_order`, where a and b are lent runs with the numbers xs and ys
+pub record InOrder {A : Type 0} (xs ys : List ℕ) (a b : A) (r : A × A) : Type 0 where
+  pub numbers : r ≡ in_order_of (order_numbers xs ys) a b
+  pub terms : (s t : Term) → IsRun xs s → IsRun ys t → r ≡ in_order_of (order s t) a b
+
 -- of `smaller`, where a and b are lent runs with the numbers xs and ys
 pub record Smaller {A : Type 0} (xs ys : List ℕ) (a b r : A) : Type 0 where
   pub numbers : r ≡ smaller_of (order_numbers xs ys) a b

@@ -6,6 +6,7 @@ ghost use Rattle.terms.specs.Sort.{lost, insert, insert_all};
 ghost use Rattle.terms.specs.Numbers.{put_in, letters_of};
 ghost use Rattle.terms.specs.Promises.{Compares, Equals, Ends, Sized, Extends, Deep, Reads, Fills, Lists};
 
+use crate::difference::first_difference;
 use std::cmp::Ordering;
 
 // The numbers of a run that are no letters: 0, 1, a sum and a product. Those below ZERO are letters, and those below ADD atoms.
@@ -17,18 +18,24 @@ pub const ADD: u32 = 4098;
 
 pub const MUL: u32 = 4099;
 
+// `compare` and `equal` go by `first_difference`, not by the library's `cmp` and `==`: those have no contract that names the place where two
+// runs differ, and none that speaks of terms.
+
 // Which of two runs comes first, by the first number that differs.
 pub fn compare(a: &[u32], b: &[u32]) -> Ordering
     ensures { Compares a.now b.now result }
 {
-    a.cmp(b)
+    match first_difference(a, b) {
+        Some(k) => a.get(k).cmp(&b.get(k)),
+        None => Ordering::Equal,
+    }
 }
 
 // Whether two runs are the same.
 pub fn equal(a: &[u32], b: &[u32]) -> bool
     ensures { Equals a.now b.now result }
 {
-    a == b
+    first_difference(a, b).is_none()
 }
 
 // Where the term that starts at `at` ends: where the list ends, if that comes first, and `at` itself past that.
@@ -145,6 +152,8 @@ fn insert(out: &mut [u32], n: usize, x: u32) -> Option<usize>
 }
 
 // The letters of a run put among the first `n` numbers, one after another: how many there are then, if there was room for all.
+// Here and in `insert` a count stands beside the buffer: it says what stands at the front of a buffer that the caller goes on with, from run to
+// run or from line to line.
 pub fn gather(s: &[u32], out: &mut [u32], n: usize) -> Option<usize>
     ensures { Fills (insert_all lost compare (take n out.old) (letters_of s.now)) out.old result out.new }
 {
