@@ -1,5 +1,5 @@
 -- The words of a term of 31 nodes are few, short and of small letters, and so are they when sorted or renamed: their run finds room.
-use Rattle.std.proofs.Common.{◌≡◌, ℕ, ◌*◌, ◌<◌, ◌≤◌, max, List, [], ◌∷◌, map, length, take, refl, ap, ◌∙◌, ap₂, arith}
+use Rattle.std.proofs.Common.{◌≡◌, ℕ, ◌*◌, ◌<◌, ◌≤◌, max, List, [], ◌∷◌, map, length, take, refl, ap₂, arith}
 use lib.ListN.{length-map}
 use Rattle.terms.specs.Lists.{of_map}
 use Rattle.terms.specs.Sort.{kept}
@@ -64,9 +64,9 @@ bounded_written {us} b h s =
 pub record Multiplied (xs us : List ℕ) : Type 0 where
   pub words : (t : Term) → IsRun xs t → size t ≤ 31 → slot_words us ≡ expand t
 
-pub multiplied : {xs ws ss ws' us : List ℕ} {n : ℕ} → SLOT * MOST ≤ length ws → SLOT * MOST ≤ length ss
-    → MultipliesOut xs ws ss n ws' → us ≡ take (SLOT * n) ws' → Multiplied xs us
-multiplied p q m e = record { words = λ t h small. ap slot_words e ∙ puts_listed (m.exact t h small p q) (omega (arith, m.few)) }
+pub multiplied : {xs ws ss ws' : List ℕ} {n : ℕ} → SLOT * MOST ≤ length ws → SLOT * MOST ≤ length ss → MultipliesOut xs ws ss n ws'
+    → Multiplied xs (take (SLOT * n) ws')
+multiplied p q m = record { words = λ t h small. puts_listed (m.exact t h small p q) (omega (arith, m.few)) }
 
 pub words_written : {xs us out out' : List ℕ} {r : ℕ} → Multiplied xs us → Spells (normal kept (slot_words us)) out r out' → WordsOf xs out r out'
 words_written m s =

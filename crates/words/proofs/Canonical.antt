@@ -65,7 +65,7 @@ renaming_below names l c n h =
 
 -- the least over all renamings
 
-run_carries : (s t : Term) → Fine s → Fine t → order_numbers (run s) (run t) ≡ order s t
+pub run_carries : (s t : Term) → Fine s → Fine t → order_numbers (run s) (run t) ≡ order s t
 run_carries s t f g = run_order s t (fine_letters s f) (fine_letters t g)
 
 module _ (names : List ℕ) (few : length names ≤ 6) (s t : Term) (f : Fine s) (g : Fine t) where
@@ -86,10 +86,11 @@ module _ (xs ys : List ℕ) {room : ℕ} {names names' : List ℕ} {l : Option �
   pub too_many : {e : Sides} → length names ≡ 6 → l ≡ None → CanonicalTerms xs ys room e
   too_many n p = record { exact = λ s t u v a b few c. absurd (omega (arith, (rw p at (listed.terms s t u v)).0)) }
 
-  pub all_listed : {used : List ℕ} {k : ℕ} {e : Sides} → l ≡ Some k → used ≡ take k names'
-      → Finds (Room 31 xs ys room) (least_to order_numbers (candidate used xs ys) (factorial (length used) - 1)) e → CanonicalTerms xs ys room e
+  pub all_listed : {k : ℕ} {e : Sides} → l ≡ Some k
+      → Finds (Room 31 xs ys room) (least_to order_numbers (candidate (take k names') xs ys) (factorial (length (take k names')) - 1)) e
+      → CanonicalTerms xs ys room e
   unfolding canonical_terms
-  all_listed {used} {k} {e} p q found = record { exact = exact }
+  all_listed {k} {e} p found = record { exact = exact }
     where
       exact : (s t : Term) → IsRun xs s → IsRun ys t → size s ≤ 31 → size t ≤ 31
           → length (rising (letters s ++ letters t)) ≤ 6 → 31 ≤ room
@@ -97,10 +98,10 @@ module _ (xs ys : List ℕ) {room : ℕ} {names names' : List ℕ} {l : Option �
       exact s t u v a b few c =
           let rs = rising (letters s ++ letters t) in
           let fills = rw p at (listed.terms s t u v) in
-          let letters_used : used ≡ rs = q ∙ ap (take k) fills.2 ∙ take_at rs (drop k names) k (sym fills.0) in
+          let letters_used : take k names' ≡ rs = ap (take k) fills.2 ∙ take_at rs (drop k names) k (sym fills.0) in
           let roomy : Room 31 xs ys room = record { first = omega (arith, size_of u); second = omega (arith, size_of v); sides = c } in
           let d : e ≡ both run (canonical_terms s t) =
-          found.exact roomy ∙ least_candidate used xs ys ∙ rw (letters_used, u.whole, v.whole) (sym (run_least rs few s t u.fine v.fine)) in
+          found.exact roomy ∙ least_candidate (take k names') xs ys ∙ rw (letters_used, u.whole, v.whole) (sym (run_least rs few s t u.fine v.fine)) in
           (ap (λ (z : Sides). z.left) d, ap (λ (z : Sides). z.right) d)
 
 -- the least over all renamings of two lists of words, by their runs

@@ -63,18 +63,18 @@ module _ (xs ys us vs : List ℕ) (p : Multiplied xs us) (q : Multiplied ys vs) 
           exact = λ s t u v a b few c. absurd (omega (arith, (rw d at f.numbers).0, ap length (names_listed s t u v a b), fewer_letters s t));
         }
 
-    pub all_listed : {used : List ℕ} {k : ℕ} {e : Sides} → l ≡ Some k → used ≡ take k names'
-        → Finds (WordRoom us vs room) (least_to order_numbers (word_candidate used us vs) (factorial (length used) - 1)) e
+    pub all_listed : {k : ℕ} {e : Sides} → l ≡ Some k
+        → Finds (WordRoom us vs room) (least_to order_numbers (word_candidate (take k names') us vs) (factorial (length (take k names')) - 1)) e
         → CanonicalWords xs ys room e
-    all_listed {used} {k} {e} d n found = record { exact = exact }
+    all_listed {k} {e} d found = record { exact = exact }
       where
         exact : (s t : Term) → IsRun xs s → IsRun ys t → size s ≤ 31 → size t ≤ 31
             → length (rising (letters s ++ letters t)) ≤ 6 → SLOT * MOST ≤ room
             → (e.left ≡ spelled (canonical_words (words s) (words t)).left) × (e.right ≡ spelled (canonical_words (words s) (words t)).right)
         exact s t u v a b few long =
             let fills = rw d at f.numbers in
-            let names_used : used ≡ rising (flatten (expand s) ++ flatten (expand t)) =
-            n ∙ ap (take k) fills.2 ∙ take_at (slot_letters us vs) (drop k names) k (sym fills.0) ∙ names_listed s t u v a b in
+            let names_used : take k names' ≡ rising (flatten (expand s) ++ flatten (expand t)) =
+            ap (take k) fills.2 ∙ take_at (slot_letters us vs) (drop k names) k (sym fills.0) ∙ names_listed s t u v a b in
             let roomy : WordRoom us vs room =
             record {
               first = rw (p.words s u a) (expand_bounded s u.fine a);
@@ -82,5 +82,5 @@ module _ (xs ys us vs : List ℕ) (p : Multiplied xs us) (q : Multiplied ys vs) 
               sides = long;
             } in
             let all : e ≡ both spelled (canonical_words (words s) (words t)) =
-            found.exact roomy ∙ sym (spelled_least used (slot_words us) (slot_words vs)) ∙ rw (names_used, p.words s u a, q.words t v b) (sym (canonical_expanded s t)) in
+            found.exact roomy ∙ sym (spelled_least (take k names') (slot_words us) (slot_words vs)) ∙ rw (names_used, p.words s u a, q.words t v b) (sym (canonical_expanded s t)) in
             (ap (λ (z : Sides). z.left) all, ap (λ (z : Sides). z.right) all)

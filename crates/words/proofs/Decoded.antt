@@ -2,11 +2,12 @@
 use Rattle.std.proofs.Common.{◌≡◌, ℕ, zero, suc, ◌+◌, ◌-◌, ◌*◌, ◌/◌, ◌%◌, ◌<◌, ◌≤◌, ◌⊎◌, List, [], ◌∷◌, ◌++◌, map, length, get_or, take, drop, refl, ap, ◌∙◌, ap₂, inl, inr, ⊎_elim, mod-eq_of_lt, suc-mul, mul-pos, arith, length-append, length-drop, take-append-drop, length-take}
 use native.Mathlib.Nat.{mul-add-div_right, mul-add-mod_self_right, div-eq_of_lt}
 use mathlib.Core.List.{map-map, map-append, foldl, flat_map}
+use Rattle.std.proofs.lemmas.List.{get_or-map}
+use Rattle.std.proofs.lemmas.List.Folds.{flat_map-map}
 use Rattle.terms.specs.Lists.{◌∈◌, not-in-nil, cons-cases, append_cases, in_left, in_right}
 use Rattle.terms.specs.Compare.{Ordering}
 use Rattle.terms.specs.Equation.{Equation}
 use Rattle.words.specs.Rename.{count_from, everywhere, permutations, lesser, by_renaming, least}
-use Rattle.words.proofs.Renamed.{get_d_map}
 use Rattle.words.specs.Decoded.{place_in, decoded, factorial, least_to}
 
 -- counting
@@ -92,18 +93,13 @@ decoded_below (suc k) i c m =
 
 -- the permutations by number
 
-flatMap_map : {A B C : Type 0} (f : B → List C) (g : A → B) (xs : List A) → flat_map f (map g xs) ≡ flat_map (λ x. f (g x)) xs
-unfolding flat_map
-flatMap_map f g [] = refl
-flatMap_map f g (x ∷ xs) = ap (f (g x) ++◌) (flatMap_map f g xs)
-
 pub permutations_decoded : (k i : ℕ) → permutations (count_from k i) ≡ map (decoded k i) (count_from (factorial k) 0)
 unfolding permutations decoded factorial count_from
 permutations_decoded zero i = refl
 permutations_decoded (suc k) i =
     let e : 0 * suc k ≡ 0 = omega arith in
     ap (flat_map (everywhere i)) (permutations_decoded k (suc i))
-    ∙ flatMap_map (everywhere i) (decoded k (suc i)) (count_from (factorial k) 0)
+    ∙ flat_map-map (everywhere i) (decoded k (suc i)) (count_from (factorial k) 0)
     ∙ simp (everywhere_placed, decoded_length)
     (rw e at (rows (λ q p. place_in p i (decoded k (suc i) q)) (suc k) (factorial k) 0 (omega arith)))
 
@@ -153,4 +149,4 @@ pub factorial_listed : (k : ℕ) → k ≤ 6 → get_or (1 ∷ 1 ∷ 2 ∷ 6 ∷
 unfolding factorial count_from
 factorial_listed k h =
     let e : get_or (count_from 7 0) k 0 ≡ k = omega (arith, getD_count 7 0 k (omega arith)) in
-    get_d_map factorial (count_from 7 0) k (omega arith) ∙ ap factorial e
+    get_or-map factorial (count_from 7 0) k 0 0 (omega arith) ∙ ap factorial e

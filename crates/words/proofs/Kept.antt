@@ -1,45 +1,33 @@
 -- Equations of runs: their sides in order, which of two comes first, and the lesser kept.
-use Rattle.std.proofs.Common.{◌≡◌, ℕ, ◌<◌, ◌≤◌, true, false, ◌⊎◌, List, ◌++◌, length, take, take_at, sym, refl, ap, ◌∙◌, true≢false, ⊎_elim, arith}
+use Rattle.std.proofs.Common.{◌≡◌, ℕ, ◌≤◌, Bor, true, false, List, ◌++◌, length, take, take_at, sym, refl, ap, ◌∙◌, true≢false, arith}
 use Rattle.std.specs.Ordering.{is_gt, MatchOrdering}
 use Rattle.terms.specs.Compare.{Ordering, lt, eq, gt, order_numbers}
 use Rattle.terms.specs.Equation.{Equation, orient}
 use Rattle.terms.specs.Theory.Equation.{orient_either}
-use Rattle.terms.specs.Promises.{ordering_of, Compares, smaller_of}
+use Rattle.terms.specs.Promises.{ordering_of, Compares, in_order_of, InOrder}
 use Rattle.std.specs.declared.cmp.Ordering as answered
 use Rattle.std.specs.declared.cmp.Ordering.TheVariants.{Less, Equal, Greater}
 use Rattle.words.specs.Rename.{order_equations, lesser}
-use Rattle.words.specs.Candidate.{Sides, Room, Ordered, ordered, Stores, Keeps, KeepsLesser}
+use Rattle.words.specs.Candidate.{Sides, Room, ordered, Stores, Keeps, KeepsLesser}
 
--- the sides
+-- s and t are the sides of the equation that xs and ys make
+pub record Ordered (xs ys s t : List ℕ) : Type 0 where
+  pub left : s ≡ (orient order_numbers xs ys).left
+  pub right : t ≡ (orient order_numbers xs ys).right
 
-abbrev pub larger_of : {A : Type 0} → Ordering → A → A → A
-larger_of lt a b = b
-larger_of eq a b = b
-larger_of gt a b = a
+-- two lent runs in order are those sides
 
-oriented : (xs ys : List ℕ)
-    → orient order_numbers xs ys ≡ record { left = smaller_of (order_numbers xs ys) xs ys; right = larger_of (order_numbers xs ys) xs ys }
+abbrev sides_by : Ordering → List ℕ → List ℕ → Sides
+sides_by c xs ys = elim c [ lt ↦ record { left = xs; right = ys } | eq ↦ record { left = xs; right = ys } | gt ↦ record { left = ys; right = xs } ]
+
+pub in_order : {a b : Bor (List ℕ)} {r : Bor (List ℕ) × Bor (List ℕ)} → InOrder a.now b.now a b r → Ordered a.now b.now r.0.now r.1.now
 unfolding orient
-oriented xs ys = go (order_numbers xs ys)
+in_order {a} {b} h = let (e, d) = go (order_numbers a.now b.now) in rw h.numbers (record { left = e; right = d })
   where
-    go : (c : Ordering)
-        → ◌≡◌ {A = Equation (List ℕ)}
-        (elim c [ lt ↦ record { left = xs; right = ys } | eq ↦ record { left = xs; right = ys } | gt ↦ record { left = ys; right = xs } ])
-        (record { left = smaller_of c xs ys; right = larger_of c xs ys })
-    go lt = refl
-    go eq = refl
-    go gt = refl
-
--- the runs in the order that `compare` tells
-pub in_order : (xs ys : List ℕ) (c : answered.Ordering) → Compares xs ys c → is_gt c ≡ false → Ordered xs ys xs ys
-in_order xs ys Less h e = record { left = rw (oriented xs ys, sym h.numbers); right = rw (oriented xs ys, sym h.numbers) }
-in_order xs ys Equal h e = record { left = rw (oriented xs ys, sym h.numbers); right = rw (oriented xs ys, sym h.numbers) }
-in_order xs ys Greater h e = absurd (true≢false e)
-
-pub exchanged : (xs ys : List ℕ) (c : answered.Ordering) → Compares xs ys c → is_gt c ≡ true → Ordered xs ys ys xs
-exchanged xs ys Less h e = absurd (true≢false (sym e))
-exchanged xs ys Equal h e = absurd (true≢false (sym e))
-exchanged xs ys Greater h e = record { left = rw (oriented xs ys, sym h.numbers); right = rw (oriented xs ys, sym h.numbers) }
+    go : (c : Ordering) → ((in_order_of c a b).0.now ≡ (sides_by c a.now b.now).left) × ((in_order_of c a b).1.now ≡ (sides_by c a.now b.now).right)
+    go lt = (refl, refl)
+    go eq = (refl, refl)
+    go gt = (refl, refl)
 
 -- the order of equations: by left side, then right
 pub by_side : (xs ys us vs : List ℕ) (o : answered.Ordering) {r : answered.Ordering} {Right : Type 0} → Compares xs us o
@@ -66,9 +54,6 @@ front_copied s s' rest e = rw e (take_at s rest (length s) refl)
 
 pub stored : {s t us vs : List ℕ} {room : ℕ} → us ≡ s → vs ≡ t → Stores s t room (record { left = us; right = vs })
 stored d e = record { exact = λ h k i. record { left = d i; right = e i } }
-
-pub not_stored : {s t : List ℕ} {room : ℕ} {e : Sides} → (room < length s) ⊎ (room < length t) → Stores s t room e
-not_stored h = record { exact = λ l r. absurd (⊎_elim (λ k. omega arith) (λ k. omega arith) h) }
 
 room_sides : {n room : ℕ} {xs ys : List ℕ} → Room n xs ys room
     → (length (orient order_numbers xs ys).left ≤ room) × (length (orient order_numbers xs ys).right ≤ room)

@@ -52,19 +52,19 @@ longer_greater (a ∷ p) q (b ∷ w) e = cases (compare a b) (λ d. cc) (λ d. r
 pub none_passed : (F : Word → Word) (ws : List ℕ) (w : Word) (i : ℕ) → Passes F ws w i i
 none_passed F ws w i = record { within = omega arith; after = λ j h l. absurd (omega arith) }
 
-pub pair_passed : (f : ℕ → ℕ) (ws : List ℕ) (w : Word) (i r : ℕ) (word head : List ℕ) → head ≡ take 2 word → 2 ≤ length word
-    → (o : answered.Ordering) → is_le o ≡ false → ordering_of o ≡ order_words (rename_run f head) w → Paired ws (get_or word 0 0) (get_or word 1 0) i r → Passes (rename_run f) ws w i r
-pair_passed f ws w i r word head e h Less l g p = absurd (true≢false l)
-pair_passed f ws w i r word head e h Equal l g p = absurd (true≢false l)
-pair_passed f ws w i r word head e h Greater l g p =
+pub pair_passed : (f : ℕ → ℕ) (ws : List ℕ) (w : Word) (i r : ℕ) (word : List ℕ) → 2 ≤ length word
+    → (o : answered.Ordering) → is_le o ≡ false → ordering_of o ≡ order_words (rename_run f (take 2 word)) w → Paired ws (get_or word 0 0) (get_or word 1 0) i r → Passes (rename_run f) ws w i r
+pair_passed f ws w i r word h Less l g p = absurd (true≢false l)
+pair_passed f ws w i r word h Equal l g p = absurd (true≢false l)
+pair_passed f ws w i r word h Greater l g p =
     record {
       within = p.within;
       after = λ j k m.
           let v = word_at ws j in
-          let same : take 2 v ≡ head = p.same j k m ∙ sym (two word 0 (omega arith)) ∙ sym e in
-          let split : rename_run f v ≡ rename_run f head ++ rename_run f (drop 2 v) =
+          let same : take 2 v ≡ take 2 word = p.same j k m ∙ sym (two word 0 (omega arith)) in
+          let split : rename_run f v ≡ rename_run f (take 2 word) ++ rename_run f (drop 2 v) =
           ap (rename_run f) (sym (take-append-drop 2 v)) ∙ map-append _ (take 2 v) (drop 2 v) ∙ ap (λ u. rename_run f u ++ rename_run f (drop 2 v)) same in
-          rw split (longer_greater (rename_run f head) (rename_run f (drop 2 v)) w (sym g));
+          rw split (longer_greater (rename_run f (take 2 word)) (rename_run f (drop 2 v)) w (sym g));
     }
 
 -- words that come after another change no count

@@ -68,7 +68,7 @@ module _ (ws : List ℕ) (k : ℕ) (a b : List ℕ) where
           few = λ p. omega arith;
           exact = λ f. record {
             put = more (slot_filled ws₂ k (a ++ b) (drop (SLOT * k + length filled) ws) s e) (none (sym (add-one k)));
-            front = rw at_once (take_sets ws (SLOT * k) filled r);
+            front = rw at_once (take_sets (SLOT * k) ws (SLOT * k) filled (omega arith));
             room = rw at_once (length-sets ws (SLOT * k) filled);
           };
         }

@@ -1,7 +1,7 @@
 -- The new name looked up, and runs renamed.
-use Rattle.std.proofs.Common.{◌≡◌, ℕ, zero, suc, ◌+◌, ◌<◌, ◌≤◌, Bool, true, false, cond, eqb, Option, Some, None, List, [], ◌∷◌, map, length, get_or, drop, set, sym, refl, ap, ◌∙◌, ⊎_elim, min, add-one, arith, drop-cons, drop_of_length-le, le-ltb, lt-ltb}
+use Rattle.std.proofs.Common.{◌≡◌, ℕ, ◌+◌, ◌<◌, ◌≤◌, Bool, true, false, cond, eqb, Option, Some, None, List, [], ◌∷◌, length, get_or, drop, set, sym, refl, ap, ◌∙◌, ⊎_elim, min, add-one, arith, drop-cons, drop_of_length-le, le-ltb, lt-ltb}
 use Rattle.std.specs.List.{position, position_from}
-use Rattle.std.proofs.lemmas.List.{get_or_past}
+use Rattle.std.proofs.lemmas.List.{get_or_past, get_or-map}
 use Rattle.std.proofs.lemmas.Bool.{cases_lt}
 use Rattle.std.proofs.lemmas.Iterator.Adapters.{position_from-zero}
 use lib.ListN.{length-map}
@@ -51,16 +51,11 @@ module _ (f : ℕ → ℕ) (x : ℕ) where
 
 -- a run renamed, one number after another
 
-pub get_d_map : (f : ℕ → ℕ) (xs : List ℕ) (i : ℕ) → i < length xs → get_or (map f xs) i 0 ≡ f (get_or xs i 0)
-get_d_map f [] i h = absurd (omega arith)
-get_d_map f (x ∷ xs) zero h = refl
-get_d_map f (x ∷ xs) (suc i) h = get_d_map f xs i (omega arith)
-
 -- the numbers from i on are still to be stored
 module _ (f : ℕ → ℕ) (xs out zs : List ℕ) (i : ℕ) (e : sets out i (drop i (rename_run f xs)) ≡ zs) where
   pub renaming_next : {v : ℕ} → i < length xs → v ≡ rename_number f (get_or xs i 0) → sets (set out i v) (i + 1) (drop (i + 1) (rename_run f xs)) ≡ zs
   renaming_next h p =
-      rw (p, ← get_d_map (rename_number f) xs i h) (store_next out (rename_run f xs) zs i i e (rw (length-map xs (rename_number f)) h))
+      rw (p, ← get_or-map (rename_number f) xs i 0 0 h) (store_next out (rename_run f xs) zs i i e (rw (length-map xs (rename_number f)) h))
 
   pub renaming_ended : min (length xs) (length out) ≤ i → out ≡ zs
   renaming_ended h =

@@ -76,19 +76,19 @@ slots_as_long e p = record { within = p.within; exact = λ b k slots. p.exact b 
 abbrev both_renamed : (us vs : List ℕ) (new : ℕ → ℕ) → Sides
 both_renamed us vs new = orient order_numbers (spelled (rename_words new (slot_words us))) (spelled (rename_words new (slot_words vs)))
 
-pub words_made : (us vs : List ℕ) (new : ℕ → ℕ) {ss x y x' y' u v : List ℕ} {m n room : ℕ}
+pub words_made : (us vs : List ℕ) (new : ℕ → ℕ) {ss x y x' y' : List ℕ} {m n room : ℕ}
     → SLOT * MOST ≤ length ss → length x ≡ SLOT * MOST → length y ≡ SLOT * MOST
-    → RenamesWords new us ss x m x' → RenamesWords new vs ss y n y' → u ≡ take m x' → v ≡ take n y'
-    → ((n : ℕ) → n < ZERO → new n < ZERO) → WordRoom us vs room → Made (SLOT * MOST) (both_renamed us vs new) u v room
-words_made us vs new {x' = x'} {y' = y'} {m = m} {n = n} slots long long' p q d e small h =
+    → RenamesWords new us ss x m x' → RenamesWords new vs ss y n y'
+    → ((n : ℕ) → n < ZERO → new n < ZERO) → WordRoom us vs room → Made (SLOT * MOST) (both_renamed us vs new) (take m x') (take n y') room
+words_made us vs new {x' = x'} {y' = y'} {m = m} {n = n} slots long long' p q small h =
     record {
       room =
           record {
-            first = omega (arith, ap length d, length-take m x', p.within);
-            second = omega (arith, ap length e, length-take n y', q.within);
+            first = omega (arith, length-take m x', p.within);
+            second = omega (arith, length-take n y', q.within);
             sides = h.sides;
           };
-      equation = ap₂ (orient order_numbers) (d ∙ p.exact h.first small slots (omega arith)) (e ∙ q.exact h.second small slots (omega arith));
+      equation = ap₂ (orient order_numbers) (p.exact h.first small slots (omega arith)) (q.exact h.second small slots (omega arith));
     }
 
 -- both lists come after the best's left side

@@ -1,6 +1,7 @@
 -- Words that stand in slots: which they are, and that they depend on the numbers up to their last slot only.
 use Rattle.std.proofs.Common.{◌≡◌, ℕ, suc, ◌+◌, ◌*◌, ◌≤◌, List, [], ◌∷◌, ◌++◌, length, take, drop, sym, refl, ap, ◌∙◌, subst, ap₂, ⊎_elim, eq-or-lt_of_le, arith, take-take}
-use Rattle.terms.proofs.Positions.{drop_take, front_getD}
+use Rattle.std.proofs.lemmas.List.{drop-take}
+use Rattle.terms.proofs.Positions.{front_getD}
 use Rattle.words.specs.Words.{Word}
 use Rattle.words.specs.Rename.{count_from}
 use Rattle.words.specs.Spelled.{SLOT, word_at, words_at}
@@ -10,9 +11,9 @@ use Rattle.words.specs.Counts.{longest}
 -- where the first n numbers of two lists agree
 front_part : (xs ys : List ℕ) (n i m : ℕ) → take n ys ≡ take n xs → i + m ≤ n → take m (drop i ys) ≡ take m (drop i xs)
 front_part xs ys n i m e h =
-    sym (drop_take i m ys)
+    sym (drop-take i m ys)
     ∙ ap (drop i) (sym (take-take (i + m) n ys h) ∙ ap (take (i + m)) e ∙ take-take (i + m) n xs h)
-    ∙ drop_take i m xs
+    ∙ drop-take i m xs
 
 module _ {ws : List ℕ} {k : ℕ} {u : Word} where
   pub in_slot_word : InSlot ws k u → word_at ws k ≡ u

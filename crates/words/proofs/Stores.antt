@@ -1,7 +1,7 @@
 -- Numbers stored one after the other.
 use Rattle.std.proofs.Common.{◌≡◌, ℕ, suc, ◌+◌, ◌-◌, ◌<◌, ◌≤◌, List, [], ◌∷◌, ◌++◌, length, get_or, take, drop, set, sym, refl, ap, ◌∙◌, append_assoc, add-zero, add-one, arith, length-append, ⊎_elim, min, drop_of_length-le, length-take-le, drop-cons, take_at, drop_at}
 use Rattle.std.proofs.lemmas.Bool.{cases_lt}
-use lib.Seq.{sets, sets-eq, set_out}
+use lib.Seq.{sets, sets-eq, set_out, take-set-le}
 
 -- past the end nothing is stored
 sets_out : (xs : List ℕ) (i : ℕ) (vs : List ℕ) → length xs ≤ i → sets xs i vs ≡ xs
@@ -36,12 +36,14 @@ pub sets_append : (xs : List ℕ) (i : ℕ) (us vs : List ℕ) → sets (sets xs
 sets_append xs i [] vs = rw add-zero
 sets_append xs i (u ∷ us) vs = let e : i + suc (length us) ≡ suc i + length us = omega arith in rw e (sets_append (set xs i u) (suc i) us vs)
 
+-- what stands before the stores is as it was
+pub take_sets : (n : ℕ) (xs : List ℕ) (i : ℕ) (vs : List ℕ) → n ≤ i → take n (sets xs i vs) ≡ take n xs
+take_sets n xs i [] h = refl
+take_sets n xs i (v ∷ vs) h = take_sets n (set xs i v) (suc i) vs (omega arith) ∙ take-set-le n xs i v h
+
 module _ (xs : List ℕ) (i : ℕ) (vs : List ℕ) (h : i + length vs ≤ length xs) where
   front : length (take i xs) ≡ i
   front = length-take-le i xs (omega arith)
-
-  pub take_sets : take i (sets xs i vs) ≡ take i xs
-  take_sets = rw (sets-eq vs xs i h, append_assoc) (take_at (take i xs) (vs ++ drop (i + length vs) xs) i front)
 
   pub drop_sets : drop i (sets xs i vs) ≡ vs ++ drop (i + length vs) xs
   drop_sets = rw (sets-eq vs xs i h, append_assoc) (drop_at (take i xs) (vs ++ drop (i + length vs) xs) i front)

@@ -1,5 +1,5 @@
 -- What the functions that rename promise: an equation of two runs, with room for so many numbers on each side.
-use Rattle.std.specs.Prelude.{◌≡◌, ℕ, ◌-◌, ◌<◌, ◌≤◌, List, ◌++◌, length, ◌≢◌}
+use Rattle.std.specs.Prelude.{◌≡◌, ℕ, ◌-◌, ◌<◌, ◌≤◌, min, List, [], ◌++◌, length, ◌≢◌}
 use Rattle.terms.specs.Compare.{Ordering, order_numbers}
 use Rattle.terms.specs.Equation.{Equation, orient}
 use Rattle.terms.specs.Term.{Term, size}
@@ -14,16 +14,24 @@ use Rattle.words.specs.RenameRun.{rename_run}
 abbrev pub Sides : Type 0
 Sides = Equation (List ℕ)
 
+-- an equation in the making: its two runs, and how many numbers each may have
+pub record Making : Type 0 where
+  pub sides : Sides
+  pub room : ℕ
+
+-- the room in two buffers
+abbrev pub room_of : (left right : List ℕ) → ℕ
+room_of left right = min (length left) (length right)
+
+-- nothing on either side
+abbrev pub nothing : ℕ → Making
+nothing n = record { sides = record { left = []; right = [] }; room = n }
+
 -- the runs have at most n numbers, and there is room for n on each side
 pub record Room (n : ℕ) (xs ys : List ℕ) (room : ℕ) : Type 0 where
   pub first : length xs ≤ n
   pub second : length ys ≤ n
   pub sides : n ≤ room
-
--- s and t are the sides of the equation that xs and ys make
-pub record Ordered (xs ys s t : List ℕ) : Type 0 where
-  pub left : s ≡ (orient order_numbers xs ys).left
-  pub right : t ≡ (orient order_numbers xs ys).right
 
 -- the order of two equations of runs, side by side
 abbrev pub ordered : (xs ys us vs : List ℕ) → Ordering

@@ -1,12 +1,12 @@
 // The least equation over all renamings of its letters.
-ghost use Rattle.std.specs.Prelude.{◌≡◌, ℕ, ◌+◌, ◌-◌, ◌≤◌, [], length, take};
+ghost use Rattle.std.specs.Prelude.{◌≡◌, ℕ, ◌+◌, ◌-◌, ◌≤◌, length, take};
 ghost use Rattle.terms.specs.Compare.{order_numbers};
 ghost use Rattle.terms.specs.Equation.{orient};
 ghost use Rattle.terms.specs.Promises.{ordering_of};
 ghost use Rattle.words.specs.Decoded.{decoded, factorial, renaming, least_to};
 ghost use Rattle.words.specs.RenameRun.{rename_run};
 ghost use Rattle.words.specs.Renaming.{new_of};
-ghost use Rattle.words.specs.Candidate.{Sides, Room, Ordered, ordered, Stores, Keeps, KeepsLesser, Tries, Offers, Finds, CanonicalTerms};
+ghost use Rattle.words.specs.Candidate.{Sides, room_of, nothing, Room, ordered, Stores, Keeps, KeepsLesser, Tries, Offers, Finds, CanonicalTerms};
 
 // The same for lists of words.
 pub mod words;
@@ -21,6 +21,7 @@ use super::normal_form::front;
 use renaming::Renaming;
 use std::cmp::Ordering;
 use std::marker::Model;
+use terms::candidate::in_order;
 use terms::term;
 
 // The most letters that are renamed.
@@ -52,17 +53,6 @@ pub fn permutation(c: usize, k: usize, i: u32, out: &mut [u32])
     term::shift(&mut out[..k], c % k, i);
 }
 
-// Two lent runs, the smaller first; as they came if they are equal.
-fn in_order<'a>(a: &'a [u32], b: &'a [u32]) -> (&'a [u32], &'a [u32])
-    ensures { Ordered a.now b.now result.0.now result.1.now }
-{
-    if term::compare(a, b).is_gt() {
-        (b, a)
-    } else {
-        (a, b)
-    }
-}
-
 // Which of two equations comes first, by left side, then right.
 fn compare_equations(a: &[u32], b: &[u32], c: &[u32], d: &[u32]) -> Ordering
     ensures { ordering_of result ≡ ordered a.now b.now c.now d.now }
@@ -70,87 +60,106 @@ fn compare_equations(a: &[u32], b: &[u32], c: &[u32], d: &[u32]) -> Ordering
     term::compare(a, c).then_with(|| term::compare(b, d))
 }
 
-// An equation of two runs, with room for N numbers on each side.
+// A run at the front of a buffer.
+fn put_front(out: &mut [u32], run: &[u32])
+    requires { length run.now ≤ length out.old }
+    ensures { take (length run.now) out.new ≡ run.now }
+{
+    out[..run.len()].copy_from_slice(run);
+}
+
+// An equation of two runs in the making, in two lent buffers of any lengths. Each side has room for as many numbers as the shorter one has.
 #[derive(Drop)]
-pub struct Equation<const N: usize> {
-    left: [u32; N],
-    right: [u32; N],
+pub struct Equation<'a> {
+    left: &'a mut [u32],
+    right: &'a mut [u32],
     left_length: usize,
     right_length: usize,
 }
 
-// Clauses see the equation of the two runs.
-impl<const N: usize> Model for Equation<N> {
+// Clauses see the equation of the two runs, and the room.
+impl<'a> Model for Equation<'a> {
     ghost use Rattle.std.specs.Prelude.{◌≤◌, take};
-    ghost use Rattle.words.specs.Candidate.{Sides};
+    ghost use Rattle.words.specs.Candidate.{Making, room_of};
 
-    ghost Value = { Sides };
+    ghost Value = { Making };
 
-    ghost view = { λ e. record { left = take e.left_length e.left; right = take e.right_length e.right } };
+    ghost view = { λ e. record { sides = record { left = take e.left_length e.left.now; right = take e.right_length e.right.now }; room = room_of e.left.now e.right.now } };
 
-    ghost invariant = { λ e. (e.left_length ≤ N) × (e.right_length ≤ N) };
+    ghost invariant = { λ e. (e.left_length ≤ room_of e.left.now e.right.now) × (e.right_length ≤ room_of e.left.now e.right.now) };
 }
 
-impl<const N: usize> Equation<N> {
+impl<'a> Equation<'a> {
     // With nothing on either side.
-    pub fn new() -> Self
-        ensures { result ≡ record { left = []; right = [] } }
+    pub fn new(left: &'a mut [u32], right: &'a mut [u32]) -> Self
+        ensures { result ≡ nothing (room_of left.old right.old) }
     {
         Equation {
-            left: [0; N],
-            right: [0; N],
+            left,
+            right,
             left_length: 0,
             right_length: 0,
         }
     }
 
     pub fn left(&self) -> &[u32]
-        ensures is { result.now ≡ self.now.left }
-        ensures fits { length result.now ≤ N }
+        ensures is { result.now ≡ self.now.sides.left }
+        ensures fits { length result.now ≤ self.now.room }
     {
         &self.left[..self.left_length]
     }
 
     pub fn right(&self) -> &[u32]
-        ensures is { result.now ≡ self.now.right }
-        ensures fits { length result.now ≤ N }
+        ensures is { result.now ≡ self.now.sides.right }
+        ensures fits { length result.now ≤ self.now.room }
     {
         &self.right[..self.right_length]
     }
 
+    // How many numbers each side has room for.
+    pub fn room(&self) -> usize
+        ensures { result ≡ self.now.room }
+    {
+        self.left.len().min(self.right.len())
+    }
+
     // Nothing on either side again.
     fn clear(&mut self)
-        ensures { self.new ≡ record { left = []; right = [] } }
+        ensures { self.new ≡ nothing self.old.room }
     {
         self.left_length = 0;
         self.right_length = 0;
     }
 
     // Two runs stored as the sides; nothing where there is no room.
-    fn store(&mut self, s: &[u32], t: &[u32])
-        ensures { Stores s.now t.now N self.new }
+    pub fn store(&mut self, s: &[u32], t: &[u32])
+        ensures stored { Stores s.now t.now self.old.room self.new.sides }
+        ensures room { self.new.room ≡ self.old.room }
     {
-        if N < s.len() || N < t.len() {
+        let room = self.room();
+        if room < s.len() || room < t.len() {
             self.clear();
             return;
         }
-        self.left[..s.len()].copy_from_slice(s);
-        self.right[..t.len()].copy_from_slice(t);
+        put_front(self.left, s);
+        put_front(self.right, t);
         self.left_length = s.len();
         self.right_length = t.len();
     }
 
     // Two runs kept, the smaller on the left; nothing where there is no room.
-    pub fn keep<'a>(&mut self, x: &'a [u32], y: &'a [u32])
-        ensures { Keeps x.now y.now N self.new }
+    pub fn keep<'b>(&mut self, x: &'b [u32], y: &'b [u32])
+        ensures kept { Keeps x.now y.now self.old.room self.new.sides }
+        ensures room { self.new.room ≡ self.old.room }
     {
-        let (s, t) = in_order(x, y);
-        self.store(s, t);
+        let (left, right) = in_order(x, y);
+        self.store(left, right);
     }
 
     // Two runs kept in place of the equation so far, if they make a lesser one.
-    pub fn keep_lesser<'a>(&mut self, x: &'a [u32], y: &'a [u32])
-        ensures { KeepsLesser x.now y.now N self.old self.new }
+    pub fn keep_lesser<'b>(&mut self, x: &'b [u32], y: &'b [u32])
+        ensures kept { KeepsLesser x.now y.now self.old.room self.old.sides self.new.sides }
+        ensures room { self.new.room ≡ self.old.room }
     {
         let (s, t) = in_order(x, y);
         if compare_equations(self.left(), self.right(), s, t).is_gt() {
@@ -159,8 +168,9 @@ impl<const N: usize> Equation<N> {
     }
 
     // Two runs tried as candidate number c: kept if it is the first, or makes a lesser equation than the best so far.
-    pub fn offer<'a>(&mut self, x: &'a [u32], y: &'a [u32], c: usize)
-        ensures { Tries x.now y.now c N self.old self.new }
+    pub fn offer<'b>(&mut self, x: &'b [u32], y: &'b [u32], c: usize)
+        ensures tried { Tries x.now y.now c self.old.room self.old.sides self.new.sides }
+        ensures room { self.new.room ≡ self.old.room }
     {
         if c == 0 {
             self.keep(x, y);
@@ -171,33 +181,32 @@ impl<const N: usize> Equation<N> {
 }
 
 // What is renamed: each renaming makes an equation of two runs of it.
-trait Renamed<const N: usize> {
+trait Renamed {
     ghost equation: { Self → (ℕ → ℕ) → Sides };
 
-    // Whether an equation has room for them.
-    ghost is_room: { Self → Type 0 };
+    // Whether so much room is enough for them.
+    ghost is_room: { Self → ℕ → Type 0 };
 
     // The equation by a renaming tried as candidate number c.
-    fn offer(&mut self, renaming: &Renaming, c: usize, best: &mut Equation<N>)
-        ensures tried { Offers (is_room self.old) (equation self.old) (new_of renaming.now) c best.old best.new }
+    // The number stands beside `best`: by it the contract says of which candidates `best` is the least, and at 0 that it holds none yet.
+    fn offer(&mut self, renaming: &Renaming, c: usize, best: &mut Equation<'_>)
+        ensures tried { Offers (is_room self.old best.old.room) (equation self.old) (new_of renaming.now) c best.old.sides best.new.sides }
+        ensures room { best.new.room ≡ best.old.room }
         ensures same { equation self.new ≡ equation self.old }
-        ensures roomy { is_room self.old → is_room self.new };
+        ensures roomy { (n : ℕ) → is_room self.old n → is_room self.new n };
 }
 
 // The least equation over all renamings of the names.
-fn least_renaming<const N: usize, S: Renamed<N>>(
-    sides: &mut S,
-    names: &[u32],
-    best: &mut Equation<N>,
-)
+fn least_renaming<S: Renamed>(sides: &mut S, names: &[u32], best: &mut Equation<'_>)
     requires { length names.now ≤ LETTERS }
-    ensures { Finds (S.is_room sides.old) (least_to order_numbers (λ c. S.equation sides.old (renaming names.now c)) (factorial (length names.now) - 1)) best.new }
+    ensures found { Finds (S.is_room sides.old best.old.room) (least_to order_numbers (λ c. S.equation sides.old (renaming names.now c)) (factorial (length names.now) - 1)) best.new.sides }
+    ensures room { best.new.room ≡ best.old.room }
 {
     let k = names.len();
     let mut numbers = [0u32; LETTERS];
     for c in 0..factorial(k) {
         permutation(c, k, 0, &mut numbers);
-        sides.offer(&Renaming::new(names, front(&numbers, k)), c, best);
+        sides.offer(&Renaming::new(names, &numbers[..k]), c, best);
     }
 }
 
@@ -208,13 +217,13 @@ struct Terms<'a> {
     b: &'a [u32],
 }
 
-impl<'a, const N: usize> Renamed<N> for Terms<'a> {
+impl<'a> Renamed for Terms<'a> {
     ghost equation = { λ s new. orient order_numbers (rename_run new s.a.now) (rename_run new s.b.now) };
 
-    ghost is_room = { λ s. Room 31 s.a.now s.b.now N };
+    ghost is_room = { λ s. Room 31 s.a.now s.b.now };
 
-    // The buffers have room for the runs of terms of 31 nodes.
-    fn offer(&mut self, renaming: &Renaming, c: usize, best: &mut Equation<N>) {
+    // The buffers have room for the runs of terms of 31 nodes: of longer ones `front` takes what fits.
+    fn offer(&mut self, renaming: &Renaming, c: usize, best: &mut Equation<'_>) {
         let mut x = [0u32; NODES];
         let mut y = [0u32; NODES];
         renaming.rename(self.a, &mut x);
@@ -223,14 +232,16 @@ impl<'a, const N: usize> Renamed<N> for Terms<'a> {
     }
 }
 
-// The least equation over all renamings of the letters of two terms; nothing if there are more than six letters.
+// The least equation over all renamings of the letters of two terms; nothing if there are more than six letters. No Option: nothing stands
+// where there is no room, too, and an accepted job meets neither.
 // A side of 31 nodes wants 31 numbers of room.
-pub fn canonical_terms<const N: usize>(a: &[u32], b: &[u32], best: &mut Equation<N>)
-    ensures { CanonicalTerms a.now b.now N best.new }
+pub fn canonical_terms(a: &[u32], b: &[u32], best: &mut Equation<'_>)
+    ensures found { CanonicalTerms a.now b.now best.old.room best.new.sides }
+    ensures room { best.new.room ≡ best.old.room }
 {
     let mut names = [0u32; LETTERS];
     match term::letters(a, b, &mut names) {
-        Some(k) => least_renaming(&mut Terms { a, b }, front(&names, k), best),
+        Some(k) => least_renaming(&mut Terms { a, b }, &names[..k], best),
         None => best.clear(),
     }
 }

@@ -31,6 +31,7 @@ pub fn word_of(words: &[u32], k: usize) -> &[u32]
     let Some((&count, letters)) = words[start..].split_first() else {
         return &[];
     };
+    // Any number may stand in the place of the length: the letters end where the list does.
     front(letters, count as usize)
 }
 
@@ -47,13 +48,16 @@ pub fn copy(out: &mut [u32], at: usize, numbers: &[u32])
 }
 
 // The first n numbers of a list, or all if there are fewer.
+// A function that fills a buffer gives back a length, not the part that it filled: of a `&mut` that may have gone into the result a contract
+// has no `new`, so that none could say what the buffer holds after the call.
 pub fn front(xs: &[u32], n: usize) -> &[u32]
     ensures { result.now ≡ take n xs.now }
 {
     &xs[..n.min(xs.len())]
 }
 
-// The letters of `a`, then those of `b`, put as a word into slot `k`, if there is room: the next slot.
+// The letters of `a`, then those of `b`, put as a word into slot `k`: the next slot, which is `k` itself where there is no room. No Option: no
+// job's words lack room, and the next slot is what every caller goes on with.
 pub fn put_word(words: &mut [u32], k: usize, a: &[u32], b: &[u32]) -> usize
     ensures { PutsWords ((a.now ++ b.now) ∷ []) words.old k result words.new }
 {
@@ -164,7 +168,7 @@ pub fn words_of(run: &[u32], out: &mut [u32]) -> usize
     let mut words = [0u32; ROOM];
     let mut scratch = [0u32; ROOM];
     let n = multiply_out(run, &mut words, &mut scratch);
-    spell_sorted(front(&words, SLOT * n), out)
+    spell_sorted(&words[..SLOT * n], out)
 }
 
 // Which of two lists of words comes first, word by word: the lists are runs as `words_of` writes them.

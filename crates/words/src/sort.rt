@@ -35,6 +35,7 @@ fn takes_first(words: &[u32], a: &[u32], b: &[u32]) -> bool
 }
 
 // Two lists of slots, each sorted by its words, merged into one.
+// The places in both are counted: only a look at both tells which of them moves on.
 fn merge(words: &[u32], a: &[u32], b: &[u32], out: &mut [u32])
     requires { length out.old ≡ length a.now + length b.now }
     ensures { Merges words.now a.now b.now out.new }
@@ -75,6 +76,8 @@ fn merge_parts(words: &[u32], order: &mut [u32], mid: usize, spare: &mut [u32])
 
 // The slots of `order` sorted by their words, repeats kept: both halves are sorted, then merged.
 // The library's sort takes twice as long: words multiplied out lie in sorted runs that need no merge.
+// Three contracts ask that `spare` be no shorter than `order`: `sort` calls itself with parts of `order` and the same `spare`, so that a
+// type of both with this fact would be made anew at each call.
 pub fn sort(words: &[u32], order: &mut [u32], spare: &mut [u32])
     requires { length order.old ≤ length spare.old }
     ensures { words_at words.now order.new ≡ normal kept (words_at words.now order.old) }
@@ -89,7 +92,8 @@ pub fn sort(words: &[u32], order: &mut [u32], spare: &mut [u32])
     merge_parts(words, order, mid, spare);
 }
 
-// A word at the front of `out`, each letter plus 1, then 0, if there is room: where it ends.
+// A word at the front of `out`, each letter plus 1, then 0: where it ends. Without room for it `out` counts as full, so that no later word is
+// put.
 fn spell_word(word: &[u32], out: &mut [u32]) -> usize
     ensures { Spells (word.now ∷ []) out.old result out.new }
 {

@@ -8,32 +8,12 @@ ghost use Rattle.words.specs.Renaming.{new_of};
 ghost use Rattle.words.specs.WordLists.{slot_words};
 ghost use Rattle.words.specs.Rank.{first_word, Notes, Ranks, Paired, Passes, Above, Exceeds};
 
-use super::super::normal_form::{SLOT, front, word_of};
+use super::super::normal_form::{SLOT, word_of};
 use super::renaming::{Renaming, place_of};
 use std::cmp::Ordering;
 
 // How many words of a run are looked at: lists that agree in more are sorted.
 const TRIES: usize = 4;
-
-// Which comes first, a word renamed or the first word that a run spells.
-fn compare_first(word: &[u32], renaming: &Renaming, run: &[u32]) -> Ordering
-    ensures { ordering_of result ≡ order_words (rename_run (new_of renaming.now) word.now) (first_word run.now) }
-{
-    for (i, x) in word.iter().enumerate() {
-        if run.len() <= i || run[i] == 0 {
-            return Ordering::Greater;
-        }
-        let order = renaming.number(*x).cmp(&(run[i] - 1));
-        if order.is_ne() {
-            return order;
-        }
-    }
-    if run.len() <= word.len() || run[word.len()] == 0 {
-        Ordering::Equal
-    } else {
-        Ordering::Less
-    }
-}
 
 // How many words come before another, and how many do not come after it.
 #[derive(Drop)]
@@ -63,6 +43,7 @@ fn begins_with(words: &[u32], k: usize, x: u32, y: u32) -> bool
 }
 
 // The slot after the words, from slot i on, that begin with the letters x and y.
+// No `find`: its closure would have to answer for any number, and `begins_with` asks for a slot that there is.
 fn pair_end(words: &[u32], i: usize, x: u32, y: u32) -> usize
     ensures { Paired words.now x y i result }
 {
@@ -75,61 +56,84 @@ fn pair_end(words: &[u32], i: usize, x: u32, y: u32) -> usize
     i.max(count)
 }
 
-// The slot after the words, from slot i on, that begin as its word does, if two letters tell that they come after the first word of a run.
-fn pass_greater(words: &[u32], i: usize, renaming: &Renaming, run: &[u32]) -> usize
-    ensures { Passes (rename_run (new_of renaming.now)) words.now (first_word run.now) i result }
-{
-    let word = word_of(words, i);
-    if word.len() < 2 || compare_first(front(word, 2), renaming, run).is_le() {
-        return i;
-    }
-    pair_end(words, i, word[0], word[1])
-}
-
-// The words in all the slots, renamed, counted against the first word that a run spells.
-fn rank_of(words: &[u32], renaming: &Renaming, run: &[u32]) -> Rank
-    ensures { Ranks (first_word run.now) (map (rename_run (new_of renaming.now)) (slot_words words.now)) result }
-{
-    let mut counted = Rank { less: 0, upto: 0 };
-    let mut i = 0;
-    // No range: words that are passed over move i on by more than one.
-    while i < words.len() / SLOT {
-        let next = pass_greater(words, i, renaming, run);
-        if i < next {
-            i = next;
+impl Renaming<'_> {
+    // Which comes first, a word renamed or the first word that a run spells. By hand: a letter is renamed only when it is reached, and the
+    // run's word ends at a 0.
+    fn compare_first(&self, word: &[u32], run: &[u32]) -> Ordering
+        ensures { ordering_of result ≡ order_words (rename_run (new_of self.now) word.now) (first_word run.now) }
+    {
+        for (i, x) in word.iter().enumerate() {
+            if run.len() <= i || run[i] == 0 {
+                return Ordering::Greater;
+            }
+            let order = self.number(*x).cmp(&(run[i] - 1));
+            if order.is_ne() {
+                return order;
+            }
+        }
+        if run.len() <= word.len() || run[word.len()] == 0 {
+            Ordering::Equal
         } else {
-            counted.note(compare_first(word_of(words, i), renaming, run));
-            i += 1;
+            Ordering::Less
         }
     }
-    counted
-}
 
-// Whether the words in all the slots, renamed and sorted, come after a run, if a few words of the run tell.
-// Word i of the sorted list comes after a word if at most i words come up to it; otherwise it is that word, if at most i come before it.
-fn is_above(words: &[u32], renaming: &Renaming, run: &[u32]) -> bool
-    ensures { Above (new_of renaming.now) words.now run.now result }
-{
-    let mut rest = run;
-    for i in 0..TRIES.min(words.len() / SLOT) {
-        let counted = rank_of(words, renaming, rest);
-        if counted.upto <= i {
-            return true;
+    // The slot after the words, from slot i on, that begin as its word does, if two letters tell that they come after the first word of a run.
+    fn pass_greater(&self, words: &[u32], i: usize, run: &[u32]) -> usize
+        ensures { Passes (rename_run (new_of self.now)) words.now (first_word run.now) i result }
+    {
+        let word = word_of(words, i);
+        if word.len() < 2 || self.compare_first(&word[..2], run).is_le() {
+            return i;
         }
-        if i < counted.less {
-            return false;
-        }
-        let Some(end) = place_of(rest, 0) else {
-            return false;
-        };
-        rest = &rest[end + 1..];
+        pair_end(words, i, word[0], word[1])
     }
-    false
-}
 
-// Whether renaming number c surely makes a greater equation than one whose left side is a run: both lists come after it.
-pub fn is_greater(u: &[u32], v: &[u32], renaming: &Renaming, c: usize, run: &[u32]) -> bool
-    ensures { Exceeds (new_of renaming.now) u.now v.now c run.now result }
-{
-    c != 0 && is_above(u, renaming, run) && is_above(v, renaming, run)
+    // The words in all the slots, renamed, counted against the first word that a run spells.
+    fn rank_of(&self, words: &[u32], run: &[u32]) -> Rank
+        ensures { Ranks (first_word run.now) (map (rename_run (new_of self.now)) (slot_words words.now)) result }
+    {
+        let mut counted = Rank { less: 0, upto: 0 };
+        let mut i = 0;
+        // No range: words that are passed over move i on by more than one.
+        while i < words.len() / SLOT {
+            let next = self.pass_greater(words, i, run);
+            if i < next {
+                i = next;
+            } else {
+                counted.note(self.compare_first(word_of(words, i), run));
+                i += 1;
+            }
+        }
+        counted
+    }
+
+    // Whether the words in all the slots, renamed and sorted, come after a run, if a few words of the run tell.
+    // Word i of the sorted list comes after a word if at most i words come up to it; otherwise it is that word, if at most i come before it.
+    fn is_above(&self, words: &[u32], run: &[u32]) -> bool
+        ensures { Above (new_of self.now) words.now run.now result }
+    {
+        let mut rest = run;
+        for i in 0..TRIES.min(words.len() / SLOT) {
+            let counted = self.rank_of(words, rest);
+            if counted.upto <= i {
+                return true;
+            }
+            if i < counted.less {
+                return false;
+            }
+            let Some(end) = place_of(rest, 0) else {
+                return false;
+            };
+            rest = &rest[end + 1..];
+        }
+        false
+    }
+
+    // Whether renaming number c surely makes a greater equation than one whose left side is a run: both lists come after it.
+    pub fn is_greater(&self, u: &[u32], v: &[u32], c: usize, run: &[u32]) -> bool
+        ensures { Exceeds (new_of self.now) u.now v.now c run.now result }
+    {
+        c != 0 && self.is_above(u, run) && self.is_above(v, run)
+    }
 }

@@ -17,27 +17,6 @@ pub fn place_of(xs: &[u32], x: u32) -> Option<usize>
     xs.iter().position(|y| x == *y)
 }
 
-// The number beside a name, or the name itself if it is not listed.
-fn new_name(names: &[u32], numbers: &[u32], x: u32) -> u32
-    ensures { result ≡ renamed names.now numbers.now x }
-{
-    match place_of(names, x) {
-        Some(i) => numbers.get(i).copied().unwrap_or(x),
-        None => x,
-    }
-}
-
-// The new name of a letter; another number stays.
-fn new_number(names: &[u32], numbers: &[u32], x: u32) -> u32
-    ensures { result ≡ rename_number (renamed names.now numbers.now) x }
-{
-    if x < ZERO {
-        new_name(names, numbers, x)
-    } else {
-        x
-    }
-}
-
 // The new numbers of the small numbers: their own, but for the names among them. Of names that are the same the first counts, so they are
 // gone through from the last on.
 fn small_numbers(names: &[u32], numbers: &[u32]) -> [u32; SMALL]
@@ -75,13 +54,30 @@ impl<'a> Renaming<'a> {
         }
     }
 
+    // The number beside a name, or the name itself if it is not listed.
+    pub fn new_name(&self, x: u32) -> u32
+        ensures { result ≡ new_of self.now x }
+    {
+        match place_of(self.names, x) {
+            Some(i) => self.numbers.get(i).copied().unwrap_or(x),
+            None => x,
+        }
+    }
+
+    // The new name of a letter; another number stays.
+    fn new_number(&self, x: u32) -> u32
+        ensures { result ≡ rename_number (new_of self.now) x }
+    {
+        if x < ZERO { self.new_name(x) } else { x }
+    }
+
     // The new number of another.
     pub fn number(&self, x: u32) -> u32
         ensures { result ≡ rename_number (new_of self.now) x }
     {
         match self.table.get(x as usize) {
             Some(y) => *y,
-            None => new_number(self.names, self.numbers, x),
+            None => self.new_number(x),
         }
     }
 

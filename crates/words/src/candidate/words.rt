@@ -1,5 +1,5 @@
 // The least equation of two lists of words over all renamings of their letters.
-ghost use Rattle.std.specs.Prelude.{◌≤◌, [], ◌∷◌, map, length, take};
+ghost use Rattle.std.specs.Prelude.{◌≡◌, ◌≤◌, [], ◌∷◌, map, length, take};
 ghost use Prim.Native.Nat.{compare};
 ghost use mathlib.Core.List.{flatten};
 ghost use Rattle.terms.specs.Compare.{order_numbers};
@@ -16,7 +16,6 @@ ghost use Rattle.words.specs.WordLists.{slot_words, RenamesWords, WordRoom, Cano
 
 use super::super::normal_form::{LONGEST, ROOM, SLOT, front, multiply_out, put_word, word_of};
 use super::super::sort::spell_sorted;
-use super::rank::is_greater;
 use super::renaming::Renaming;
 use super::{Equation, LETTERS, Renamed, least_renaming};
 use terms::term;
@@ -41,32 +40,36 @@ fn letters_of_words(u: &[u32], v: &[u32], out: &mut [u32]) -> Option<usize>
     gather_words(v, out, n)
 }
 
-// A word renamed and put into slot `k`, if there is room: the next slot.
-fn put_renamed(word: &[u32], renaming: &Renaming, slots: &mut [u32], k: usize) -> usize
-    ensures { PutsWords (rename_run (new_of renaming.now) word.now ∷ []) slots.old k result slots.new }
-{
-    let mut letters = [0u32; LONGEST];
-    renaming.rename(word, &mut letters);
-    put_word(slots, k, front(&letters, word.len()), &[0; 0])
-}
-
-// The words in all the slots renamed and put into other slots, if there is room: the next slot.
-fn rename_slots(words: &[u32], renaming: &Renaming, slots: &mut [u32]) -> usize
-    ensures { PutsWords (map (rename_run (new_of renaming.now)) (slot_words words.now)) slots.old 0 result slots.new }
-{
-    let mut next = 0;
-    for i in 0..words.len() / SLOT {
-        next = put_renamed(word_of(words, i), renaming, slots, next);
+impl Renaming<'_> {
+    // A word renamed and put into slot `k`, if there is room: the next slot.
+    fn put_renamed(&self, word: &[u32], slots: &mut [u32], k: usize) -> usize
+        ensures { PutsWords (rename_run (new_of self.now) word.now ∷ []) slots.old k result slots.new }
+    {
+        let mut letters = [0u32; LONGEST];
+        self.rename(word, &mut letters);
+        // No contract bounds the length of the word: of a longer one `front` takes what fits.
+        put_word(slots, k, front(&letters, word.len()), &[0; 0])
     }
-    next
-}
 
-// The words in all the slots renamed, sorted and written at the front of `out`, if there is room: where they end.
-fn rename_words(words: &[u32], renaming: &Renaming, slots: &mut [u32], out: &mut [u32]) -> usize
-    ensures { RenamesWords (new_of renaming.now) words.now slots.old out.old result out.new }
-{
-    let n = rename_slots(words, renaming, slots);
-    spell_sorted(front(slots, SLOT * n), out)
+    // The words in all the slots renamed and put into other slots, if there is room: the next slot.
+    fn rename_slots(&self, words: &[u32], slots: &mut [u32]) -> usize
+        ensures { PutsWords (map (rename_run (new_of self.now)) (slot_words words.now)) slots.old 0 result slots.new }
+    {
+        let mut next = 0;
+        for i in 0..words.len() / SLOT {
+            next = self.put_renamed(word_of(words, i), slots, next);
+        }
+        next
+    }
+
+    // The words in all the slots renamed, sorted and written at the front of `out`, if there is room: where they end.
+    fn rename_words(&self, words: &[u32], slots: &mut [u32], out: &mut [u32]) -> usize
+        ensures { RenamesWords (new_of self.now) words.now slots.old out.old result out.new }
+    {
+        let n = self.rename_slots(words, slots);
+        // `slots` may be of any length: no contract says that the slots before number n lie within.
+        spell_sorted(front(slots, SLOT * n), out)
+    }
 }
 
 // Two lists of words in slots, and slots and two buffers that all renamings share.
@@ -79,34 +82,35 @@ struct WordLists<'a> {
     y: [u32; ROOM],
 }
 
-impl<'a, const N: usize> Renamed<N> for WordLists<'a> {
+impl<'a> Renamed for WordLists<'a> {
     ghost equation = { λ s new. orient order_numbers (spelled (rename_words new (slot_words s.u.now))) (spelled (rename_words new (slot_words s.v.now))) };
 
-    ghost is_room = { λ s. WordRoom s.u.now s.v.now N };
+    ghost is_room = { λ s. WordRoom s.u.now s.v.now };
 
     // Where a renaming surely makes a greater equation than the best so far, nothing is renamed or sorted.
-    fn offer(&mut self, renaming: &Renaming, c: usize, best: &mut Equation<N>) {
-        if is_greater(self.u, self.v, renaming, c, best.left()) {
+    fn offer(&mut self, renaming: &Renaming, c: usize, best: &mut Equation<'_>) {
+        if renaming.is_greater(self.u, self.v, c, best.left()) {
             return;
         }
-        let m = rename_words(self.u, renaming, &mut self.slots, &mut self.x);
-        let n = rename_words(self.v, renaming, &mut self.slots, &mut self.y);
-        best.offer(front(&self.x, m), front(&self.y, n), c);
+        let m = renaming.rename_words(self.u, &mut self.slots, &mut self.x);
+        let n = renaming.rename_words(self.v, &mut self.slots, &mut self.y);
+        best.offer(&self.x[..m], &self.y[..n], c);
     }
 }
 
-// The least equation of the words of two terms over all renamings of the words' letters; nothing if they are more than six.
+// The least equation of the words of two terms over all renamings of the words' letters; nothing if they are more than six, as there.
 // Each list wants 5,508 numbers of room, as `words_of` does.
-pub fn canonical_words<const N: usize>(a: &[u32], b: &[u32], best: &mut Equation<N>)
-    ensures { CanonicalWords a.now b.now N best.new }
+pub fn canonical_words(a: &[u32], b: &[u32], best: &mut Equation<'_>)
+    ensures found { CanonicalWords a.now b.now best.old.room best.new.sides }
+    ensures room { best.new.room ≡ best.old.room }
 {
     let mut u = [0u32; ROOM];
     let mut v = [0u32; ROOM];
     let mut scratch = [0u32; ROOM];
     let m = multiply_out(a, &mut u, &mut scratch);
     let n = multiply_out(b, &mut v, &mut scratch);
-    let us = front(&u, SLOT * m);
-    let vs = front(&v, SLOT * n);
+    let us = &u[..SLOT * m];
+    let vs = &v[..SLOT * n];
     let mut names = [0u32; LETTERS];
     match letters_of_words(us, vs, &mut names) {
         Some(k) => {
@@ -117,7 +121,7 @@ pub fn canonical_words<const N: usize>(a: &[u32], b: &[u32], best: &mut Equation
                 x: [0; ROOM],
                 y: [0; ROOM],
             };
-            least_renaming(&mut lists, front(&names, k), best);
+            least_renaming(&mut lists, &names[..k], best);
         }
         None => best.clear(),
     }

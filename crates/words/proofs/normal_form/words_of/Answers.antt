@@ -6,5 +6,5 @@ use Rattle.words.proofs.normal_form.words_of.Goals as goal
 pub returns : goal.returns
 returns c =
     words_written
-    (multiplied (omega arith) (omega arith) c.multiply_out-n.ensures c.front.ensures)
+    (multiplied (omega arith) (omega arith) c.multiply_out-n.ensures)
     c.spell_sorted.ensures

@@ -1,6 +1,6 @@
 -- `keep` stores the smaller run on the left and the larger on the right.
-use Rattle.words.proofs.Kept.{kept}
+use Rattle.words.proofs.Kept.{in_order, kept}
 use Rattle.words.proofs.candidate.Equation.keep.Goals as goal
 
-pub returns : goal.returns
-returns g c = kept c.in_order.ensures c.store.ensures
+pub returns-clause-kept : goal.returns-clause-kept
+returns-clause-kept c = kept (in_order c.in_order.ensures) c.store.ensures.stored

@@ -1,14 +1,14 @@
 -- `keep_lesser` compares the equation so far with the two runs, smaller first, and keeps the lesser.
 use Rattle.std.proofs.Common.{◌∙◌, sym}
-use Rattle.words.proofs.Kept.{stays, replaced}
+use Rattle.words.proofs.Kept.{in_order, stays, replaced}
 use Rattle.words.proofs.candidate.Equation.keep_lesser.Goals as goal
 
-pub returns-then-is_gt : goal.returns-then-is_gt
-returns-then-is_gt g c =
-    replaced c.in_order.ensures c.compare_equations.result (rw (c.left.ensures.is, c.right.ensures.is) at c.compare_equations.ensures)
-    (sym c.is_gt.ensures ∙ c.if-is_gt.true) c.store.ensures
+pub returns-then-is_gt-clause-kept : goal.returns-then-is_gt-clause-kept
+returns-then-is_gt-clause-kept c =
+    replaced (in_order c.in_order.ensures) c.compare_equations.result (rw (c.left.ensures.is, c.right.ensures.is) at c.compare_equations.ensures)
+    (sym c.is_gt.ensures ∙ c.if-is_gt.true) c.store.ensures.stored
 
-pub returns-else-is_gt : goal.returns-else-is_gt
-returns-else-is_gt g c =
-    stays c.in_order.ensures c.compare_equations.result (rw (c.left.ensures.is, c.right.ensures.is) at c.compare_equations.ensures)
+pub returns-else-is_gt-clause-kept : goal.returns-else-is_gt-clause-kept
+returns-else-is_gt-clause-kept c =
+    stays (in_order c.in_order.ensures) c.compare_equations.result (rw (c.left.ensures.is, c.right.ensures.is) at c.compare_equations.ensures)
     (sym c.is_gt.ensures ∙ c.if-is_gt.false)

@@ -6,8 +6,8 @@ use Rattle.words.proofs.Candidates.{terms_made}
 use Rattle.words.proofs.candidate.TermsRenamed.offer.Goals as goal
 
 pub returns-clause-tried : goal.returns-clause-tried
-returns-clause-tried g c =
+returns-clause-tried c =
     let a = c.args in
     offered
     (λ small. terms_made (new_of a.renaming.now) a.self.now.a.now a.self.now.b.now _ _ refl refl c.rename.ensures c.rename-2.ensures c.front.ensures c.front-2.ensures)
-    c.offer.ensures
+    c.offer.ensures.tried

@@ -5,9 +5,9 @@ use Rattle.terms.specs.Compare.{order_numbers}
 use Rattle.words.specs.Spelled.{spelled}
 use Rattle.words.specs.Renaming.{new_of}
 use Rattle.words.specs.Rank.{sorted_renamed}
-use Rattle.words.proofs.candidate.rank.is_above.Given as goal
+use Rattle.words.proofs.candidate.renaming.Renaming.is_above.Given as goal
 
 abbrev pub invariant-loop-i : goal.invariant-loop-i
 invariant-loop-i l =
-    let ws = sorted_renamed (new_of l.renaming) l.words in
+    let ws = sorted_renamed (new_of l.self) l.words in
     (length l.rest ≤ length l.run) × (order_numbers l.rest (spelled (drop l.i ws)) ≡ order_numbers l.run (spelled ws))

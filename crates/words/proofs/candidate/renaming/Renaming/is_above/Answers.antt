@@ -2,12 +2,12 @@ use Rattle.std.proofs.Common.{◌+◌, sym, ◌∙◌, arith, length-drop}
 use Rattle.words.specs.Renaming.{new_of}
 use Rattle.words.proofs.Parts.{end_lent}
 use Rattle.words.proofs.Ranked.{found_greater, found_equal}
-use Rattle.words.proofs.candidate.rank.is_above.Goals as goal
+use Rattle.words.proofs.candidate.renaming.Renaming.is_above.Goals as goal
 
 pub returns-then-counted-i : goal.returns-then-counted-i
 returns-then-counted-i c =
     let a = c.args in
-    λ e. found_greater (new_of a.renaming.now) a.words.now c.loop-i.rest.now c.loop-i.i c.loop-i.invariant.1 c.rank_of-counted.ensures c.if-counted-i.true
+    λ e. found_greater (new_of a.self.now) a.words.now c.loop-i.rest.now c.loop-i.i c.loop-i.invariant.1 c.rank_of-counted.ensures c.if-counted-i.true
     (omega (arith, c.min-i-end.ensures))
 
 pub loop-i-preserved : goal.loop-i-preserved
@@ -16,7 +16,7 @@ loop-i-preserved c =
     let n = c.in-Some.end + 1 in
     rw (end_lent c.loop-i.rest.now n) (
       omega (arith, length-drop n c.loop-i.rest.now, c.loop-i.invariant.0),
-      found_equal (new_of a.renaming.now) a.words.now c.loop-i.rest.now c.loop-i.i c.loop-i.invariant.1 c.rank_of-counted.ensures c.in-Some.end
+      found_equal (new_of a.self.now) a.words.now c.loop-i.rest.now c.loop-i.i c.loop-i.invariant.1 c.rank_of-counted.ensures c.in-Some.end
           c.if-i-counted.false c.if-counted-i.false (sym c.in-Some.is ∙ c.place_of.ensures.is),
     )
 

@@ -4,7 +4,7 @@ use Rattle.words.specs.Multiply.{PutsWords}
 use Rattle.words.specs.Spelled.{words_in}
 use Rattle.words.specs.RenameRun.{rename_run}
 use Rattle.words.specs.Renaming.{new_of}
-use Rattle.words.proofs.candidate.words.rename_slots.Given as goal
+use Rattle.words.proofs.candidate.renaming.Renaming.rename_slots.Given as goal
 
 abbrev pub invariant-loop-i : goal.invariant-loop-i
-invariant-loop-i l = PutsWords (map (rename_run (new_of l.renaming)) (words_in l.words l.i)) l.initial.slots 0 l.next l.slots
+invariant-loop-i l = PutsWords (map (rename_run (new_of l.self)) (words_in l.words l.i)) l.initial.slots 0 l.next l.slots
