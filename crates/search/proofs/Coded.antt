@@ -12,7 +12,7 @@ use lib.Seq.{drop-cons}
 use Rattle.terms.specs.Theory.Reflects.{both}
 use Rattle.terms.specs.Theory.Order.{below?}
 use Rattle.search.specs.Law as law
-use Rattle.search.specs.Law.{rank, semiring}
+use Rattle.search.specs.Law.{semiring}
 use Rattle.search.specs.Coded.{name_of, law_number, numbered_law, law_at, law_of, direction_number, numbered_direction}
 use Rattle.search.specs.declared.search.Law.{Law}
 use Rattle.search.specs.declared.search.Law.TheVariants.{AddAssoc, AddComm, AddZeroRight, MulAssoc, MulOneLeft, MulOneRight, LeftDistrib, RightDistrib, ZeroMul, MulZero}
@@ -35,9 +35,6 @@ each_law P h MulZero = h.9
 
 pub law_read_back : (w : Law) → numbered_law (law_number w) ≡ w
 law_read_back = each_law (λ w. numbered_law (law_number w) ≡ w) (refl, refl, refl, refl, refl, refl, refl, refl, refl, refl)
-
-pub law_ranked : (w : Law) → law_number w ≡ rank (name_of w)
-law_ranked = each_law (λ w. law_number w ≡ rank (name_of w)) (refl, refl, refl, refl, refl, refl, refl, refl, refl, refl)
 
 pub number_below : (w : Law) → law_number w < 10
 number_below = each_law (λ w. law_number w < 10) (omega arith, omega arith, omega arith, omega arith, omega arith, omega arith, omega arith, omega arith, omega arith, omega arith)

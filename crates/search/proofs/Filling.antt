@@ -9,6 +9,7 @@ use lib.Dec.{ltb}
 use lib.ListN.{length, take, drop, get_or, set, length-append, length-take, length-drop, drop_of_length-le}
 use borrow.Author.Tests.{lt-ltb, le-ltb}
 use Rattle.std.specs.Prelude.{Some, None}
+use Rattle.std.proofs.lemmas.List.{take_more_set}
 use Rattle.terms.specs.Term.{Term, letter, zero, one, add, mul}
 use Rattle.terms.specs.Run.{ADD, MUL, run}
 use Rattle.terms.specs.Held.{IsRun}
@@ -20,7 +21,6 @@ use Rattle.search.specs.Span.{span_of, Pattern, Meant, Means}
 use Rattle.search.specs.Filled.{Fills}
 use Rattle.search.specs.declared.search.Span.{Span}
 use Rattle.search.specs.declared.search.Spans.{Spans}
-use Rattle.search.proofs.Front.{front_more}
 
 -- the parts of a term that is put in
 pub join_parts : (f : Term → Term → Term) (a b : Option Term) (u : Term) → join f a b ≡ some u → (s : Term) × (t : Term) × (a ≡ some s) × (b ≡ some t) × (f s t ≡ u)
@@ -140,7 +140,7 @@ module _ (q xs : List ℕ) (z : Spans) (before : List ℕ) (n : ℕ) (out : List
     number_long c l = no_room q xs z before out n (too_long q xs z before n out m k S (get_or q k 0 ∷ []) h itself (omega arith))
 
     pub number_put : m < length out → Filling q xs z before n (set out m (get_or q k 0)) (m + 1) (k + 1)
-    number_put c = put_piece q xs z before n out m k S (get_or q k 0 ∷ []) h itself (set out m (get_or q k 0)) (m + 1) refl (front_more out m (get_or q k 0) c)
+    number_put c = put_piece q xs z before n out m k S (get_or q k 0 ∷ []) h itself (set out m (get_or q k 0)) (m + 1) refl (take_more_set out m (get_or q k 0) c)
 
   pub fill_ends : length q ≤ k → n ≤ m → m ≤ length out → length out ≡ length before → Fills q xs z before out n (Some m)
   unfolding expand

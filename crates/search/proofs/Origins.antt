@@ -6,7 +6,7 @@ use mathlib.Core.Path.{◌≡◌, refl, sym, ap, ◌∙◌}
 use mathlib.Core.List.{List, [], ◌∷◌, ◌++◌, append_assoc}
 use borrow.Author.Tests.{ne_eqb}
 use lib.ListN.{length, take, drop, get_or, set, get_or-append}
-use lib.Seq.{sets, sets-eq, length-take-le, take-set-le, get_or-set_other, get_or-append-add}
+use lib.Seq.{sets, sets-eq, length-take-le, get_or-set_other, get_or-append-add}
 use Rattle.terms.proofs.Positions.{front_getD}
 use Rattle.search.specs.Coded.{law_number}
 use Rattle.search.specs.Origins.{numbers, origin_at}
@@ -41,10 +41,6 @@ getD_sets_other xs i [] p h = refl
 getD_sets_other xs i (v ∷ vs) p h =
     getD_sets_other (set xs i v) (suc i) vs p (λ q. let z = h (omega arith) in omega arith)
     ∙ get_or-set_other xs i p v 0 (λ e. let z = h (omega arith) in omega arith)
-
-pub take_sets : (n : ℕ) (xs : List ℕ) (i : ℕ) (vs : List ℕ) → n ≤ i → take n (sets xs i vs) ≡ take n xs
-take_sets n xs i [] h = refl
-take_sets n xs i (v ∷ vs) h = take_sets n (set xs i v) (suc i) vs (omega arith) ∙ take-set-le n xs i v h
 
 pub four : (o : Origin) → length (numbers o) ≡ 4
 four Start = refl

@@ -215,12 +215,6 @@ module _ {left rights : List ℕ} {fs : List Reply} {r n : ℕ} (M : MatchedUpTo
 
 -- which of them the search waits for
 
--- where one does not wait, a law matches
-pub direct_by : {o : Option Name} (f : Reply) → (f ≡ Unnoted → ⊥) → Directly o f → (w : Law) × (f ≡ Direct w) × (o ≡ some (name_of w))
-direct_by Unnoted n d = absurd (n refl)
-direct_by (Direct w) n d = (w, refl, d)
-direct_by (Noted k) n d = absurd d
-
 pub waiting_waited : (ws : List law.Law) (s : Term) (ts : List Term) (fs : List Reply) → length ts ≡ length fs
     → ((k : ℕ) → k < length ts → Directly (direct ws s (term_at ts k)) (reply_at fs k)) → waiting ts fs ≡ waited ws s ts
 unfolding waiting waited

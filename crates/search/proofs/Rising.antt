@@ -3,14 +3,13 @@ use Prim.Native.Nat.{ℕ, suc, ◌<◌}
 use native.Mathlib.Omega.{arith}
 use mathlib.Core.Path.{◌≡◌, refl, ap, ◌∙◌}
 use mathlib.Core.List.{List, [], ◌∷◌, ◌++◌}
-use lib.Dec.{T}
 use lib.ListN.{length, take, drop, get_or}
-use Rattle.terms.specs.Compare.{Ordering, lt, eq, gt}
+use Rattle.terms.specs.Compare.{lt}
 use Rattle.terms.specs.Term.{zero, order}
-use Rattle.terms.specs.Sort.{lost, insert, repeat, before, Sorted}
+use Rattle.terms.specs.Sort.{lost, insert, repeat, Sorted}
 use Rattle.terms.specs.Theory.Order.{cases, flip_gt}
 use Rattle.terms.specs.Theory.Insert.{insert_lt, insert_eq, insert_gt}
-use Rattle.terms.specs.Theory.Sorted.{below_insert}
+use Rattle.terms.specs.Theory.Sorted.{below_insert, before_lost}
 use Rattle.terms.specs.Theory.TermOrder.{term_order}
 use Rattle.search.specs.Law.{add_assoc}
 use Rattle.search.specs.Line.{Line, forward, by_result}
@@ -33,16 +32,11 @@ rising_inserted x (y ∷ ys) s =
     (λ e. rw (insert_gt lost by_result {x = x} {y = y} ys e)
     (below_insert lost by_result y x ys (rw (flip_gt term_order e) tt) s.0, rising_inserted x ys s.1))
 
-pub below : (c : Ordering) → T (before lost c) → c ≡ lt
-below lt t = refl
-below eq t = absurd t
-below gt t = absurd t
-
 -- the first of them is before each other
 first_least : (y : Line) (ys : List Line) → Rising (y ∷ ys) → (p : ℕ) → p < length ys → by_result y (line_at ys p) ≡ lt
 first_least y [] s p h = absurd (omega arith)
-first_least y (z ∷ zs) s ℕ.zero h = below (by_result y z) s.0
-first_least y (z ∷ zs) s (suc p) h = term_order.transitive (below (by_result y z) s.0) (first_least z zs s.1 p (omega arith))
+first_least y (z ∷ zs) s ℕ.zero h = before_lost (by_result y z) s.0
+first_least y (z ∷ zs) s (suc p) h = term_order.transitive (before_lost (by_result y z) s.0) (first_least z zs s.1 p (omega arith))
 
 -- each is before those behind it
 pub rising_at : (ys : List Line) → Rising ys → (j p : ℕ) → j < p → p < length ys → by_result (line_at ys j) (line_at ys p) ≡ lt

@@ -16,7 +16,7 @@ use Rattle.terms.specs.Compare.{Ordering, lt, eq, gt, order_numbers}
 use Rattle.terms.specs.Term.{Term, order}
 use Rattle.terms.specs.Held.{IsRun}
 use Rattle.terms.specs.Sort.{lost, insert, repeat}
-use Rattle.terms.specs.Promises.{ordering_of, Compares}
+use Rattle.terms.specs.Promises.{ordering_of}
 use Rattle.terms.specs.Theory.Order.{cases, flip_lt, flip_gt, below?}
 use Rattle.terms.specs.Theory.TermOrder.{term_order}
 use Rattle.terms.specs.Theory.Held.{order_of}
@@ -25,7 +25,7 @@ use Rattle.std.specs.declared.cmp.Ordering as answered
 use Rattle.std.specs.declared.cmp.Ordering.TheVariants.{Less, Equal, Greater}
 use Rattle.search.specs.Line.{Line, by_result}
 use Rattle.search.specs.Ordered.{Result, Named, Ordered, none, more, inserted, answer, judged, Goes, Spotted}
-use Rattle.search.specs.Runs.{Shows, shown}
+use Rattle.search.specs.Runs.{shown}
 use Rattle.search.proofs.Rising.{rising_at, goes_past}
 use Rattle.search.proofs.Tracing.{spelled_shown}
 pub use Rattle.search.proofs.Rising.{line_at}
@@ -48,18 +48,10 @@ module _ {t : Term} {from : ℕ} {res : List ℕ} {n : ℕ} where
 
 -- what the code answers
 
-answer_back : (c : answered.Ordering) → c ≡ answer (ordering_of c)
-answer_back Less = refl
-answer_back Equal = refl
-answer_back Greater = refl
-
 order_back : (o : Ordering) → o ≡ ordering_of (answer o)
 order_back lt = refl
 order_back eq = refl
 order_back gt = refl
-
-pub judges : {res xs zs : List ℕ} {k : ℕ} {c : answered.Ordering} → Shows res k zs → Compares zs xs c → c ≡ judged res xs k
-judges {xs = xs} {c = c} S C = answer_back c ∙ ap answer (C.numbers ∙ ap (λ l. order_numbers l xs) S.is)
 
 -- the lines that ks names, in term order, and one with the run xs
 module _ {t : Term} {from n : ℕ} {res ks xs : List ℕ} {ys : List Line} (x : Line) (O : Ordered t from res n ks ys) (hx : IsRun xs x.result) where

@@ -9,11 +9,12 @@ use mathlib.Core.List.{List, ◌++◌, append_assoc}
 use lib.ListN.{length, take, drop, length-drop}
 use lib.Seq.{length-take-le}
 use Rattle.std.specs.Prelude.{Option, Some, None}
+use Rattle.std.proofs.lemmas.List.{take_rest}
 use Rattle.terms.specs.Term.{Term, letter, zero, one, add, mul, size, same}
 use Rattle.terms.specs.Run.{run}
 use Rattle.terms.specs.Held.{Fine, IsRun}
 use Rattle.terms.specs.Theory.Reflects.{Reflects}
-use Rattle.terms.specs.Theory.TermOrder.{same_reflects}
+use Rattle.terms.specs.Theory.TermOrder.{same_reflects, told_apart}
 use Rattle.terms.specs.Theory.Held.{size_of}
 use Rattle.terms.specs.Promises.{Equals}
 use Rattle.terms.proofs.Compared.{equal_reflects}
@@ -24,7 +25,7 @@ use Rattle.search.specs.Span.{span_of, Pattern, Meant, Means}
 use Rattle.search.specs.Filled.{Between, Fills}
 use Rattle.search.specs.Spliced.{part, Finished, Finishes, Put, Splices}
 use Rattle.search.specs.declared.search.Spans.{Spans}
-use Rattle.search.proofs.Front.{front_part, take_rest}
+use Rattle.search.proofs.Front.{front_part}
 use Rattle.search.proofs.Filling.{join_parts}
 use Rattle.search.proofs.Splits.{fine_at, starts, run_spliced, size_replaced, fine_replaced}
 
@@ -48,13 +49,6 @@ same_yes u w e = go (same u w) (same_reflects u w)
     go : (b : Bool) → Reflects (u ≡ w) b → b ≡ true
     go true h = refl
     go false h = absurd (h e)
-
-same_no : (u w : Term) → (u ≡ w → ⊥) → same u w ≡ false
-same_no u w e = go (same u w) (same_reflects u w)
-  where
-    go : (b : Bool) → Reflects (u ≡ w) b → b ≡ false
-    go true h = absurd (e h)
-    go false h = refl
 
 -- the end of a splice
 
@@ -126,7 +120,7 @@ module _ (q xs : List ℕ) (z : Spans) (at end : ℕ) (out out₁ out₂ : List 
           go None (inl k) = inl (same_yes u w (unchanged (sym new ∙ k ∙ old)))
           go None (inr k) = inr (omega (arith, n_is, size_of ht, (size_replaced t at h u).0))
           go (Some k) G = (
-            same_no u w (λ k. G.0 (new ∙ ap run k ∙ sym old)),
+            told_apart u w (λ k. G.0 (new ∙ ap run k ∙ sym old)),
             omega (arith, n_is, size_of ht, (size_replaced t at h u).0, G.1, G.2),
             record { fine = fine_replaced t at u ht.fine fu; whole = spliced k G.3 },
           )

@@ -5,6 +5,8 @@ use mathlib.Core.Path.{◌≡◌, refl, sym, ap, subst, ◌∙◌}
 use mathlib.Core.List.{List, [], ◌∷◌, ◌++◌, append-nil}
 use borrow.Author.Tests.{lt-leb, le-leb}
 use lib.ListN.{length, take, get_or, set, length-append, length-set}
+use Rattle.std.specs.Prelude.{Some, None}
+use Rattle.std.proofs.lemmas.Option.{same_Some, none-some}
 use lib.Seq.{slice, slice_empty, slice-cons, append_snoc, get_or-set_same, drop-set-lt, take-set-lt}
 use Rattle.terms.specs.Term.{Term}
 use Rattle.terms.specs.Held.{IsRun}
@@ -98,9 +100,9 @@ tracing_starts ws last count path e ns S h =
       traced = rw (slice_empty count path) none;
     }
 
-pub path_too_long : (ws : List ℕ) (last count : ℕ) (path : List ℕ) → count ≡ value_of ws last → length path < count → Traces ws last path 0
+pub path_too_long : (ws : List ℕ) (last count : ℕ) (path : List ℕ) → count ≡ value_of ws last → length path < count → Traces ws last path None
 path_too_long ws last count path e h =
-    record { within = omega arith; exact = λ ns S q p. absurd (omega (arith, e, S.distance last q)) }
+    record { within = λ n s. absurd (none-some n s); exact = λ ns S q p. absurd (omega (arith, e, S.distance last q)) }
 
 -- a number put before the part from position m + 1 on
 slice_put : (path : List ℕ) (m count x : ℕ) → m < count → count ≤ length path → slice m count (set path m x) ≡ x ∷ slice (suc m) count path
@@ -111,10 +113,10 @@ slice_put path m count x h k =
     ∙ rw (get_or-set_same path m x 0, take-set-lt count path m x, drop-set-lt (suc m) (take count path) m x)
 
 module _ (ws : List ℕ) (last k at : ℕ) (o : Origin) (O : Originates ws k o) (h : 0 < at) where
-  pub tracing_stuck : (ks path : List ℕ) → Tracing ws last k at ks → o ≡ Start → Traces ws last path 0
+  pub tracing_stuck : (ks path : List ℕ) → Tracing ws last k at ks → o ≡ Start → Traces ws last path None
   tracing_stuck ks path T e =
       record {
-        within = omega arith;
+        within = λ n s. absurd (none-some n s);
         exact = λ ns S q p.
             let t = T ns S q in
             absurd (omega (arith, t.far, ap length (from_start S k t.within (sym e ∙ O.exact (noted_at ns k).term (noted_run S k t.within))).1));
@@ -136,9 +138,14 @@ module _ (ws : List ℕ) (last k at : ℕ) (o : Origin) (O : Originates ws k o) 
       }
 
 pub tracing_ends : (ws : List ℕ) (last k at count : ℕ) (path : List ℕ) → count ≡ value_of ws last → count ≤ length path → at ≤ 0
-    → Tracing ws last k at (slice at count path) → Traces ws last path count
+    → Tracing ws last k at (slice at count path) → Traces ws last path (Some count)
 tracing_ends ws last k at count path e h z T =
-    record { within = h; exact = λ ns S q p. (e ∙ S.distance last q, ends ns S q (T ns S q)) }
+    record {
+      within = λ n s. subst (λ m. m ≤ length path) (same_Some count n s) h;
+      exact = λ ns S q p.
+          let d = e ∙ S.distance last q in
+          (ap Some d, subst (λ m. Traced ws ns 0 (take m path) (noted_at ns last).trail) d (ends ns S q (T ns S q)));
+    }
   where
     ends : (ns : List Noted) → Slots ws ns → last < length ns → Reaches ws ns last k at (slice at count path) → Traced ws ns 0 (take count path) (noted_at ns last).trail
     ends ns S q t =

@@ -12,12 +12,12 @@ use Rattle.terms.specs.Term.{Term, same}
 use Rattle.terms.specs.Sort.{lost, insert, insert_all, repeat, before, Below}
 use Rattle.terms.specs.Theory.Order.{irreflexive, cases}
 use Rattle.terms.specs.Theory.Insert.{insert_lt, insert_eq, insert_gt}
-use Rattle.terms.specs.Theory.Sorted.{insert_below}
+use Rattle.terms.specs.Theory.Sorted.{insert_below, before_lost}
 use Rattle.terms.specs.Theory.TermOrder.{term_order, told_apart}
 use Rattle.search.specs.Line.{Line, by_result}
 use Rattle.search.specs.Search.{Noted, is_noted, entry}
 use Rattle.search.specs.Ordered.{inserted, unknown, joined}
-use Rattle.search.proofs.Rising.{line_at, Rising, below, rising_at, rising_inserted}
+use Rattle.search.proofs.Rising.{line_at, Rising, rising_at, rising_inserted}
 
 -- a term noted before, or else as the last one
 module _ (t : Term) (n : Noted) where
@@ -73,7 +73,7 @@ module _ (ns : List Noted) where
 
   below_rest : (x y : Line) (ys : List Line) → T (before lost (by_result x y)) → Below lost by_result y ys → Below lost by_result x ys
   below_rest x y [] h b = tt
-  below_rest x y (z ∷ zs) h b = rw (term_order.transitive (below (by_result x y) h) (below (by_result y z) b)) tt
+  below_rest x y (z ∷ zs) h b = rw (term_order.transitive (before_lost (by_result x y) h) (before_lost (by_result y z) b)) tt
 
   below_unknown : (x : Line) (ys : List Line) → Below lost by_result x ys → Rising ys → Below lost by_result x (unknown ns ys)
   unfolding unknown

@@ -8,6 +8,7 @@ use mathlib.Core.List.{List, [], ◌∷◌, ◌++◌}
 use lib.ListN.{length, take, drop, get_or, length-drop}
 use lib.Seq.{take-take, drop-drop, length-take-le}
 use Rattle.std.specs.Prelude.{Some, None}
+use Rattle.std.proofs.lemmas.List.{drop-take, take_rest}
 use Rattle.terms.specs.Term.{Term, letter, zero, one, add, mul, size}
 use Rattle.terms.specs.Run.{ZERO, ADD, run}
 use Rattle.terms.specs.Held.{Fine, IsRun, Holds}
@@ -15,7 +16,7 @@ use Rattle.terms.specs.Numbers.{is_some}
 use Rattle.terms.specs.Promises.{Equals, Ends}
 use Rattle.terms.specs.Theory.Reflects.{Reflects}
 use Rattle.terms.specs.Theory.Held.{size_of}
-use Rattle.terms.proofs.Positions.{drop_head, drop_take}
+use Rattle.terms.proofs.Positions.{drop_head}
 use Rattle.terms.proofs.Compared.{equal_reflects}
 use Rattle.terms.proofs.Held.{size_pos, holds_within, holds_add, holds_mul, front_holds}
 use Rattle.search.specs.Match.{Bindings, unbound, match}
@@ -38,7 +39,6 @@ use Rattle.search.specs.declared.search.Binding.{Binding}
 use Rattle.search.specs.declared.search.Binding.TheVariants.{Bound, Unbound}
 use Rattle.search.specs.Theory.Position.{position_numbered}
 use Rattle.search.specs.Theory.Chain.{Both, match_both_reflects}
-use Rattle.search.proofs.Front.{take_rest}
 use Rattle.search.proofs.Spans.{means_unbound}
 use Rattle.search.proofs.Splits.{starts}
 use Rattle.search.proofs.RunLine.{RunUse, use_on_runs}
@@ -48,6 +48,11 @@ use Rattle.search.proofs.RunLine.{RunUse, use_on_runs}
 -- an atom's number is below those of sums and products
 atom_head : {xs : List ℕ} {n x : ℕ} {t : Term} → Holds xs n t → run t ≡ x ∷ [] → get_or xs n 0 ≡ x
 atom_head {xs} {n} {x} h e = (drop_head xs n x h.rest (h.here ∙ ap (λ k. k ++ h.rest) e)).1
+
+-- a position, moved by one of two functions that agree
+pub shifted : (f g : ℕ → ℕ) → ((i : ℕ) → f i ≡ g i) → (o : Option ℕ) → map f o ≡ map g o
+shifted f g e none = refl
+shifted f g e (some i) = ap some (e i)
 
 module _ (xs : List ℕ) (n : ℕ) where
   pub no_part : (d : line.Side) → length xs ≤ n → PartOn xs n d None
@@ -75,10 +80,6 @@ module _ (xs : List ℕ) (n : ℕ) where
     two_parts one h a b = absurd (omega (arith, atom_head h refl))
     two_parts (add u v) h a b = let (e, p, q) = holds_add h in a u v p q
     two_parts (mul u v) h a b = let (e, p, q) = holds_mul h in b u v p q
-
-  shifted : (f g : ℕ → ℕ) → ((i : ℕ) → f i ≡ g i) → (o : Option ℕ) → map f o ≡ map g o
-  shifted f g e none = refl
-  shifted f g e (some i) = ap some (e i)
 
   pub left_part : n < length xs → ADD ≤ get_or xs n 0 → PartOn xs n l (Some (n + 1))
   unfolding position subterm
@@ -230,7 +231,7 @@ module _ (w : Law) (d : Direction) (both : List ℕ) (middle at : ℕ) (within :
         source_tail : {s t : Term} {p : List line.Side} (k : Known s t p) → drop (at + size (subterm_at s at)) (take middle both) ≡ take (middle - end) (drop end both)
         source_tail k =
             let e : end + (middle - end) ≡ middle = omega arith in
-            rw (← (ended k)) (rw e at (drop_take end (middle - end) both))
+            rw (← (ended k)) (rw e at (drop-take end (middle - end) both))
 
         target_tail : {s t : Term} {p : List line.Side} (k : Known s t p) → drop (at + size (subterm_at t at)) (drop middle both) ≡ take (length both - rest) (drop rest both)
         target_tail {t = t} k =

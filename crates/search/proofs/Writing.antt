@@ -6,8 +6,9 @@ use native.Mathlib.Numerals.{towards_suc}
 use mathlib.Core.Path.{◌≡◌, refl, sym, ap, ◌∙◌}
 use mathlib.Core.List.{List, ◌∷◌, ◌++◌, append_assoc}
 use borrow.Rule.Slice.PartMut.{put_mid}
-use lib.ListN.{length, take, drop, get_or, set, length-set, length-append}
+use lib.ListN.{length, take, drop, get_or, set, length-set}
 use lib.Seq.{sets, sets-eq, drop-drop, length-sets, take-take, take_at, take-set-le, get_or-set_same, get_or-set_other, length-take-le}
+use Rattle.words.proofs.Stores.{take_sets, take_stored}
 use Rattle.terms.specs.Term.{Term, size}
 use Rattle.terms.specs.Held.{IsRun}
 use Rattle.terms.specs.Theory.Held.{size_of}
@@ -18,7 +19,7 @@ use Rattle.search.specs.Index.{SLOT}
 use Rattle.search.specs.Runs.{Spells, origin_of, value_of, Writes}
 use Rattle.search.specs.declared.slots.Origin.{Origin}
 use Rattle.search.proofs.Front.{front_part}
-use Rattle.search.proofs.Origins.{four, get_d_sets, getD_sets_other, take_sets, origin_back, origin_front}
+use Rattle.search.proofs.Origins.{four, get_d_sets, getD_sets_other, origin_back, origin_front}
 
 -- the run in slot k, as a part of the list from number 8 of the slot on
 abbrev run_length : List ℕ → ℕ → ℕ
@@ -36,16 +37,6 @@ part_stored ws a e vs p h =
     let q : a + (e - a) ≡ a + length vs = omega arith in
     ap (λ r. take a ws ++ (vs ++ r)) (drop-drop (e - a) a ws ∙ ap (λ n. drop n ws) q)
     ∙ sym (append_assoc (take a ws) vs (drop (a + length vs) ws)) ∙ sym (sets-eq vs ws a (omega (arith, p)))
-
--- the list up to the end of what is stored
-take_stored : (ws : List ℕ) (a : ℕ) (xs : List ℕ) → a + length xs ≤ length ws → take (a + length xs) (sets ws a xs) ≡ take a ws ++ xs
-take_stored ws a xs h =
-    let long : length (take a ws ++ xs) ≡ a + length xs = omega (arith, length-append (take a ws) xs, length-take-le a ws (omega arith)) in
-    ap (take (a + length xs)) (sets-eq xs ws a h) ∙ take_at (take a ws ++ xs) (drop (a + length xs) ws) (a + length xs) long
-
--- a part overwritten after the first n numbers, as far as it
-pub part_appended : (xs : List ℕ) (n : ℕ) (vs : List ℕ) → n + length vs ≤ length xs → take (n + length vs) (put_mid n (n + length vs - n) xs vs) ≡ take n xs ++ vs
-part_appended xs n vs h = ap (take (n + length vs)) (part_stored xs n (n + length vs) vs refl h) ∙ take_stored xs n vs h
 
 -- the numbers at the front of a slot
 abbrev header : ℕ → Origin → List ℕ

@@ -27,10 +27,10 @@ pub data Traced (ws : List ℕ) (ns : List Noted) : ℕ → List ℕ → List Li
 -- what the functions promise
 
 -- of `path_of`
-pub record Traces (ws : List ℕ) (last : ℕ) (path : List ℕ) (n : ℕ) : Type 0 where
-  pub within : n ≤ length path
+pub record Traces (ws : List ℕ) (last : ℕ) (path : List ℕ) (r : Answer ℕ) : Type 0 where
+  pub within : (n : ℕ) → r ≡ Some n → n ≤ length path
   pub exact : (ns : List Noted) → Slots ws ns → last < length ns → length (noted_at ns last).trail ≤ length path
-      → (n ≡ length (noted_at ns last).trail) × Traced ws ns 0 (take n path) (noted_at ns last).trail
+      → let n = length (noted_at ns last).trail in (r ≡ Some n) × Traced ws ns 0 (take n path) (noted_at ns last).trail
 
 -- the place i of the term t is on side d, in the part that starts at position n
 pub record OnSide (xs : List ℕ) (t : Term) (i : ℕ) (d : Side) (n at : ℕ) : Type 0 where

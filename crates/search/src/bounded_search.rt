@@ -5,9 +5,9 @@ ghost use Rattle.search.specs.Index.{SLOT};
 ghost use Rattle.search.specs.Searched.{Begins, Searches, Cuts};
 
 use crate::replies::Reply;
-use crate::results::Results;
+use crate::results::{LINES, Results};
 use crate::search::LARGEST;
-use crate::slots::{HASH, Origin, Runs, SLOT};
+use crate::slots::{HASH, Origin, Runs, SLOT, SlotRun};
 use crate::{index, replies, results, slots};
 
 // How far a search goes: lines in a path, size and depth of a result, terms that are opened.
@@ -35,7 +35,8 @@ pub struct Ended {
     pub noted: usize,
 }
 
-// What a search is for: the right sides, how far it goes, and how many slots there are for noted terms.
+// What a search is for: the right sides, how far it goes, and how many slots there are for noted terms. The workspace and the replies are
+// lent beside it: of a struct with them each contract would have to say that it lends the same ones still.
 #[derive(Clone, Copy)]
 struct Search<'a> {
     rights: Runs<'a>,
@@ -78,16 +79,16 @@ impl Search<'_> {
         requires { (noted ≤ self.slots) × (SLOT * self.slots ≤ length ws.old) × (distance < 4294967295) × (length replies.old ≤ self.rights.count) }
         ensures { Takes ws.old noted self.entry.slots res.now k distance self.entry.rights.slots.now replies.old result ws.new replies.new }
     {
-        let s = slots::run_of(res, k);
-        if self.slots <= noted || LARGEST < s.len() {
+        if self.slots <= noted {
             return None;
         }
+        let run = SlotRun::of(slots::run_of(res, k))?;
         let Origin::From(step) = slots::origin_of(res, k) else {
             return None;
         };
-        slots::note(ws, noted, s, step, distance + 1);
+        slots::note(ws, noted, run, step, distance + 1);
         let h = ws[SLOT * noted + HASH];
-        Some(replies::strike(self.rights, s, h, noted as u32, replies))
+        Some(replies::strike(self.rights, run.numbers, h, noted as u32, replies))
     }
 
     // Opens the noted terms in turn, from the first one on, and notes their results, until the `waiting` right sides that are unnoted are
@@ -165,9 +166,24 @@ impl Search<'_> {
 // Terms of so many nodes have few results.
 const SMALL: usize = 7;
 
+// The most results of terms of at most 7 nodes and of those of at most 31, and the numbers of their slots.
+const FEW: usize = SMALL * LINES;
+
+const FEW_NUMBERS: usize = FEW * SLOT;
+
+const MANY: usize = LARGEST * LINES;
+
+const MANY_NUMBERS: usize = MANY * SLOT;
+
+// How a search ends that has no slot for left.
+const NO_SLOT: Ended = Ended {
+    stop: Stop::Full,
+    opened: 0,
+    noted: 0,
+};
+
 // Notes left and explores. Results of more than 31 nodes have no room in a slot: the promise is for limits whose size is at most that.
-// A place has at most 20 results, of 40 numbers, so that terms of at most 7 nodes have 140 and those of at most 31 have 620. The buffers
-// are filled with zeros first, and to fill larger ones takes as long as a short search.
+// The buffers are filled with zeros first, and to fill larger ones takes as long as a short search.
 fn explore_from(
     left: &[u32],
     rights: Runs<'_>,
@@ -180,28 +196,27 @@ fn explore_from(
     ensures { Begins semiring left.now rights.entry.slots.now waiting limits ws.old ws.new replies.old replies.new result }
 {
     let slots = index::slots_of(ws.len());
-    if slots == 0 || LARGEST < left.len() {
-        return Ended {
-            stop: Stop::Full,
-            opened: 0,
-            noted: 0,
-        };
+    if slots == 0 {
+        return NO_SLOT;
     }
-    slots::note_start(ws, left);
+    let Some(run) = SlotRun::of(left) else {
+        return NO_SLOT;
+    };
+    slots::note_start(ws, run);
     let search = Search {
         rights,
         limits,
         slots,
     };
     if left.len() <= SMALL && limits.size as usize <= SMALL {
-        search.explore_within::<5600, 140>(waiting, replies, ws)
+        search.explore_within::<FEW_NUMBERS, FEW>(waiting, replies, ws)
     } else {
-        search.explore_within::<24800, 620>(waiting, replies, ws)
+        search.explore_within::<MANY_NUMBERS, MANY>(waiting, replies, ws)
     }
 }
 
 // Searches for paths from left to the right sides, as many as there are replies. Those that match directly need no slot; if there are
-// others, left is noted first, and one search serves them all.
+// others, left is noted first, and one search serves them all. Left and the right sides stand side by side as the Rust's search takes them.
 pub fn search_bounded_rewrite(
     left: &[u32],
     rights: Runs<'_>,

@@ -22,6 +22,7 @@ pub fn slots_of(n: usize) -> usize
 }
 
 // The numbers of a run taken together in one.
+#[tactic(auto, using(crate::proofs::Hashing::mix_small, crate::proofs::Hashing::hash_next, crate::proofs::Hashing::hash_ends))]
 pub fn hash(s: &[u32]) -> u32
     ensures { result ≡ hash s.now 0 }
 {

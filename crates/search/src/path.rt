@@ -7,23 +7,23 @@ use crate::slots::Origin;
 use terms::term;
 
 // Fills the front of `path` with the slots of the terms on the way from the start to slot `last`, from left to right, the start left out.
-// How many there are: the distance of slot `last`, or 0 where `path` is shorter or the way breaks off.
-pub fn path_of(ws: &[u32], last: u32, path: &mut [u32]) -> usize
+// How many there are: the distance of slot `last`. None where `path` is shorter or the way breaks off.
+pub fn path_of(ws: &[u32], last: u32, path: &mut [u32]) -> Option<usize>
     ensures { Traces ws.now last path.new result }
 {
     let count = slots::value_of(ws, last) as usize;
     if path.len() < count {
-        return 0;
+        return None;
     }
     let mut k = last;
     for at in (0..count).rev() {
         let Origin::From(step) = slots::origin_of(ws, k) else {
-            return 0;
+            return None;
         };
         path[at] = k;
         k = step.parent;
     }
-    count
+    Some(count)
 }
 
 // The part of the term that starts at `from` in which the place `at` is, by its side and where it starts: none at the root.

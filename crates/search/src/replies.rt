@@ -6,7 +6,7 @@ ghost use Rattle.search.specs.Replied.{Matched, Strikes};
 
 use crate::search;
 use crate::search::Law;
-use crate::slots::Runs;
+use crate::slots::{Runs, has_run};
 
 // What became of a right side: it is not noted, a law matches it and left directly, or it is noted in a slot.
 #[derive(Clone, Copy, PartialEq, Eq)]
@@ -17,6 +17,7 @@ pub enum Reply {
 }
 
 // Tells of each right side whether a law matches it and left directly; how many others there are, for which a search has to wait.
+#[tactic(auto, using(crate::proofs::Replying::matched_by, crate::proofs::Replying::matched_none, crate::proofs::Replying::matched_all))]
 pub fn match_rights(left: &[u32], rights: Runs<'_>, replies: &mut [Reply]) -> usize
     requires { length replies.old ≤ rights.count }
     ensures { Matched semiring left.now rights.entry.slots.now replies.old replies.new result }
@@ -42,7 +43,7 @@ pub fn strike(rights: Runs<'_>, s: &[u32], h: u32, k: u32, replies: &mut [Reply]
 {
     let mut count = 0;
     for r in 0..replies.len() {
-        if rights.has(r as u32, s, h) && replies[r] == Reply::Unnoted {
+        if has_run(rights.slots, r as u32, s, h) && replies[r] == Reply::Unnoted {
             replies[r] = Reply::Noted(k);
             count += 1;
         }

@@ -6,13 +6,13 @@ ghost use Rattle.search.specs.Ordered.{judged, Spotted};
 ghost use Rattle.search.specs.Resulted.{TooDeep, Resulted};
 
 use crate::search::{Binding, DIRECTIONS, LARGEST, LAWS, Spans};
-use crate::slots::{Origin, Runs, Step};
+use crate::slots::{Origin, Runs, SlotRun, Step};
 use crate::{line, slots};
 use std::cmp::Ordering;
 use terms::term;
 
 // How many lines there are at a place: one for each law and each direction.
-const LINES: usize = LAWS.len() * DIRECTIONS.len();
+pub const LINES: usize = LAWS.len() * DIRECTIONS.len();
 
 // The results of one term, in slots like those of noted terms: the first `count` numbers of `order` name their slots, in term order.
 #[derive(Drop)]
@@ -65,18 +65,18 @@ impl<const NUMBERS: usize, const MOST: usize> Results<NUMBERS, MOST> {
     ghost use Rattle.search.specs.declared.search.Binding.TheVariants.{Bound};
 
     // Puts a result in its place in term order, unless it is there already or is noted.
-    fn keep(&mut self, noted: Runs<'_>, s: &[u32], step: Step)
-        requires { (length s.now ≤ 31) × (self.old.count < MOST) }
-        ensures { Keeps noted.entry.slots.now noted.entry.count s.now step self.old.slots self.old.order self.new.slots self.new.order self.old.count self.new.count }
+    fn keep(&mut self, noted: Runs<'_>, run: SlotRun<'_>, step: Step)
+        requires { self.old.count < MOST }
+        ensures { Keeps noted.entry.slots.now noted.entry.count run.entry.numbers.now step self.old.slots self.old.order self.new.slots self.new.order self.old.count self.new.count }
     {
-        if noted.contains(s) {
+        if noted.contains(run.numbers) {
             return;
         }
-        let Some(place) = spot_of(&self.slots, &self.order[..self.count], s) else {
+        let Some(place) = spot_of(&self.slots, &self.order[..self.count], run.numbers) else {
             return;
         };
         let slot = self.count;
-        slots::write_slot(&mut self.slots, slot, s, Origin::From(step), 0);
+        slots::write_slot(&mut self.slots, slot, run, Origin::From(step), 0);
         self.count += 1;
         term::shift(&mut self.order[..slot + 1], place, slot as u32);
     }
@@ -92,7 +92,7 @@ impl<const NUMBERS: usize, const MOST: usize> Results<NUMBERS, MOST> {
         };
         let result = &out[..end];
         if !too_deep(result, term.depth) {
-            self.keep(term.noted, result, step);
+            self.keep(term.noted, SlotRun { numbers: result }, step);
         }
     }
 

@@ -53,7 +53,7 @@ impl From<Law> for u32 {
     }
 }
 
-// The law with a number: the first one past 9.
+// The law with a number: the first one past 9, which no slot that the search has written holds.
 impl From<u32> for Law {
     ghost from_gives = { λ n law. law ≡ numbered_law n };
 
@@ -96,6 +96,7 @@ const C: u32 = 2;
 pub const LETTERS: u32 = 3;
 
 // The sides of a law, the left and the right one, as runs.
+#[tactic(auto, using(crate::proofs::Rows::law_sides), unfolding(terms::specs::Run::run, crate::specs::Law::semiring, crate::specs::Coded::law_at))]
 pub fn sides_of(law: Law) -> (&'static [u32], &'static [u32])
     ensures { Sides result.0.now result.1.now (law_of law) }
 {
@@ -113,7 +114,8 @@ pub fn sides_of(law: Law) -> (&'static [u32], &'static [u32])
     }
 }
 
-// The side of a law that is replaced, read in a direction, and the side that is put in for it.
+// The side of a law that is replaced, read in a direction, and the side that is put in for it. Law and direction are handed on side by
+// side: a step has them so in the scope document, and a struct of the two beside it would be taken apart again at each place.
 pub fn sides(law: Law, direction: Direction) -> (&'static [u32], &'static [u32])
     ensures { Directed result.0.now result.1.now law direction }
 {
@@ -124,14 +126,16 @@ pub fn sides(law: Law, direction: Direction) -> (&'static [u32], &'static [u32])
     }
 }
 
-// A part of a run: where it starts and how many numbers it has. A part of no numbers stands for none.
+// A part of a run: where it starts and how many numbers it has. A part of no numbers stands for none: no Option, since no term is without
+// numbers.
 #[derive(Clone, Copy, PartialEq, Eq)]
 pub struct Span {
     pub at: usize,
     pub len: usize,
 }
 
-// The parts of a run that a law's letters stand for.
+// The parts of a run that a law's letters stand for. The run is lent beside them, since the matcher's answer, whose form the scope document
+// names, holds none.
 #[derive(Clone, Copy, PartialEq, Eq)]
 pub struct Spans {
     pub a: Span,
@@ -153,25 +157,36 @@ pub const NO_SPANS: Spans = Spans {
     c: Span { at: 0, len: 0 },
 };
 
-// The part that a letter stands for.
-pub fn span_of(z: Spans, x: u32) -> Span
-    ensures { result ≡ span_of z x }
-{
-    match x {
-        A => z.a,
-        B => z.b,
-        _ => z.c,
-    }
-}
+impl Spans {
+    ghost use Rattle.search.specs.Bound.{is_known};
 
-// The parts with another one for a letter.
-fn with_span(z: Spans, x: u32, span: Span) -> Spans
-    ensures { result ≡ with_span z x span }
-{
-    match x {
-        A => Spans { a: span, ..z },
-        B => Spans { b: span, ..z },
-        _ => Spans { c: span, ..z },
+    // The part that a letter stands for.
+    pub fn of(self, x: u32) -> Span
+        ensures { result ≡ span_of self x }
+    {
+        match x {
+            A => self.a,
+            B => self.b,
+            _ => self.c,
+        }
+    }
+
+    // The parts with another one for a letter.
+    fn with(self, x: u32, span: Span) -> Spans
+        ensures { result ≡ with_span self x span }
+    {
+        match x {
+            A => Spans { a: span, ..self },
+            B => Spans { b: span, ..self },
+            _ => Spans { c: span, ..self },
+        }
+    }
+
+    // Whether a number of a law's side is no letter, or a letter that stands for a part.
+    pub fn is_known(self, x: u32) -> bool
+        ensures { result ≡ is_known self x }
+    {
+        LETTERS <= x || self.of(x).len != 0
     }
 }
 
@@ -180,11 +195,13 @@ fn may_meet(s: &[u32], z: Spans, x: u32, at: usize, end: usize) -> bool
     requires { (x < 3) × (at ≤ end) × (end ≤ length s.now) × Within (length s.now) z }
     ensures { Meets s.now z x at end (letter_met z x at end result) }
 {
-    let old = span_of(z, x);
+    let old = z.of(x);
     old.len == 0 || s[old.at..old.at + old.len] == s[at..end]
 }
 
-// Matches the pattern whose run is `p` against the term whose run starts at `at`, from what the letters stand for already.
+// Matches the pattern whose run is `p` against the term whose run starts at `at`, from what the letters stand for already. A run and a
+// position of it are no struct, since several positions of one run are spoken of at once, and the functions of terms take the two so. The position is counted by hand: a letter
+// moves it over a whole term.
 pub fn bind(p: &[u32], s: &[u32], at: usize, z: Spans) -> Binding
     requires { (at ≤ length s.now) × Within (length s.now) z }
     ensures { Matches p.now s.now at z result }
@@ -197,8 +214,7 @@ pub fn bind(p: &[u32], s: &[u32], at: usize, z: Spans) -> Binding
             if !may_meet(s, bound, x, i, end) {
                 return Binding::Unbound;
             }
-            bound = with_span(
-                bound,
+            bound = bound.with(
                 x,
                 Span {
                     at: i,
@@ -215,16 +231,23 @@ pub fn bind(p: &[u32], s: &[u32], at: usize, z: Spans) -> Binding
     Binding::Bound(bound)
 }
 
-// Matches the sides of a law, the left at the front of a list and then the right at `middle`.
-pub fn bind_sides(law: Law, both: &[u32], middle: usize) -> Binding
-    requires { middle ≤ length both.now }
-    ensures { BindsSides law both.now middle result }
+// Two terms whose runs stand in one list, one at the front and one at `middle`, so that spans are positions of it.
+#[derive(Clone, Copy)]
+pub struct Pair<'a> {
+    pub both: &'a [u32],
+    pub middle: usize,
+    ghost within: { middle ≤ length both.now },
+}
+
+// Matches the sides of a law, the left with the first term of a pair and then the right with the second.
+pub fn bind_sides(law: Law, pair: Pair<'_>) -> Binding
+    ensures { BindsSides law pair.entry.both.now pair.entry.middle result }
 {
     let (left, right) = sides_of(law);
-    let Binding::Bound(z) = bind(left, both, 0, NO_SPANS) else {
+    let Binding::Bound(z) = bind(left, pair.both, 0, NO_SPANS) else {
         return Binding::Unbound;
     };
-    bind(right, both, middle, z)
+    bind(right, pair.both, pair.middle, z)
 }
 
 // Puts numbers after the first `n` of a buffer, which has room for them: the position after them. A buffer goes by positions, and not by
@@ -238,20 +261,19 @@ pub fn append(out: &mut [u32], n: usize, src: &[u32]) -> usize
     end
 }
 
-// The first law whose sides match the terms at the front of a list and at `middle`.
-fn first_law(both: &[u32], middle: usize) -> Option<Law>
-    requires { middle ≤ length both.now }
-    ensures { TakesFirst both.now middle result }
+// The first law whose sides match the terms of a pair.
+fn first_law(pair: Pair<'_>) -> Option<Law>
+    ensures { TakesFirst pair.entry.both.now pair.entry.middle result }
 {
     for law in LAWS {
-        if let Binding::Bound(_) = bind_sides(law, both, middle) {
+        if let Binding::Bound(_) = bind_sides(law, pair) {
             return Some(law);
         }
     }
     None
 }
 
-// The first law whose sides match two terms of at most 31 nodes. Their runs stand in one list, so that spans are positions of it.
+// The first law whose sides match two terms of at most 31 nodes.
 pub fn search_direct_axiom(left: &[u32], right: &[u32]) -> Option<Law>
     ensures { Directs left.now right.now result }
 {
@@ -261,5 +283,8 @@ pub fn search_direct_axiom(left: &[u32], right: &[u32]) -> Option<Law>
     let mut both = [0u32; 2 * LARGEST];
     let middle = append(&mut both, 0, left);
     append(&mut both, middle, right);
-    first_law(&both, middle)
+    first_law(Pair {
+        both: &both,
+        middle,
+    })
 }

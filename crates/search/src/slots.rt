@@ -4,13 +4,14 @@
 // By the index a run is looked for among those of one bucket only: number 6 of slot b is the head of bucket b, the newest slot whose run
 // is in it, number 7 of a slot leads to the next older one in its bucket, or to the slot itself, and number 5 is the hash of its run.
 // Nothing is cleared beforehand: a head counts only if it leads to a noted slot of its bucket.
-ghost use Rattle.std.specs.Prelude.{◌≡◌, ◌+◌, ◌*◌, ◌≤◌, ◌<◌, length};
+ghost use Rattle.std.specs.Prelude.{◌≡◌, ◌+◌, ◌*◌, ◌≤◌, ◌<◌, length, MatchOption};
 ghost use Rattle.search.specs.Index.{SLOT, slots_of};
 ghost use Rattle.search.specs.Runs.{value_of, Originates, Shows, Heads, Compares, Seeks, Finds, Writes, HoldsRun, Enters};
 ghost use Rattle.search.specs.Slots.{Starts, Notes};
 
 use crate::index;
-use crate::search::{Direction, Law};
+use crate::search::{Direction, LARGEST, Law};
+use terms::term;
 
 pub const SLOT: usize = 40;
 
@@ -62,7 +63,8 @@ impl Origin {
     }
 }
 
-// What the term in a slot comes from: the start past the end.
+// What the term in a slot comes from: the start past the end. Here and below nothing is asked of a slot's number, and a slot that is not
+// whole is answered for: a workspace comes with any contents.
 pub fn origin_of(ws: &[u32], k: u32) -> Origin
     ensures { Originates ws.now k result }
 {
@@ -106,7 +108,8 @@ pub fn value_of(ws: &[u32], k: u32) -> u32
     ws.get(at).copied().unwrap_or(0)
 }
 
-// The newest of the first `count` slots whose run is in a bucket, or `count` if none is.
+// The newest of the first `count` slots whose run is in a bucket, or `count` if none is. No Option, since the number is what a slot stores
+// and what ends the walk: the oldest slot of a bucket leads to itself.
 fn newest(ws: &[u32], count: u32, b: usize) -> u32
     requires { (b < slots_of (length ws.now)) × (SLOT * count ≤ length ws.now) }
     ensures { Heads ws.now count b result }
@@ -118,6 +121,14 @@ fn newest(ws: &[u32], count: u32, b: usize) -> u32
     } else {
         count
     }
+}
+
+// Whether slot `k` has the run `s`, whose hash is `h`: the runs are compared only where the hash is the same.
+pub fn has_run(ws: &[u32], k: u32, s: &[u32], h: u32) -> bool
+    requires { SLOT * k + SLOT ≤ length ws.now }
+    ensures { Compares ws.now k s.now h result }
+{
+    ws[SLOT * (k as usize) + HASH] == h && term::equal(s, run_of(ws, k))
 }
 
 // Terms in the first `count` slots of a workspace, for reading: the noted terms, or the right sides.
@@ -137,14 +148,6 @@ impl<'a> Runs<'a> {
         run_of(self.slots, k)
     }
 
-    // Whether slot `k` has the run `s`, whose hash is `h`: the runs are compared only where the hash is the same.
-    pub fn has(self, k: u32, s: &[u32], h: u32) -> bool
-        requires { k < self.count }
-        ensures { Compares self.entry.slots.now k s.now h result }
-    {
-        self.slots[SLOT * (k as usize) + HASH] == h && s == self.run(k)
-    }
-
     // The slot that has a run: of those in its bucket, the newest first.
     pub fn find(self, s: &[u32]) -> Option<u32>
         ensures { Seeks self.entry.slots.now self.entry.count s.now result }
@@ -157,7 +160,7 @@ impl<'a> Runs<'a> {
         let h = index::hash(s);
         let mut k = newest(self.slots, end, index::bucket_at(h, buckets));
         while k < end {
-            if self.has(k, s, h) {
+            if has_run(self.slots, k, s, h) {
                 return Some(k);
             }
             end = k;
@@ -174,12 +177,33 @@ impl<'a> Runs<'a> {
     }
 }
 
-// Writes a slot, up to the end of its run.
-pub fn write_slot(ws: &mut [u32], k: usize, s: &[u32], o: Origin, value: u32)
-    requires { (SLOT * k + SLOT ≤ length ws.old) × (length s.now ≤ 31) }
-    ensures { Writes ws.old ws.new k s.now o value }
+// A run that a slot has room for: that of a term of at most 31 nodes.
+#[derive(Clone, Copy)]
+pub struct SlotRun<'a> {
+    pub numbers: &'a [u32],
+    ghost fits: { length numbers.now ≤ 31 },
+}
+
+impl<'a> SlotRun<'a> {
+    // Numbers as the run of a slot, if there are at most 31.
+    pub fn of(numbers: &'a [u32]) -> Option<Self>
+        ensures { MatchOption result (31 < length numbers.now) (λ run. run.numbers.now ≡ numbers.now) }
+    {
+        if LARGEST < numbers.len() {
+            return None;
+        }
+        Some(SlotRun { numbers })
+    }
+}
+
+// Writes a slot, up to the end of its run. The workspace is lent beside the slot's number here and below: of a struct with both, handed on,
+// each call would have to say that it lends the same workspace still.
+pub fn write_slot(ws: &mut [u32], k: usize, run: SlotRun<'_>, o: Origin, value: u32)
+    requires { SLOT * k + SLOT ≤ length ws.old }
+    ensures { Writes ws.old ws.new k run.entry.numbers.now o value }
 {
     let at = SLOT * k;
+    let s = run.numbers;
     ws[at] = s.len() as u32;
     ws[at + ORIGIN..at + HASH].copy_from_slice(&o.numbers());
     ws[at + VALUE] = value;
@@ -187,40 +211,40 @@ pub fn write_slot(ws: &mut [u32], k: usize, s: &[u32], o: Origin, value: u32)
 }
 
 // Writes a slot with the hash of its run; it is in no index.
-pub fn hold_slot(ws: &mut [u32], k: usize, s: &[u32])
-    requires { (SLOT * k + SLOT ≤ length ws.old) × (length s.now ≤ 31) }
-    ensures { HoldsRun ws.old ws.new k s.now }
+pub fn hold_slot(ws: &mut [u32], k: usize, run: SlotRun<'_>)
+    requires { SLOT * k + SLOT ≤ length ws.old }
+    ensures { HoldsRun ws.old ws.new k run.entry.numbers.now }
 {
-    write_slot(ws, k, s, Origin::Start, 0);
-    ws[SLOT * k + HASH] = index::hash(s);
+    write_slot(ws, k, run, Origin::Start, 0);
+    ws[SLOT * k + HASH] = index::hash(run.numbers);
 }
 
 // Notes a run in slot `k`: the slot leads to the newest older one in its bucket, and is the head of the bucket from now on.
-pub fn note_slot(ws: &mut [u32], k: usize, s: &[u32], o: Origin, value: u32)
-    requires { (SLOT * k + SLOT ≤ length ws.old) × (length s.now ≤ 31) × (k < 65535) }
-    ensures { Enters ws.old ws.new k s.now o value }
+pub fn note_slot(ws: &mut [u32], k: usize, run: SlotRun<'_>, o: Origin, value: u32)
+    requires { (SLOT * k + SLOT ≤ length ws.old) × (k < 65535) }
+    ensures { Enters ws.old ws.new k run.entry.numbers.now o value }
 {
-    let h = index::hash(s);
+    let h = index::hash(run.numbers);
     let b = index::bucket_at(h, index::slots_of(ws.len()));
     let older = newest(ws, k as u32, b);
-    write_slot(ws, k, s, o, value);
+    write_slot(ws, k, run, o, value);
     ws[SLOT * k + HASH] = h;
     ws[SLOT * k + NEXT] = older;
     ws[SLOT * b + HEAD] = k as u32;
 }
 
 // Notes the term that the search starts with.
-pub fn note_start(ws: &mut [u32], s: &[u32])
-    requires { (SLOT ≤ length ws.old) × (length s.now ≤ 31) }
-    ensures { Starts ws.new s.now }
+pub fn note_start(ws: &mut [u32], run: SlotRun<'_>)
+    requires { SLOT ≤ length ws.old }
+    ensures { Starts ws.new run.entry.numbers.now }
 {
-    note_slot(ws, 0, s, Origin::Start, 0);
+    note_slot(ws, 0, run, Origin::Start, 0);
 }
 
 // Notes the result of a step in the slot with number `count`.
-pub fn note(ws: &mut [u32], count: usize, s: &[u32], step: Step, distance: u32)
-    requires { (SLOT * count + SLOT ≤ length ws.old) × (length s.now ≤ 31) × (count < 65535) }
-    ensures { Notes ws.old ws.new count s.now step distance }
+pub fn note(ws: &mut [u32], count: usize, run: SlotRun<'_>, step: Step, distance: u32)
+    requires { (SLOT * count + SLOT ≤ length ws.old) × (count < 65535) }
+    ensures { Notes ws.old ws.new count run.entry.numbers.now step distance }
 {
-    note_slot(ws, count, s, Origin::From(step), distance);
+    note_slot(ws, count, run, Origin::From(step), distance);
 }

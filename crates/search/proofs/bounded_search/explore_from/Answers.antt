@@ -2,14 +2,12 @@
 use Rattle.std.proofs.Common.{rules}
 use Rattle.search.proofs.Answering.{begins_none, begins_long, begins_small, begins_large}
 use Rattle.search.proofs.bounded_search.explore_from.Goals as goal
-use Rattle.search.proofs.bounded_search.explore_from.Goals.{then-slots-eq0-via-then-slots-eq0, then-slots-eq0-via-else-slots-eq0+then-left-gt-LARGEST}
 
 pub returns-then-slots-eq0 : goal.returns-then-slots-eq0
-returns-then-slots-eq0 c =
-    elim c.then-slots-eq0.branch [
-      | then-slots-eq0-via-then-slots-eq0 w ↦ begins_none c.slots_of-slots.ensures w.if-slots-eq0.true
-      | then-slots-eq0-via-else-slots-eq0+then-left-gt-LARGEST w ↦ begins_long w.if-left-gt-LARGEST.true
-    ]
+returns-then-slots-eq0 c = search (begins_none, rules)
+
+pub returns-in_default : goal.returns-in_default
+returns-in_default c = begins_long c.in_default.ensures
 
 pub returns-then-limits-le-SMALL : goal.returns-then-limits-le-SMALL
 returns-then-limits-le-SMALL c = search (begins_small, rules)

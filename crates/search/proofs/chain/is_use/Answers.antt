@@ -15,7 +15,7 @@ returns-then-both-other c =
     elim c.then-both-other.branch [
       | then-both-other-via-then-both-other w ↦ search (use_short, rules)
       | then-both-other-via-else-both-other+then-ne w ↦
-          use_before a.law a.direction a.both.now a.middle a.at c.requires.1 (omega arith) _ (equals refl) (not-true _ (sym w.ne.ensures ∙ w.if-ne.true))
+          use_before a.law a.direction a.pair.both.now a.pair.middle a.at a.pair.within (omega arith) _ (equals refl) (not-true _ (sym w.ne.ensures ∙ w.if-ne.true))
     ]
 
 pub returns-then-eq : goal.returns-then-eq
@@ -23,7 +23,7 @@ returns-then-eq c =
     let a = c.args in
     elim c.if-end-middle.branch [
       | then-end-middle w ↦
-          use_fits a.law a.direction a.both.now a.middle a.at c.requires.1 (omega arith) _ (equals refl) _ c.end_of-end.ensures (omega arith) _
+          use_fits a.law a.direction a.pair.both.now a.pair.middle a.at a.pair.within (omega arith) _ (equals refl) _ c.end_of-end.ensures (omega arith) _
           c.end_of-rest.ensures _ (equals w.eq.ensures) _ (not-false _ (sym c.ne.ensures ∙ c.if-ne.false)) (sym w.value-is ∙ c.if-eq.true) c.fits_both.ensures
       | else-end-middle w ↦ let e : true ≡ false = sym c.if-eq.true ∙ w.value-is ∙ lt-leb _ _ w.if-end-middle.false in cc
     ]
@@ -33,8 +33,8 @@ returns-else-eq c =
     let a = c.args in
     elim c.if-end-middle.branch [
       | then-end-middle w ↦ rw c.if-eq.false (
-          use_after a.law a.direction a.both.now a.middle a.at c.requires.1 (omega arith) _ (equals refl) _ c.end_of-end.ensures (omega arith) _
+          use_after a.law a.direction a.pair.both.now a.pair.middle a.at a.pair.within (omega arith) _ (equals refl) _ c.end_of-end.ensures (omega arith) _
           c.end_of-rest.ensures _ (equals w.eq.ensures) (sym w.value-is ∙ c.if-eq.false))
       | else-end-middle w ↦ rw c.if-eq.false (
-          use_long a.law a.direction a.both.now a.middle a.at c.requires.1 (omega arith) _ (equals refl) _ c.end_of-end.ensures w.if-end-middle.false)
+          use_long a.law a.direction a.pair.both.now a.pair.middle a.at a.pair.within (omega arith) _ (equals refl) _ c.end_of-end.ensures w.if-end-middle.false)
     ]

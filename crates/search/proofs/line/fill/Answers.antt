@@ -7,20 +7,17 @@ use borrow.Author.Rules.{rules}
 use Rattle.search.proofs.line.fill.Goals.{then-x-lt-LETTERS+else-out-m, else-x-lt-LETTERS+else-out-m-2}
 use Rattle.search.proofs.line.fill.Goals as goal
 
-pub overflow_sub-out : goal.overflow_sub-out
-overflow_sub-out c = c.loop-x.invariant.1
-
 pub returns-then-out-m : goal.returns-then-out-m
 returns-then-out-m c = search (letter_long, old_within, rules)
 
 pub overflow_add-span : goal.overflow_add-span
-overflow_add-span c = omega (arith, old_within _ c.span_of-span.ensures c.requires.1)
+overflow_add-span c = omega (arith, old_within _ c.of-span.ensures c.requires.1)
 
 pub offset_bounds-s-span : goal.offset_bounds-s-span
-offset_bounds-s-span c = omega (arith, old_within _ c.span_of-span.ensures c.requires.1)
+offset_bounds-s-span c = omega (arith, old_within _ c.of-span.ensures c.requires.1)
 
 pub slice_bounds-append-end : goal.slice_bounds-append-end
-slice_bounds-append-end c = omega (arith, old_within _ c.span_of-span.ensures c.requires.1)
+slice_bounds-append-end c = omega (arith, old_within _ c.of-span.ensures c.requires.1)
 
 pub returns-then-out-m-2 : goal.returns-then-out-m-2
 returns-then-out-m-2 c = search (number_long, rules)

@@ -7,9 +7,6 @@ use Rattle.search.proofs.search.bind.Goals as goal
 pub loop-x-init : goal.loop-x-init
 loop-x-init c = search (matching_starts, rules)
 
-pub may_meet-requires : goal.may_meet-requires
-may_meet-requires c = search (end_within, rules)
-
 pub returns-then-not-may_meet : goal.returns-then-not-may_meet
 returns-then-not-may_meet c = search (letter_unbound, rules)
 
@@ -23,7 +20,7 @@ pub loop-x-preserved : goal.loop-x-preserved
 loop-x-preserved c = elim c.if-x-lt-LETTERS.branch [
   | then-x-lt-LETTERS+else-not-may_meet w ↦ rw (w.i-is, w.bound-is) (
     search (end_within, rules),
-    bound_within _ _ _ _ _ _ _ w.may_meet.ensures w.if-not-may_meet.false w.with_span-bound.ensures,
+    bound_within _ _ _ _ _ _ _ w.may_meet.ensures w.if-not-may_meet.false w.with-bound.ensures,
     search (letter_bound, rules),
   )
   | else-x-lt-LETTERS+then-i-s+then-s-i w ↦ rw (w.i-is, w.bound-is) (search rules, search rules, search (node_matched, rules))

@@ -3,4 +3,4 @@ use Rattle.search.proofs.Directing.{Passing}
 use Rattle.search.proofs.search.first_law.Given as goal
 
 abbrev pub invariant-loop-law : goal.invariant-loop-law
-invariant-loop-law l = Passing l.both l.middle l.law-index
+invariant-loop-law l = Passing l.pair.both.now l.pair.middle l.law-index

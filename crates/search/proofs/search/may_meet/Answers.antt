@@ -7,13 +7,13 @@ use borrow.Author.Rules.{rules}
 use Rattle.search.proofs.search.may_meet.Goals as goal
 
 pub overflow_add-old : goal.overflow_add-old
-overflow_add-old c = omega (arith, old_within _ c.span_of-old.ensures c.requires.3)
+overflow_add-old c = omega (arith, old_within _ c.of-old.ensures c.requires.3)
 
 pub offset_bounds-s-old : goal.offset_bounds-s-old
-offset_bounds-s-old c = omega (arith, old_within _ c.span_of-old.ensures c.requires.3)
+offset_bounds-s-old c = omega (arith, old_within _ c.of-old.ensures c.requires.3)
 
 pub slice_bounds-eq-end : goal.slice_bounds-eq-end
-slice_bounds-eq-end c = omega (arith, old_within _ c.span_of-old.ensures c.requires.3)
+slice_bounds-eq-end c = omega (arith, old_within _ c.of-old.ensures c.requires.3)
 
 pub returns-then-old-eq0 : goal.returns-then-old-eq0
 returns-then-old-eq0 c = search (meets_new, rules)
@@ -21,4 +21,4 @@ returns-then-old-eq0 c = search (meets_new, rules)
 pub returns-else-old-eq0 : goal.returns-else-old-eq0
 returns-else-old-eq0 c =
     let h = c.requires in
-    meets_old _ _ _ _ _ h.0 h.1 h.2 h.3 _ c.span_of-old.ensures _ c.if-old-eq0.false (equals c.eq.ensures)
+    meets_old _ _ _ _ _ h.0 h.1 h.2 h.3 _ c.of-old.ensures _ c.if-old-eq0.false (equals c.eq.ensures)

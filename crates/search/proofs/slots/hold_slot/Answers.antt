@@ -3,4 +3,4 @@ use Rattle.search.proofs.Holding.{holds_run}
 use Rattle.search.proofs.slots.hold_slot.Goals as goal
 
 pub returns : goal.returns
-returns c = rw c.hash.ensures (holds_run c.requires.0 c.write_slot.ensures)
+returns c = rw c.hash.ensures (holds_run c.requires c.write_slot.ensures)

@@ -8,4 +8,4 @@ pub returns : goal.returns
 returns c =
     let a = c.args in
     let e : c.copy_from_slice.new.self ≡ numbers a.o = c.copy_from_slice.ensures.after ∙ c.numbers.ensures in
-    rw (e, c.copy_from_slice-2.ensures.after) (writes a.ws.now _ _ a.k a.s.now a.o a.value c.requires.0 c.requires.1 refl refl)
+    rw (e, c.copy_from_slice-2.ensures.after) (writes a.ws.now _ _ a.k a.run.numbers.now a.o a.value c.requires a.run.fits refl refl)

@@ -13,9 +13,8 @@ loop-k-init g c =
       omega (arith, c.if-noted-i.false),
       o.invariant.1,
       refl,
-      refl,
       search rules,
-      opened o.invariant.5 (omega (arith, c.if-noted-i.false)) c.value_of-distance.ensures (omega (arith, c.if-self-i.false)) (omega (arith, c.if-self-distance.false)) (omega (arith, o.results.few)) refl refl c.open.ensures,
+      opened o.invariant.4 (omega (arith, c.if-noted-i.false)) c.value_of-distance.ensures (omega (arith, c.if-self-i.false)) (omega (arith, c.if-self-distance.false)) (omega (arith, o.results.few)) refl refl c.open.ensures,
     )
 
 pub loop-k-preserved : goal.loop-k-preserved
@@ -25,42 +24,41 @@ loop-k-preserved g c =
     let t = c.take.ensures in (
       omega (arith, v.0),
       omega (arith, (rw c.in-Some.is at t).room),
-      c.take.auto.ws ∙ v.2,
-      v.3,
-      progress_noted v.0 c.loop-k-test.true t v.4 c.in-Some.is (omega (arith, c.if-missing-struck.false)),
-      v.5,
+      v.2,
+      progress_noted v.0 c.loop-k-test.true t v.3 c.in-Some.is (omega (arith, c.if-missing-struck.false)),
+      v.4,
     )
 
 pub outer-preserved : goal.outer-preserved
 outer-preserved g c =
     let v = c.loop-k.invariant in
     let o = c.outer.invariant in
-    (omega (arith, v.0), v.1, v.2 ∙ o.2, v.3 ∙ o.3, refl, all_taken v.4 v.5 (omega (arith, c.loop-k-test.false)))
+    (omega (arith, v.0), v.1, v.2 ∙ o.2, refl, all_taken v.3 v.4 (omega (arith, c.loop-k-test.false)))
 
 pub returns-after-outer : goal.returns-after-outer
-returns-after-outer g c = let o = c.outer in rw (o.invariant.3, o.invariant.4) (ends o.invariant.5 (omega (arith, o.invariant.1, c.outer-test.false)))
+returns-after-outer g c = let o = c.outer in rw (o.invariant.2, o.invariant.3) (ends o.invariant.4 (omega (arith, o.invariant.1, c.outer-test.false)))
 
 pub returns-then-noted-i : goal.returns-then-noted-i
 returns-then-noted-i g c =
     let o = c.outer in
-    rw (o.invariant.3, o.invariant.4) (
+    rw (o.invariant.2, o.invariant.3) (
     elim c.then-noted-i.branch [
-      | then-noted-i-via-then-noted-i w ↦ ends o.invariant.5 w.if-noted-i.true
-      | then-noted-i-via-else-noted-i+then-self-i w ↦ ends_limit o.invariant.5 w.if-self-i.true
+      | then-noted-i-via-then-noted-i w ↦ ends o.invariant.4 w.if-noted-i.true
+      | then-noted-i-via-else-noted-i+then-self-i w ↦ ends_limit o.invariant.4 w.if-self-i.true
     ]
     )
 
 pub returns-then-self-distance : goal.returns-then-self-distance
 returns-then-self-distance g c =
     let o = c.outer in
-    rw (o.invariant.3, o.invariant.4) (ends_far o.invariant.5 (omega (arith, c.if-noted-i.false)) c.value_of-distance.ensures c.if-self-distance.true)
+    rw (o.invariant.2, o.invariant.3) (ends_far o.invariant.4 (omega (arith, c.if-noted-i.false)) c.value_of-distance.ensures c.if-self-distance.true)
 
 pub returns-then-missing-struck : goal.returns-then-missing-struck
 returns-then-missing-struck g c =
     let v = c.loop-k.invariant in
-    ends_all v.0 c.loop-k-test.true c.take.ensures v.4 v.5 c.in-Some.is c.if-missing-struck.true
+    ends_all v.0 c.loop-k-test.true c.take.ensures v.3 v.4 c.in-Some.is c.if-missing-struck.true
 
 pub returns-in_default : goal.returns-in_default
 returns-in_default g c =
     let v = c.loop-k.invariant in
-    ends_full v.0 c.loop-k-test.true c.take.ensures v.4 v.5 c.in_default.is
+    ends_full v.0 c.loop-k-test.true c.take.ensures v.3 v.4 c.in_default.is

@@ -10,12 +10,12 @@ returns-then-contains g c = search (keeps_known, rules)
 pub returns-in_default : goal.returns-in_default
 returns-in_default g c =
     let a = c.args in
-    keeps_already a.noted.slots.now a.noted.count a.s.now a.step a.self.now.slots a.self.now.order a.self.now.count c.contains.result c.contains.ensures
+    keeps_already a.noted.slots.now a.noted.count a.run.numbers.now a.step a.self.now.slots a.self.now.order a.self.now.count c.contains.result c.contains.ensures
     c.if-contains.false c.spot_of.result c.spot_of.ensures c.in_default.is
 
 pub returns : goal.returns
 returns g c =
     let a = c.args in
-    keeps_more a.noted.slots.now a.noted.count a.s.now a.step a.self.now.slots a.self.now.order a.self.now.count c.contains.result c.contains.ensures
+    keeps_more a.noted.slots.now a.noted.count a.run.numbers.now a.step a.self.now.slots a.self.now.order a.self.now.count c.contains.result c.contains.ensures
     c.if-contains.false c.spot_of.result c.spot_of.ensures c.in-Some.place c.in-Some.is (omega arith) c.write_slot.new.ws c.shift.new.s
     c.write_slot.ensures c.shift.ensures c.shift.auto.s

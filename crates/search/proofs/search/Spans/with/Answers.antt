@@ -1,8 +1,8 @@
--- `with_span` meets its contract.
+-- `with` meets its contract.
 use Rattle.search.specs.Span.{with_span}
 use Rattle.search.proofs.Spans.{first_if, second_if}
 use borrow.Author.Rules.{rules}
-use Rattle.search.proofs.search.with_span.Goals as goal
+use Rattle.search.proofs.search.Spans.with.Goals as goal
 
 pub returns-in-0 : goal.returns-in-0
 unfolding with_span

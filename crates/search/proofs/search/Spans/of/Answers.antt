@@ -1,8 +1,8 @@
--- `span_of` meets its contract.
+-- `of` meets its contract.
 use Rattle.search.specs.Span.{span_of}
 use Rattle.search.proofs.Spans.{first_if, second_if}
 use borrow.Author.Rules.{rules}
-use Rattle.search.proofs.search.span_of.Goals as goal
+use Rattle.search.proofs.search.Spans.of.Goals as goal
 
 pub returns-in-0 : goal.returns-in-0
 unfolding span_of
