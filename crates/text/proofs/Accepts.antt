@@ -8,7 +8,7 @@ use mathlib.Core.Path.{◌≡◌, refl, sym, ap, subst, ◌∙◌}
 use lib.Dec.{T, leb}
 use lib.ListN.{length}
 use borrow.Author.Tests.{le-leb, lt-leb}
-use Rattle.terms.specs.Compare.{order_numbers}
+use Rattle.words.proofs.Canonical.{run_carries}
 use Rattle.terms.specs.Equation.{Equation, orient}
 use Rattle.terms.specs.Term.{Term, size, order, same}
 use Rattle.terms.specs.Letters.{letters}
@@ -19,8 +19,7 @@ use Rattle.std.specs.declared.cmp.Ordering as answered
 use Rattle.std.specs.declared.cmp.Ordering.TheVariants.{Less, Equal, Greater}
 use Rattle.std.specs.Ordering.{is_ge}
 use Rattle.terms.specs.Theory.Order.{below?}
-use Rattle.terms.specs.Theory.Run.{run_order}
-use Rattle.terms.specs.Theory.Held.{fine_letters, size_of}
+use Rattle.terms.specs.Theory.Held.{size_of}
 use Rattle.terms.specs.Theory.Equation.{orient_either}
 use Rattle.words.specs.Candidate.{Room, Keeps}
 use Rattle.words.specs.Decoded.{both}
@@ -68,9 +67,6 @@ capped_small m e =
     }
 
 -- the sides as runs
-
-run_carries : (s t : Term) → Fine s → Fine t → order_numbers (run s) (run t) ≡ order s t
-run_carries s t f g = run_order s t (fine_letters s f) (fine_letters t g)
 
 module _ {xs ys : List ℕ} {e : Equation (List ℕ)} (h : Keeps xs ys 31 e) {s t : Term} (u : IsRun xs s) (v : IsRun ys t) where
   kept_runs : Room 31 xs ys 31 → (IsRun e.left (orient order s t).left) × (IsRun e.right (orient order s t).right)
@@ -273,3 +269,6 @@ module _ (m : limits.Limits) {xs rights : List ℕ} {n : ℕ} {f : Bool} (letter
                   is = e ∙ capped_small y in-limits;
                 }
             go s (t ∷ t' ∷ ts) y u v c a b e = absurd (omega (arith, c, one))
+
+-- what accepting the sides gives, in the order of the tests, up to the one right side that is accepted alone
+pub ruleset sides_accepted = (letters_found, refuse_letters, refuse_limits, differ_found, refuse_same, accept_one)

@@ -1,7 +1,7 @@
 -- What the functions that put a block go by: letters, paths, and the line of a direct match.
 use Prim.Native.Nat.{ℕ, ◌≤◌}
 use native.Mathlib.Omega.{arith}
-use mathlib.Core.Path.{◌≡◌, refl, ap, subst}
+use mathlib.Core.Path.{◌≡◌, refl, sym, ap, subst, ◌∙◌}
 use mathlib.Core.List.{List, [], ◌∷◌, ◌++◌}
 use lib.ListN.{length, take}
 use Rattle.terms.specs.Term.{Term, letter, zero, one, add, mul}
@@ -10,13 +10,14 @@ use Rattle.terms.specs.Letters.{letters, rising}
 use Rattle.terms.specs.Promises.{Fills, Lists}
 use Rattle.std.specs.Prelude.{Option}
 use Rattle.std.specs.Prelude.{Some, None}
+use Rattle.std.proofs.lemmas.Option.{same_Some, none-some}
 use Rattle.terms.proofs.Gathered.{fills_front}
 use Rattle.terms.proofs.Held.{size_pos}
 use Rattle.search.specs.Line.{Line}
 use Rattle.search.specs.Search.{Noted, entry, whole_line}
 use Rattle.search.specs.Coded.{name_of}
 use Rattle.search.specs.Place.{place_at}
-use Rattle.search.specs.Slots.{Starts, Notes}
+use Rattle.search.specs.Slots.{noted_at, Starts, Notes}
 use Rattle.search.specs.Traced.{Traced, Traces}
 use Rattle.search.specs.declared.search.Law.{Law}
 use Rattle.search.specs.declared.search.Direction.TheVariants.{Forward}
@@ -29,28 +30,34 @@ module _ {left right names names' : List ℕ} {l : Option ℕ} {j : Job} (S : Si
   filled : Fills (rising (letters j.left ++ letters j.right)) names l names'
   filled = L.terms j.left j.right S.left_run S.right_run
 
-  pub letters_fit : length names ≡ 6 → l ≡ None → ⊥
-  letters_fit six e =
-      let f : Fills (rising (letters j.left ++ letters j.right)) names None names' = rw e at filled in
-      omega (arith, f.0, S.known.sides.few)
-
   pub letters_listed : {n : ℕ} → l ≡ Some n → take n names' ≡ rising (letters j.left ++ letters j.right)
   letters_listed {n} e =
       let f : Fills (rising (letters j.left ++ letters j.right)) names (Some n) names' = rw e at filled in
       fills_front (rising (letters j.left ++ letters j.right)) names names' f
 
 -- a path of at most 16 lines, read back from the slots
-pub path_walk : {ws path : List ℕ} {last n : ℕ} {s : Term} {xs : List Line} → Traces ws last path n → length path ≡ 16 → Led ws s last xs
-    → length xs ≤ 16 → Walk ws (take n path) s xs
-path_walk {ws} {path} {last} {n} T size led short =
-    record {
-      noted = led.noted;
-      slots = led.slots;
-      start = led.start;
-      lines =
-          subst (λ ys. Traced ws led.noted 0 (take n path) ys) led.trail
-          (T.exact led.noted led.slots led.within (omega (arith, ap length led.trail))).1;
-    }
+module _ {ws path : List ℕ} {last : ℕ} {r : Option ℕ} {s : Term} {xs : List Line} (T : Traces ws last path r) (size : length path ≡ 16) (led : Led ws s last xs)
+    (short : length xs ≤ 16) where
+  abbrev trail : List Line
+  trail = (noted_at led.noted last).trail
+
+  read : (r ≡ Some (length trail)) × Traced ws led.noted 0 (take (length trail) path) trail
+  read = T.exact led.noted led.slots led.within (omega (arith, ap length led.trail))
+
+  pub path_there : r ≡ None → ⊥
+  path_there e = none-some (length trail) (sym e ∙ read.0)
+
+  pub path_walk : {n : ℕ} → r ≡ Some n → Walk ws (take n path) s xs
+  path_walk {n} e =
+      let all : length trail ≡ n = same_Some (length trail) n (sym read.0 ∙ e) in
+      record {
+        noted = led.noted;
+        slots = led.slots;
+        start = led.start;
+        lines =
+            subst (λ ys. Traced ws led.noted 0 (take n path) ys) led.trail
+            (subst (λ m. Traced ws led.noted 0 (take m path) trail) all read.1);
+      }
 
 -- number 0 is the root
 root : (t : Term) → [] ≡ place_at t 0

@@ -6,10 +6,10 @@ use mathlib.Core.Option.{Option, none, some}
 use mathlib.Core.List.{List, [], ◌∷◌, ◌++◌, foldl, flat_map, append_assoc, append-nil}
 use lib.ListN.{length, take, drop, get_or}
 use lib.Seq.{take_at, take-take, drop_at, length-take-le}
+use Rattle.std.proofs.lemmas.List.{drop-take}
 use Rattle.terms.specs.Term.{Term, size}
 use Rattle.terms.specs.Held.{Holds}
 use Rattle.terms.specs.Promises.{Ends}
-use Rattle.terms.proofs.Positions.{drop_take}
 use Rattle.terms.proofs.Held.{size_pos, held_part, holds_part, front_holds}
 use Rattle.search.specs.Law.{semiring}
 use Rattle.search.specs.Match.{Bindings}
@@ -193,9 +193,6 @@ module _ {w : Law} {xs : List ℕ} {m : ℕ} {r : Binding} (names : List ℕ) (B
 -- ---- a term behind others in a buffer
 
 module _ (xs out : List ℕ) (n : ℕ) (h : n ≤ length out) (end : ℕ) (e : Ends xs 0 end) where
-  pub copies_none : length out - n < end → Copies xs 0 out n n out
-  copies_none p = record { within = h; kept = refl; exact = λ t k q. absurd (omega (arith, e.exact t k)) }
-
   pub copies_all : (r : ℕ) (out' : List ℕ) → end ≤ length out - n → r ≡ n + length (take end xs) → take r out' ≡ take n out ++ take end xs → Copies xs 0 out n r out'
   copies_all r out' q f g =
       let count : length (take end xs) ≡ end = length-take-le end xs (e.within (omega arith)) in
@@ -208,7 +205,7 @@ module _ (xs out : List ℕ) (n : ℕ) (h : n ≤ length out) (end : ℕ) (e : E
             let run_is = (held_part end k s).whole in (
               j,
               holds_part k.fine
-                  (sym (drop_take n (size t) out')
+                  (sym (drop-take n (size t) out')
                   ∙ ap (drop n) (ap (λ i. take i out') (sym j) ∙ g)
                   ∙ drop_at (take n out) (take end xs) n (length-take-le n out h)
                   ∙ run_is),

@@ -6,7 +6,6 @@ use mathlib.Core.Path.{◌≡◌, refl, sym, ap, subst, ◌∙◌}
 use mathlib.Core.Bool.{Bool, true, false}
 use mathlib.Core.List.{List, [], ◌∷◌, flat_map}
 use lib.ListN.{length, take, get_or, length-map, get_or-map}
-use lib.Seq.{take_all}
 use Rattle.terms.specs.Lists.{in_map}
 use Rattle.terms.specs.Term.{Term, zero}
 use Rattle.terms.specs.Held.{IsRun}
@@ -47,7 +46,7 @@ use Rattle.text.specs.declared.writer.Writer.{Writer}
 use Rattle.text.specs.Answering.{Sides, Led, one_search, Known, Met, Unmet, AllKnown, runs_out}
 use Rattle.text.specs.Theory.BlockServed as theory
 use Rattle.text.specs.Theory.BlockServed.{block_served}
-use Rattle.text.proofs.Writing.{put_as, put_none, put_each_more}
+use Rattle.text.proofs.Writing.{put_none, put_each_more}
 use Rattle.text.proofs.Starting.{first_noted}
 
 -- a block is the answer to its job alone, printed
@@ -252,9 +251,3 @@ module _ (left rights : List ℕ) (replies : List Reply) (ended : Ended) (cut : 
       put_each_more (block slots) (job_of s m zero) (jobs_of s ts m) i (omega (arith, count A)) (P s ts m slots A)
       (subst (λ j. Writes (block slots j) o₁ o₂) (sym (get_or-map (job_of s m) ts i zero))
       (Q (job_of s m (term_at ts i)) slots (known_at A i h (R.exact (term_at ts i) (A.runs.spelled i (omega (arith, A.count)))))))
-
-  pub blocks_all : {o o₁ : Writer} (i : ℕ) → length replies ≤ i → PutsBlocks left rights replies ended cut ws i o o₁
-      → (s : Term) (ts : List Term) (m : line.Limits) (slots : ℕ) → AllKnown left rights replies ended cut ws slots s ts m
-      → Writes (flat_map (block slots) (jobs_of s ts m)) o o₁
-  blocks_all i h P s ts m slots A =
-      put_as (ap (flat_map (block slots)) (take_all i (jobs_of s ts m) (omega (arith, count A)))) (P s ts m slots A)

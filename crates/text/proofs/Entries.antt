@@ -5,7 +5,7 @@ use mathlib.Core.Path.{◌≡◌, refl, ap}
 use mathlib.Core.List.{List, [], ◌∷◌, ◌++◌}
 use lib.ListN.{length, drop, length-append}
 use Rattle.std.specs.Prelude.{Result, Ok, Err, IfOk}
-use Rattle.std.specs.Borrow.{Bor, MutBor}
+use Rattle.std.specs.Borrow.{MutBor}
 use Rattle.terms.specs.Lists.{◌∈◌}
 use Rattle.terms.specs.Term.{Term, size}
 use Rattle.terms.specs.Letters.{letters, rising}
@@ -15,6 +15,7 @@ use Rattle.words.specs.Rename.{canonical_terms}
 use Rattle.search.specs.Line as line
 use Rattle.search.specs.Runs.{HeldRuns, Shows}
 use Rattle.search.specs.Searched.{limits_of, slots_of}
+use Rattle.text.specs.declared.answer.Sides.{Sides}
 use Rattle.text.specs.declared.refusal.Refusal.{Refusal}
 use Rattle.text.specs.Refusal.{number_of, number_returned}
 use Rattle.text.specs.Answer.{Answer, ◌>>=◌, refused, accepted, fitting}
@@ -24,7 +25,7 @@ use Rattle.text.specs.Accepting.{Takes, TakesOne}
 use Rattle.text.specs.Find.{together, find}
 use Rattle.text.specs.Words.{words_text, words_entry}
 use Rattle.text.specs.Rename.{term_lines, renamed_words, rename_entry}
-use Rattle.text.specs.Entry.{returned, Call, Gives, AnswersJob, before_search, FindCall, FindGives}
+use Rattle.text.specs.Entry.{returned, Call, Gives, AnswersJob, before_search, FindGives}
 use Rattle.text.specs.Theory.JobText.{job_accepted}
 use Rattle.text.specs.Theory.Entry.{among, Numbered, searched_numbered, each_in}
 use Rattle.text.specs.declared.job.accept.Read.{Read}
@@ -45,43 +46,43 @@ gives_fitting answer out (Ok n) out' (t, e, k, f) h = omega (arith, h, k, ap len
 gives_fitting answer out (Err e) out' g h = tt
 
 -- a refused job is refused by its number, whatever was asked for; an accepted one is answered from the runs of its sides, right's in slot 0
-module _ {Post : (left right : Bor (List ℕ)) → MutBor (List ℕ) → Result ℕ Refusal → MutBor (List ℕ) → Type 0} (job : List ℕ) where
+module _ {Post : Sides → MutBor (List ℕ) → Result ℕ Refusal → MutBor (List ℕ) → Type 0} (job : List ℕ) where
   pub job_refused : (out : List ℕ) {e : Refusal} → read_job job ≡ refused (number_of e) → AnswersJob Post job out (Err e) out
   unfolding ◌>>=◌
   job_refused out h = record { exact = λ answer gives. rw h (refl, refl) }
 
-  pub job_answered : {rights : List ℕ} {j : Read} → TakesOne (read_job job) j rights → (left right : Bor (List ℕ)) → left.now ≡ j.left → Shows rights 0 right.now
-      → (o o' : MutBor (List ℕ)) (r : Result ℕ Refusal) → Post left right o r o' → AnswersJob Post job o.now r o'.now
+  pub job_answered : {rights : List ℕ} {j : Read} → TakesOne (read_job job) j rights → (sides : Sides) → sides.left.now ≡ j.left → Shows rights 0 sides.right.now
+      → (o o' : MutBor (List ℕ)) (r : Result ℕ Refusal) → Post sides o r o' → AnswersJob Post job o.now r o'.now
   unfolding ◌>>=◌
-  job_answered h left right e shown o o' r post =
+  job_answered h sides e shown o o' r post =
       record {
         exact = λ answer gives.
             rw h.accepted
-            (gives h.job left right o o' r (accepted_job job h.job h.accepted) (rw e h.left_run) (shown.exact h.job.right h.right_run) refl post);
+            (gives h.job sides o o' r (accepted_job job h.job h.accepted) (rw e h.left_run) (shown.exact h.job.right h.right_run) refl post);
       }
 
-module _ {Post : (left right : Bor (List ℕ)) → MutBor (List ℕ) → Result ℕ Refusal → MutBor (List ℕ) → Type 0} (job out : List ℕ) (r : Result ℕ Refusal) {out' : List ℕ} (h : AnswersJob Post job out r out') where
+module _ {Post : Sides → MutBor (List ℕ) → Result ℕ Refusal → MutBor (List ℕ) → Type 0} (job out : List ℕ) (r : Result ℕ Refusal) {out' : List ℕ} (h : AnswersJob Post job out r out') where
   -- what is promised of the function that answers WORDS
   pub words_given :
-      ((left right : Bor (List ℕ)) (o o' : MutBor (List ℕ)) (q : Result ℕ Refusal) → Post left right o q o'
-      → (s t : Term) → IsRun left.now s → IsRun right.now t → size s ≤ 31 → size t ≤ 31 → Gives (fitting (length o.now) (words_text (words s) (words t))) o.now q o'.now)
+      ((sides : Sides) (o o' : MutBor (List ℕ)) (q : Result ℕ Refusal) → Post sides o q o'
+      → (s t : Term) → IsRun sides.left.now s → IsRun sides.right.now t → size s ≤ 31 → size t ≤ 31 → Gives (fitting (length o.now) (words_text (words s) (words t))) o.now q o'.now)
       → Gives (words_entry job (length out)) out r out'
   unfolding words_entry ◌>>=◌
   words_given answer =
       h.exact (λ j. fitting (length out) (words_text (words j.left) (words j.right)))
-      (λ j left right o o' q known u v l post. rw (← l) (answer left right o o' q post j.left j.right u v known.sides.small_left known.sides.small_right))
+      (λ j sides o o' q known u v l post. rw (← l) (answer sides o o' q post j.left j.right u v known.sides.small_left known.sides.small_right))
 
   -- and RENAME
   pub rename_given :
-      ((left right : Bor (List ℕ)) (o o' : MutBor (List ℕ)) (q : Result ℕ Refusal) → Post left right o q o'
-      → (s t : Term) → IsRun left.now s → IsRun right.now t → size s ≤ 31 → size t ≤ 31 → length (rising (letters s ++ letters t)) ≤ 6
+      ((sides : Sides) (o o' : MutBor (List ℕ)) (q : Result ℕ Refusal) → Post sides o q o'
+      → (s t : Term) → IsRun sides.left.now s → IsRun sides.right.now t → size s ≤ 31 → size t ≤ 31 → length (rising (letters s ++ letters t)) ≤ 6
       → Gives (fitting (length o.now) (term_lines (canonical_terms s t) ++ renamed_words (words s) (words t))) o.now q o'.now)
       → Gives (rename_entry job (length out)) out r out'
   unfolding rename_entry ◌>>=◌
   rename_given answer =
       h.exact (λ j. fitting (length out) (term_lines (canonical_terms j.left j.right) ++ renamed_words (words j.left) (words j.right)))
-      (λ j left right o o' q known u v l post.
-      rw (← l) (answer left right o o' q post j.left j.right u v known.sides.small_left known.sides.small_right known.sides.few))
+      (λ j sides o o' q known u v l post.
+      rw (← l) (answer sides o o' q post j.left j.right u v known.sides.small_left known.sides.small_right known.sides.few))
 
 pub find_refused : (bs out work : List ℕ) {e : Refusal} → read_find bs ≡ refused (number_of e) → FindGives bs out work (Err e) out work
 unfolding find ◌>>=◌
@@ -115,7 +116,3 @@ module _ (bs : List ℕ) {rights xs : List ℕ} {j : Read} (h : Takes (read_find
         gives = gives;
         workspace = λ i. absurd (find_late bs (slots_of (length work)) (length out) h.accepted (rw call.number at i));
       }
-
--- so is the entry's call
-pub find_called : (bs out work : List ℕ) (r : Result ℕ Refusal) {out' work' : List ℕ} → FindGives bs out work r out' work' → FindCall bs out work (number_returned r) out' work'
-find_called bs out work r h = record { call = call_of (find bs (slots_of (length work)) (length out)) out r h.gives; workspace = h.workspace }

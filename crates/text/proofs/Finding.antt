@@ -17,10 +17,8 @@ use Rattle.search.specs.Cut as search-cut
 use Rattle.search.specs.Runs.{term_at, HeldRuns}
 use Rattle.search.specs.Searched.{limits_of, slots_of, Answers, Searches, Cuts}
 use Rattle.search.specs.declared.replies.Reply.{Reply}
-use Rattle.search.specs.declared.replies.Reply.TheVariants.{Unnoted, Direct, Noted}
+use Rattle.search.specs.declared.replies.Reply.TheVariants.{Unnoted}
 use Rattle.search.specs.declared.bounded_search.Limits.{Limits}
-use Rattle.search.specs.declared.bounded_search.Stop.{Stop}
-use Rattle.search.specs.declared.bounded_search.Stop.TheVariants.{All, Over, Full}
 use Rattle.search.specs.declared.bounded_search.Ended.{Ended}
 use Rattle.text.specs.Answer.{refused, accepted, ◌>>=◌, fitting}
 use Rattle.text.specs.Job.{Accepted}
@@ -33,22 +31,6 @@ use Rattle.text.specs.declared.refusal.Refusal.TheVariants.{OutOfSlots}
 use Rattle.text.specs.Answering.{AllKnown, runs_out}
 use Rattle.text.specs.Theory.FindJobs.{AllAccepted, jobs_accepted}
 use Rattle.text.proofs.Blocks.{Alone, alone_first}
-
--- ---- whether a right side has no answer
-
--- by why the search stopped, for one that is not noted
-abbrev out_at : Stop → Bool
-out_at t = elim t [ All ↦ true | Over ↦ false | Full ↦ true ]
-
-module _ (ended : Ended) where
-  -- one that is noted, or matched directly, has one
-  pub out_noted : (r : Reply) → (r ≡ Unnoted → ⊥) → false ≡ runs_out r ended
-  out_noted Unnoted h = absurd (h refl)
-  out_noted (Direct w) h = refl
-  out_noted (Noted n) h = refl
-
-  pub out_unnoted : (r : Reply) {t : Stop} → r ≡ Unnoted → ended.stop ≡ t → out_at t ≡ runs_out r ended
-  out_unnoted r e f = ap out_at (sym f) ∙ ap (λ q. runs_out q ended) (sym e)
 
 -- ---- the jobs of an accepted text
 

@@ -5,15 +5,11 @@ use native.Mathlib.Nat.{add-zero, zero-add, sub-zero}
 use mathlib.Core.Option.{none, some}
 use Rattle.std.specs.Prelude.{Option as Answer, Some, None}
 use mathlib.Core.Path.{◌≡◌, refl, sym, ap, subst, ◌∙◌}
-use mathlib.Core.Bool.{Bool, true, false, cond}
 use mathlib.Core.List.{List, [], ◌∷◌, ◌++◌, append_assoc, append-nil}
-use lib.Dec.{ltb}
 use lib.ListN.{length, get_or, drop}
-use borrow.Author.Tests.{lt-ltb, le-ltb}
 use Rattle.terms.specs.Term.{Term, letter, zero, one, add, mul, size}
 use Rattle.terms.specs.Run.{ADD, run}
 use Rattle.terms.specs.Held.{Fine, Holds}
-use Rattle.terms.specs.Promises.{Ends}
 use Rattle.terms.proofs.Positions.{drop_head}
 use Rattle.terms.proofs.Held.{holds_add, holds_mul}
 use Rattle.search.specs.Law.{Law, Name}
@@ -32,7 +28,7 @@ use Rattle.text.specs.Writer.{Writes}
 use Rattle.text.specs.declared.writer.Writer.{Writer}
 use Rattle.text.specs.Framed.{frame, ends, opens, closes}
 use Rattle.text.proofs.Writing.{then, put_as}
-use Rattle.text.proofs.Rendered.{held_past, held_tail}
+use Rattle.text.proofs.Rendered.{held_tail}
 
 -- ---- atoms
 

@@ -224,3 +224,6 @@ module _ (bs : List ℕ) where
 
   pub job_read : (r : Result Read Refusal) (rights : List ℕ) → Answers (read_within 1024 1 1 bs) r rights → ReadsJob bs r rights
   job_read r rights h = of_one bs (read_job bs) refl r rights (subst (λ x. Answers x r rights) one_within h)
+
+-- what the job's text gives: it is too long, has no layout or too many right sides, or is read
+pub ruleset within_read = (too_long, malformed, many_rights, text_read)

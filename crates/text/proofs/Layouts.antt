@@ -156,3 +156,6 @@ module _ (s : List ℕ) where
       pub laid_out : {m : Limits} → 0 < n → limit_lines rest ≡ some m → layouts s ≡ some (record { left = left; rights = rights_in lines n; limits = m })
       laid_out {m} h k =
           rw (values_read lines n rest R) (layouts_read ∙ laid_some left rest R.values m (omega (arith, h, R.counted)) k)
+
+-- what the limit lines give: one of the four is malformed, more follows them, or they are read
+pub ruleset limits_read = (no_steps, no_size, no_depth, no_nodes, more_lines, limits_end)

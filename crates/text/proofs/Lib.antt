@@ -4,12 +4,14 @@ pub mod Marking
 pub mod Numbers
 pub mod Lines
 pub mod Reading
+pub mod Refusing
 pub mod Sides
 pub mod RightLines
 pub mod Layouts
 pub mod Rights
 pub mod Accepts
 pub mod Jobs
+pub mod Refused
 -- writing
 pub mod Overlay
 pub mod Writing

@@ -1,6 +1,5 @@
 -- Texts cut behind a key and at a byte, as the library's methods cut them.
-use Rattle.std.proofs.Common.{ℕ, suc, ◌+◌, ◌-◌, ◌<◌, ◌≤◌, Bool, true, false, cond, not, Some, None, List, [], ◌∷◌, ◌++◌, ◌≡◌, refl, ap, ◌∙◌, length, take, drop, arith, length-take, length-drop, add-one, one-add}
-use Rattle.std.proofs.lemmas.List.{take_all}
+use Rattle.std.proofs.Common.{ℕ, suc, ◌+◌, ◌<◌, ◌≤◌, Bool, true, false, cond, not, Some, None, List, [], ◌∷◌, ◌++◌, ◌≡◌, refl, ap, ◌∙◌, length, take, drop, arith, length-take, length-drop, add-one, one-add}
 use borrow.Author.Tests.{lt-ltb, ltb-true}
 use Rattle.std.specs.Option.{MatchOption}
 use Prim.Native.Nat.compare
@@ -72,10 +71,6 @@ module _ (b : ℕ) where
       go : (t : Bool) → ltb (first s) (length s) ≡ t → cond t (Some (first s)) None ≡ None → up_to b s ≡ none
       go true h k = cc
       go false h k = up_to_first s ∙ rw h
-
--- the rest of a list, as a range to its end
-pub to_end : (s : List ℕ) (i : ℕ) → take (length s - i) (drop i s) ≡ drop i s
-to_end s i = take_all (length s - i) (drop i s) (omega (arith, length-drop i s))
 
 -- the line with a key
 

@@ -78,3 +78,6 @@ mark_tells b =
 
 pub tells : (b : ℕ) (m : Mark) → mark b ≡ m → Tells b m
 tells b m e = subst (Tells b) e (mark_tells b)
+
+-- the mark of a byte that is no sign, by its value
+pub ruleset by_value = (other, inside, below, above)

@@ -1,12 +1,12 @@
 -- A text measured on an output of no bytes, and then written where it fits.
-use Prim.Native.Nat.{ℕ, ◌+◌, ◌≤◌, ◌<◌}
+use Prim.Native.Nat.{ℕ, ◌≤◌, ◌<◌}
 use mathlib.Core.Path.{◌≡◌, refl, sym, ap, subst, ◌∙◌}
 use mathlib.Core.List.{List, [], ◌++◌}
 use native.Mathlib.Nat.{zero-add}
 use native.Mathlib.Omega.{arith}
 use lib.ListN.{length, drop}
-use borrow.Author.Tests.{le-leb, lt-leb}
-use Rattle.text.specs.Answer.{◌>>=◌, require, refused, accepted, fitting}
+use Rattle.text.specs.Theory.RenameText.{fitting_room, fitting_short}
+use Rattle.text.specs.Answer.{refused, fitting}
 use Rattle.std.specs.Prelude.{Ok, Err}
 use Rattle.text.specs.Entry.{Call, Gives}
 use Rattle.text.specs.declared.refusal.Refusal.TheVariants.{ShortOutput}
@@ -16,15 +16,6 @@ use Rattle.text.proofs.Overlay.{overlay_empty, overlay_fits}
 -- a call that refuses by number
 pub refuses : (n : ℕ) (out : List ℕ) → Call (refused n) out n out
 refuses n out = record { number = refl; output = refl }
-
--- there is room for a text, or there is none
-fitting_room : (room : ℕ) (text : List ℕ) → length text ≤ room → fitting room text ≡ accepted text
-unfolding fitting ◌>>=◌ require
-fitting_room room text h = rw (le-leb (length text) room h)
-
-fitting_none : (room : ℕ) (text : List ℕ) → room < length text → fitting room text ≡ refused 8
-unfolding fitting ◌>>=◌ require
-fitting_none room text h = rw (lt-leb (length text) room h)
 
 module _ {text o : List ℕ} {n : ℕ} (out : List ℕ) (measured : Put text [] 0 n o) where
   -- the output's front of no bytes, in front of the rest, is the output
@@ -40,7 +31,7 @@ module _ {text o : List ℕ} {n : ℕ} (out : List ℕ) (measured : Put text [] 
   lacks : length out < n → Gives (fitting (length out) text) out (Err ShortOutput) out
   lacks h =
       let f : length out < length text = omega (arith, measured.next) in
-      (fitting_none (length out) text f, refl)
+      (fitting_short (length out) text f, refl)
 
   -- the same, where the output is still written as its front of no bytes and the rest
   pub fits_behind : {m : ℕ} {out' : List ℕ} → n ≤ length (o ++ out) → Put text (o ++ out) 0 m out' → Gives (fitting (length out) text) out (Ok n) out'

@@ -87,3 +87,6 @@ unfolding read_number
 several [] h f = absurd (omega (arith, h))
 several (b ∷ []) h f = absurd (omega (arith, h))
 several (b ∷ c ∷ bs) h f = rw (ne_eqb b 48 f, read_number)
+
+-- what a number's item gives: it is empty or malformed, has one digit, begins with a needless 0, or has several digits
+pub ruleset number_read = (empty, malformed, single, needless, several)

@@ -12,7 +12,7 @@ use Rattle.text.specs.Answer.{Answer, refused, field, printed}
 use Rattle.text.specs.Entry.{returned}
 use Rattle.text.specs.Claims.{CallClaims}
 use Rattle.text.specs.Put.{Put}
-use Rattle.text.specs.Prints.{Prints}
+use Rattle.text.specs.Prints.{Prints, PrintsReturned}
 use Rattle.text.proofs.Decimal.{number_small, number_more}
 use Rattle.text.proofs.Overlay.{overlay_fits}
 
@@ -38,7 +38,7 @@ refusal_short n h = omega (arith, length-append (number n) (10 ∷ []), short_nu
 
 module _ {ns : List ℕ} {a : Answer (List ℕ)} {out : List ℕ} {r : ℕ} {out' : List ℕ} (claims : CallClaims ns a out r out') where
   -- from 100 on the number is an answer's, whose text is printed as it stands
-  pub answer_prints : r ≡ returned a → 100 ≤ r → Prints (printed a) out' (r - 100)
+  answer_prints : r ≡ returned a → 100 ≤ r → Prints (printed a) out' (r - 100)
   unfolding printed
   answer_prints number h =
       let length_told : r ≡ 100 + length (take (r - 100) out') = number ∙ ap returned (claims.text h) in
@@ -48,7 +48,15 @@ module _ {ns : List ℕ} {a : Answer (List ℕ)} {out : List ℕ} {r : ℕ} {out
       }
 
   -- below 100 it is a refusal's
-  pub refusal_prints : r < 100 → 25 ≤ length out → {m : ℕ} {out'' : List ℕ} → Put (printed (refused r)) out' 0 m out'' → Prints (printed a) out'' m
+  refusal_prints : r < 100 → 25 ≤ length out → {m : ℕ} {out'' : List ℕ} → Put (printed (refused r)) out' 0 m out'' → Prints (printed a) out'' m
   refusal_prints h room {m} {out''} p =
       rw (claims.refusal.0 h)
       (put_in_front (printed (refused r)) out' out'' m p (omega (arith, refusal_short r h, ap length (claims.untouched h))))
+
+  -- so that what is printed by the number is what is due
+  pub call_prints : r ≡ returned a → 25 ≤ length out → {m : ℕ} {out'' : List ℕ} → PrintsReturned r out' m out'' → Prints (printed a) out'' m
+  call_prints number room p =
+      ⊎_elim
+      (λ small. refusal_prints small room (p.refusal small))
+      (λ large. let (length, same) = p.answer large in rw (length, same) (answer_prints number large))
+      (below? r 100)

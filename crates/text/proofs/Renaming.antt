@@ -1,11 +1,11 @@
 -- RENAME's lines, and that the renamed terms have small letters.
 use Prim.Native.Nat.{ℕ, ◌≤◌, ◌<◌}
-use mathlib.Core.Path.{◌≡◌, refl, ◌∙◌}
+use mathlib.Core.Path.{◌≡◌, refl, sym, ◌∙◌}
 use mathlib.Core.Bool.{Bool, true, false}
 use mathlib.Core.List.{List, [], ◌∷◌, ◌++◌}
 use native.Mathlib.Omega.{arith}
 use lib.Dec.{compare_is_eq}
-use lib.ListN.{length, take}
+use lib.ListN.{length}
 use Rattle.terms.specs.Lists.{◌∈◌, here, in_left, in_right}
 use Rattle.terms.specs.Equation.{Equation, orient}
 use Rattle.terms.specs.Term.{Term, letter, zero, one, add, mul, subst, order, size}
@@ -25,6 +25,7 @@ use Rattle.text.specs.TermText.{write_term}
 use Rattle.text.specs.Answer.{field}
 use Rattle.text.specs.Words.{word_list}
 use Rattle.text.specs.Rename.{term_lines, word_lines, renamed_words}
+use Rattle.std.specs.Prelude.{None}
 use Rattle.text.specs.Renamed.{Renamed}
 use Rattle.text.specs.Writer.{Writes}
 use Rattle.text.specs.declared.writer.Writer.{Writer}
@@ -75,16 +76,20 @@ canonical_runs c u v s t p q small-s small-t few =
 
 -- ---- the renamed lists
 
--- what is put of them
-pub canonical_lists : {xs ys : List ℕ} {e : Equation (List ℕ)} {us vs : List ℕ} {same : Bool}
-    → (same ≡ false → CanonicalWords xs ys 5508 e) → us ≡ e.left → vs ≡ e.right
-    → (s t : Term) → IsRun xs s → IsRun ys t → size s ≤ 31 → size t ≤ 31 → length (rising (letters s ++ letters t)) ≤ 6
-    → same ≡ compare_is_eq (order_lists (words s) (words t)) → Renamed (words s) (words t) same us vs
-canonical_lists c u v s t p q small-s small-t few agree =
-    record {
-      agree = agree;
-      lists = λ differ. let (l, r) = (c differ).exact s t p q small-s small-t few (omega arith) in (u ∙ l, v ∙ r);
-    }
+-- none where the words agree
+module _ {xs ys : List ℕ} {same : Bool}
+    (test : (s t : Term) → IsRun xs s → IsRun ys t → size s ≤ 31 → size t ≤ 31 → same ≡ compare_is_eq (order_lists (words s) (words t))) where
+  pub no_lists : same ≡ true
+      → (s t : Term) → IsRun xs s → IsRun ys t → size s ≤ 31 → size t ≤ 31 → length (rising (letters s ++ letters t)) ≤ 6 → Renamed (words s) (words t) None
+  no_lists e s t p q small-s small-t few = sym (test s t p q small-s small-t) ∙ e
+
+  pub canonical_lists : {room : ℕ} {e : Equation (List ℕ)} {us vs : List ℕ} → same ≡ false → CanonicalWords xs ys room e → us ≡ e.left → vs ≡ e.right
+      → (s t : Term) → IsRun xs s → IsRun ys t → size s ≤ 31 → size t ≤ 31 → length (rising (letters s ++ letters t)) ≤ 6 → 5508 ≤ room
+      → (compare_is_eq (order_lists (words s) (words t)) ≡ false)
+      × (us ≡ spelled (canonical_words (words s) (words t)).left) × (vs ≡ spelled (canonical_words (words s) (words t)).right)
+  canonical_lists differ c u v s t p q small-s small-t few room =
+      let (f, g) = c.exact s t p q small-s small-t few (omega (arith, room)) in
+      (sym (test s t p q small-s small-t) ∙ differ, u ∙ f, v ∙ g)
 
 -- ---- the lines
 
@@ -94,16 +99,17 @@ pub put_term_lines : {o o₁ o₂ : Writer} (e : Equation Term)
 unfolding term_lines field
 put_term_lines e p q = then p q
 
-module _ {o : Writer} {same : Bool} {us vs : List Word} {xs ys : List ℕ} (h : Renamed us vs same xs ys) where
-  pub put_no_lists : {o₁ o₂ : Writer} → same ≡ true
+module _ {o o₁ o₂ : Writer} (us vs : List Word) where
+  pub put_no_lists : compare_is_eq (order_lists us vs) ≡ true
       → Writes (ascii "wleft=" ++ (ascii "-" ++ (10 ∷ []))) o o₁ → Writes (ascii "wright=" ++ (ascii "-" ++ (10 ∷ []))) o₁ o₂ → Writes (renamed_words us vs) o o₂
   unfolding renamed_words word_lines field ascii
-  put_no_lists e p q = put_as (rw (← h.agree, e, renamed_words)) (then p q)
+  put_no_lists e p q = put_as (rw (e, renamed_words)) (then p q)
 
-  pub put_word_lines : {o₁ o₂ : Writer} → same ≡ false
+  pub put_word_lines : {xs ys : List ℕ}
+      → (compare_is_eq (order_lists us vs) ≡ false) × (xs ≡ spelled (canonical_words us vs).left) × (ys ≡ spelled (canonical_words us vs).right)
       → ((ws : List Word) → xs ≡ spelled ws → Writes (ascii "wleft=" ++ (word_list ws ++ (10 ∷ []))) o o₁)
       → ((ws : List Word) → ys ≡ spelled ws → Writes (ascii "wright=" ++ (word_list ws ++ (10 ∷ []))) o₁ o₂)
       → Writes (renamed_words us vs) o o₂
   unfolding renamed_words word_lines field
-  put_word_lines e p q =
-      put_as (rw (← h.agree, e, renamed_words)) (then (p (canonical_words us vs).left (h.lists e).0) (q (canonical_words us vs).right (h.lists e).1))
+  put_word_lines (differ, u, v) p q =
+      put_as (rw (differ, renamed_words)) (then (p (canonical_words us vs).left u) (q (canonical_words us vs).right v))

@@ -1,16 +1,16 @@
 -- What is asked of each right side, and the right sides read into slots.
 use Prim.Native.Nat.{ℕ, suc, ◌+◌, ◌≤◌, ◌<◌}
-use native.Mathlib.Numerals.{add-one}
+use native.Mathlib.Nat.{zero-add}
 use native.Mathlib.Omega.{arith}
 use mathlib.Core.Bool.{Bool, true, false, ◌&&◌, and-true, and-false, and_assoc}
 use mathlib.Core.Option.{Option, none, some, bind as ◌then◌}
 use mathlib.Core.List.{List, [], ◌∷◌, ◌++◌, append_assoc, append-nil}
 use mathlib.Core.Path.{◌≡◌, refl, sym, ap, subst, ◌∙◌}
 use lib.Dec.{leb}
-use lib.ListN.{length, take, drop, drop_of_length-le, length-append}
-use lib.Seq.{drop-cons, length-take-le}
+use lib.ListN.{length, take, length-append}
+use lib.Seq.{length-take-le}
 use borrow.Author.Tests.{le-leb, lt-leb}
-use Rattle.terms.specs.Term.{Term, zero, size}
+use Rattle.terms.specs.Term.{Term, size}
 use Rattle.terms.specs.Letters.{letters, rising}
 use Rattle.terms.specs.Held.{IsRun}
 use Rattle.terms.specs.Promises.{Lists}
@@ -18,6 +18,9 @@ use Rattle.terms.specs.Theory.Held.{size_of}
 use Rattle.std.specs.Prelude as code
 use Rattle.std.specs.Prelude.{Some, None, Result, Ok, Err}
 use Rattle.std.specs.Option.{is_some, IsSome, MatchOption}
+use Rattle.std.specs.Bool.{MatchBool}
+use Rattle.std.specs.List.{AllWithin, HoldsAt, range_with_len}
+use Rattle.std.proofs.lemmas.List.FromFn.{length-range_with_len, get_or-range_with_len}
 use Rattle.search.specs.Runs.{term_at, HeldRuns, Shows, HoldsRun}
 use Rattle.search.proofs.Holding.{none_held, held_more}
 use Rattle.text.specs.declared.refusal.Refusal.{Refusal}
@@ -56,33 +59,40 @@ module _ {xs ys names names' : List ℕ} (e : length names ≡ 6) where
 abbrev pub Decided : (List ℕ → Bool → Type 0) → (Term → Bool) → Type 0
 Decided Tells p = (xs : List ℕ) (t : Term) (b : Bool) → IsRun xs t → Tells xs b → b ≡ p t
 
--- those before r pass
-pub record PassedTo (Tells : List ℕ → Bool → Type 0) (rights : List ℕ) (n r : ℕ) : Type 0 where
-  pub exact : (p : Term → Bool) → Decided Tells p → (ts : List Term) → HeldRuns rights ts → length ts ≡ n → every p ts ≡ every p (drop r ts)
+-- where each term passes all do, and where one fails they do not
+each_passes : (p : Term → Bool) (ts : List Term) → ((k : ℕ) → k < length ts → p (term_at ts k) ≡ true) → every p ts ≡ true
+unfolding every
+each_passes p [] h = refl
+each_passes p (t ∷ ts) h = rw (h 0 (omega arith), each_passes p ts (λ k l. h (suc k) (omega (arith, l))))
 
-pub none_passed : (Tells : List ℕ → Bool → Type 0) (rights : List ℕ) (n : ℕ) → PassedTo Tells rights n 0
-none_passed Tells rights n = record { exact = λ p d ts v e. refl }
+one_fails : (p : Term → Bool) (ts : List Term) (k : ℕ) → k < length ts → p (term_at ts k) ≡ false → every p ts ≡ false
+unfolding every
+one_fails p [] k l e = absurd (omega (arith, l))
+one_fails p (t ∷ ts) ℕ.zero l e = rw e
+one_fails p (t ∷ ts) (suc k) l e = rw (one_fails p ts k (omega (arith, l)) e) (and-false (p t))
 
-module _ {Tells : List ℕ → Bool → Type 0} {rights : List ℕ} {n r : ℕ} (before : PassedTo Tells rights n r) where
-  pub all_passed : n ≤ r → AllPass Tells rights n true
-  unfolding every
-  all_passed h =
-      record { exact = λ p d ts v e. sym (before.exact p d ts v e ∙ rw (drop_of_length-le ts {i = r} (omega arith))) }
+module _ (Tells : List ℕ → Bool → Type 0) (rights : List ℕ) (n : ℕ) where
+  -- what the code makes of the run in a slot
+  abbrev pub Told : Bool → ℕ → Type 0
+  Told b k = (ys : List ℕ) × Shows rights k ys × Tells ys b
 
-  module _ {ys : List ℕ} {b : Bool} (h : r < n) (shown : Shows rights r ys) (told : Tells ys b) where
-    -- this one and the rest
-    split : (p : Term → Bool) → Decided Tells p → (ts : List Term) → HeldRuns rights ts → length ts ≡ n → every p ts ≡ b && every p (drop (r + 1) ts)
-    unfolding every
-    split p d ts v e =
-        let inside : r < length ts = omega arith in
-        let this = d ys (term_at ts r) b (shown.exact (term_at ts r) (v.spelled r inside)) told in
-        before.exact p d ts v e ∙ rw (add-one, drop-cons ts r zero inside, ← this)
+  at_slot : {b : Bool} {k : ℕ} → Told b k → (p : Term → Bool) → Decided Tells p → {ts : List Term} → HeldRuns rights ts → k < length ts → p (term_at ts k) ≡ b
+  at_slot {b} {k} (ys, shown, told) p d {ts} v l = sym (d ys (term_at ts k) b (shown.exact (term_at ts k) (v.spelled k l)) told)
 
-    pub one_fails : b ≡ false → AllPass Tells rights n false
-    one_fails f = record { exact = λ p d ts v e. sym (rw f at (split p d ts v e)) }
-
-    pub one_passes : b ≡ true → PassedTo Tells rights n (r + 1)
-    one_passes f = record { exact = λ p d ts v e. rw f at (split p d ts v e) }
+  pub all_told : (r : Bool) → MatchBool r (AllWithin (Told true) (range_with_len 0 n) 0 (length (range_with_len 0 n))) ((k : ℕ) × (k < length (range_with_len 0 n)) × HoldsAt (Told false) (range_with_len 0 n) k)
+      → AllPass Tells rights n r
+  all_told true h =
+      record {
+        exact = λ p d ts v e.
+            sym (each_passes p ts λ k l.
+            at_slot (rw (get_or-range_with_len 0 n k 0 (omega (arith, l, e)), zero-add k) at (h k 0 (omega arith) (omega (arith, l, e, length-range_with_len 0 n)))) p d v l);
+      }
+  all_told false (k, l, h) =
+      record {
+        exact = λ p d ts v e.
+            let m : k < n = omega (arith, l, length-range_with_len 0 n) in
+            sym (one_fails p ts k (omega (arith, m, e)) (at_slot (rw (get_or-range_with_len 0 n k 0 m, zero-add k) at (h 0)) p d v (omega (arith, m, e))));
+      }
 
 -- the terms of the right sides
 

@@ -1,12 +1,11 @@
 -- The texts of laws, directions, places and lines, put piece by piece.
-use Prim.Native.Nat.{ℕ, zero, suc, ◌-◌, ◌≤◌, ◌<◌}
+use Prim.Native.Nat.{ℕ, zero, suc, ◌-◌, ◌<◌}
 use Prim.Native.Char.{code}
 use native.Mathlib.Omega.{arith}
 use mathlib.Core.Path.{◌≡◌, refl, sym, ap, subst, ◌∙◌}
 use mathlib.Core.Bool.{Bool, true, false, cond}
 use mathlib.Core.List.{List, [], ◌∷◌, ◌++◌, append_assoc}
 use lib.Dec.{ltb}
-use lib.ListN.{length}
 use Rattle.terms.specs.Term as term
 use Rattle.terms.specs.Term.{Term, size}
 use Rattle.terms.specs.Held.{IsRun, Holds}
@@ -16,12 +15,9 @@ use Rattle.search.specs.Coded.{name_of, direction_of, side_of}
 use Rattle.search.specs.Place.{place_at}
 use Rattle.std.specs.Prelude.{Option as Answer, Some, None}
 use Rattle.search.specs.Slots.{Marks}
-use Rattle.search.specs.Traced.{Turned, Nears, Turns}
-use Rattle.search.specs.declared.search.Law.{Law}
-use Rattle.search.specs.declared.search.Direction.{Direction}
+use Rattle.search.specs.Traced.{Turned, Turns}
 use Rattle.search.specs.declared.slots.Step.{Step}
 use Rattle.search.specs.declared.chain.Side as declared
-use Rattle.search.specs.declared.chain.Side.TheVariants.{Left, Right}
 use Rattle.text.specs.Bytes.{ascii, parted}
 use Rattle.text.specs.TermText.{write_term}
 use Rattle.text.specs.StepText.{law_name, direction, sides, place, step_value}
@@ -46,9 +42,6 @@ module _ {xs : List ℕ} {from at : ℕ} {turn : Answer (declared.Side × ℕ)} 
   sides_end o e t p q = put_as (ap sides (sym (subst (Turned xs from at t) e (T.exact t p q)))) (put_none o)
 
   module _ (d : declared.Side) (n : ℕ) (e : turn ≡ Some (d, n)) where
-    pub turn_nears : (from < n) × (n ≤ at)
-    turn_nears = subst (Nears from at) e T.nears
-
     pub sides_more : {o o₁ o₂ : Writer} → Writes (sides (side_of d ∷ [])) o o₁ → PutsSides xs n at o₁ o₂ → PutsSides xs from at o o₂
     sides_more p P t h q =
         let i = subst (Turned xs from at t) e (T.exact t h q) in

@@ -5,12 +5,12 @@ use Prim.Native.Nat.{ℕ, suc, ◌+◌, ◌≤◌, ◌<◌}
 use Prim.Native.Char.{code}
 use native.Mathlib.Omega.{arith}
 use native.Mathlib.Numerals.{add-one}
-use mathlib.Core.Path.{◌≡◌, refl, sym, ap, ap₂, subst, ◌∙◌}
+use mathlib.Core.Path.{◌≡◌, refl, sym, ap, subst, ◌∙◌}
 use mathlib.Core.Bool.{Bool, true, false}
 use mathlib.Core.List.{List, [], ◌∷◌, ◌++◌, append-nil, flat_map}
 use lib.Dec.{eqb}
-use lib.ListN.{length, take, drop, get_or, length-append, drop_of_length-le}
-use lib.Seq.{take-suc, take_all, drop-cons}
+use lib.ListN.{length, take, get_or, length-append}
+use lib.Seq.{take-suc, take_all}
 use Rattle.terms.specs.Term.{Term}
 use Rattle.terms.specs.Held.{IsRun}
 use Rattle.search.specs.Law as law
@@ -25,17 +25,13 @@ use Rattle.search.specs.declared.search.Law.{Law}
 use Rattle.search.specs.declared.slots.Step.{Step}
 use Rattle.search.specs.declared.slots.Origin.{Origin}
 use Rattle.search.specs.declared.slots.Origin.TheVariants.{Start, From}
-use Rattle.search.specs.contracts.search.Law.{the_type}
-use denote.Enum.Declared.{tag_of}
-use denote.Enum.Bare.{sameb}
-use Rattle.search.proofs.Coded.{each_law, law_named, law_numbered}
+use Rattle.search.proofs.Coded.{law_named, law_numbered}
 use Rattle.search.proofs.Noting.{noted_run}
 use Rattle.search.proofs.Rising.{line_at}
 use Rattle.search.proofs.Traced.{traced_at}
-use Rattle.text.specs.Answer.{field}
-use Rattle.text.specs.Bytes.{ascii, parted}
+use Rattle.text.specs.Bytes.{parted}
 use Rattle.text.specs.Items.{gap}
-use Rattle.text.specs.StepText.{law_name, step_value}
+use Rattle.text.specs.StepText.{law_name}
 use Rattle.text.specs.Find.{step, used, uses}
 use Rattle.text.specs.Walk.{Walk}
 use Rattle.text.specs.Writer.{Writes}
@@ -109,16 +105,6 @@ steps_all i h P s xs W = put_as (ap (flat_map step) (take_all i xs (omega (arith
 -- what is said of a line that is, or is not, by a law
 abbrev pub Leads : (ws : List ℕ) (k : ℕ) (w : Law) (b : Bool) → Type 0
 Leads ws k w b = (ns : List Noted) (j : ℕ) (x : Line) → Slots ws ns → Linked ws ns j k x → b ≡ eqb (rank (name_of w)) (rank x.law)
-
-pub leads_not : {ws : List ℕ} {k : ℕ} {f : Origin} (w : Law) (b : Bool) → Originates ws k f → f ≡ Start → Leads ws k w b
-leads_not w b O e ns j x S L = absurd (no_start O L e)
-
--- laws are compared by their numbers
-law_tagged : (w : Law) → tag_of the_type w ≡ rank (name_of w)
-law_tagged = each_law (λ w. tag_of the_type w ≡ rank (name_of w)) (refl, refl, refl, refl, refl, refl, refl, refl, refl, refl)
-
-pub leads_by : {ws : List ℕ} {k : ℕ} {f : Origin} (s : Step) (w : Law) → Originates ws k f → f ≡ From s → Leads ws k w (sameb the_type w s.law)
-leads_by s w O e ns j x S L = ap₂ eqb (law_tagged w) (law_tagged s.law) ∙ ap (λ n. eqb (rank (name_of w)) (rank n)) (sym (marks_read O L s e).law)
 
 -- whether the law is used is told
 abbrev pub Tells : (ws ks : List ℕ) (w : Law) (b : Bool) → Type 0

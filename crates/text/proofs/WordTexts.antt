@@ -1,9 +1,8 @@
 -- The words of a spelled list, one after the other, with a byte between them.
-use Prim.Native.Nat.{ℕ, zero, suc, ◌+◌, ◌-◌, ◌≤◌, ◌<◌}
+use Prim.Native.Nat.{ℕ, suc, ◌+◌, ◌-◌, ◌≤◌, ◌<◌}
 use Prim.Native.Char.{code}
 use mathlib.Core.Path.{◌≡◌, refl, sym, ap, ap₂, ◌∙◌}
 use mathlib.Core.List.{List, [], ◌∷◌, ◌++◌, map, append_assoc, append-nil, map-append}
-use native.Mathlib.Numerals.{add-one}
 use native.Mathlib.Omega.{arith}
 use mathlib.Core.Bool.{Bool, false, cond}
 use lib.Dec.{eqb, ltb, eqb-suc-zero}
@@ -12,6 +11,7 @@ use Rattle.std.specs.Prelude.{Option, Some, None}
 use Rattle.std.specs.List.{position_or_len}
 use lib.ListN.{length, take, drop, length-map, length-append}
 use lib.Seq.{take_all, take_at, drop-append-add}
+use Rattle.std.proofs.Math.Numerals.{one-add}
 use Rattle.words.specs.Words.{Word}
 use Rattle.words.specs.Spelled.{spelled}
 use Rattle.text.specs.Bytes.{parted}
@@ -67,13 +67,10 @@ spelled_cons v vs = append_assoc (map suc v) (0 ∷ []) (spelled vs)
 place_later : (p : ℕ → Bool) (x : ℕ) (xs : List ℕ) → p x ≡ false → position_or_len p (x ∷ xs) ≡ 1 + position_or_len p xs
 place_later p x xs e = rw e refl
 
-one_plus : (k : ℕ) → 1 + k ≡ suc k
-one_plus k = omega arith
-
 -- the first 0 ends the first word
 word_ended : (v : Word) (xs : List ℕ) → position_or_len (λ n. eqb n 0) (map suc v ++ (0 ∷ xs)) ≡ length v
 word_ended [] xs = refl
-word_ended (n ∷ v) xs = place_later (λ n. eqb n 0) (suc n) (map suc v ++ (0 ∷ xs)) (eqb-suc-zero n) ∙ ap (λ k. 1 + k) (word_ended v xs) ∙ one_plus (length v)
+word_ended (n ∷ v) xs = place_later (λ n. eqb n 0) (suc n) (map suc v ++ (0 ∷ xs)) (eqb-suc-zero n) ∙ ap (λ k. 1 + k) (word_ended v xs) ∙ one-add (length v)
 
 -- what a search for the first place says
 abbrev pub Ended : List ℕ → Option ℕ → Type 0

@@ -1,9 +1,10 @@
 -- What a call of an entry returns and leaves in each buffer that it is lent, and what the program prints.
 use Rattle.std.specs.Prelude.{ℕ, ◌+◌, ◌≡◌, List, [], ◌∷◌, ◌++◌, length, drop, Result, Ok, Err}
 use Rattle.terms.specs.Lists.{◌∈◌}
-use Rattle.std.specs.Borrow.{Bor, MutBor}
+use Rattle.std.specs.Borrow.{MutBor}
 use Rattle.terms.specs.Held.{IsRun}
 use Rattle.search.specs.Searched.{slots_of}
+use Rattle.text.specs.declared.answer.Sides.{Sides}
 use Rattle.text.specs.declared.refusal.Refusal.{Refusal}
 use Rattle.text.specs.Refusal.{number_of, number_returned}
 use Rattle.text.specs.Answer.{Answer, refused, accepted, ◌>>=◌, printed}
@@ -45,10 +46,10 @@ pub record FindGives (job out work : List ℕ) (r : Result ℕ Refusal) (out' wo
   pub workspace : number_returned r ∈ before_search → work' ≡ work
 
 -- of `answer_job`: what the function that was passed in gives for the sides of an accepted job is given for the job's text
-pub record AnswersJob (Post : (left right : Bor (List ℕ)) → MutBor (List ℕ) → Result ℕ Refusal → MutBor (List ℕ) → Type 0) (job out : List ℕ) (r : Result ℕ Refusal) (out' : List ℕ) : Type 0 where
+pub record AnswersJob (Post : Sides → MutBor (List ℕ) → Result ℕ Refusal → MutBor (List ℕ) → Type 0) (job out : List ℕ) (r : Result ℕ Refusal) (out' : List ℕ) : Type 0 where
   pub exact : (answer : Job → Answer (List ℕ))
-      → ((j : Job) (left right : Bor (List ℕ)) (o o' : MutBor (List ℕ)) (q : Result ℕ Refusal) → Accepted j → IsRun left.now j.left → IsRun right.now j.right
-      → length o.now ≡ length out → Post left right o q o' → Gives (answer j) o.now q o'.now)
+      → ((j : Job) (sides : Sides) (o o' : MutBor (List ℕ)) (q : Result ℕ Refusal) → Accepted j → IsRun sides.left.now j.left → IsRun sides.right.now j.right
+      → length o.now ≡ length out → Post sides o q o' → Gives (answer j) o.now q o'.now)
       → Gives (◌>>=◌ (read_job job) answer) out r out'
 
 -- FIND on standard input, printed, with 400 slots and 32,768 output bytes

@@ -1,10 +1,12 @@
 // FIND, WORDS and RENAME: a job's text comes in, and the answer's bytes go out at the front of the output.
 // A number below 100 is a refusal's; otherwise it is 100 plus the answer's length.
+// Job, output and workspace stand side by side, each a buffer of its own that the host lends, as the C functions take them.
 ghost use Rattle.std.specs.Prelude.{length};
 ghost use Rattle.text.specs.Words.{words_entry};
 ghost use Rattle.text.specs.Rename.{rename_entry};
 ghost use Rattle.text.specs.Entry.{Call, FindCall, FindGives, AnswersJob};
 
+use crate::answer::Sides;
 use crate::answer::find::answer_find;
 use crate::answer::lists::answer_words;
 use crate::answer::rename::answer_rename;
@@ -35,7 +37,7 @@ fn answer_jobs(job: &[u8], output: &mut [u8], workspace: &mut [u32]) -> Result<u
 }
 
 // The answer to a job with one right side, from the runs of its sides: how long it is.
-fn answer_job<F: FnOnce(&[u32], &[u32], &mut [u8]) -> Result<usize, Refusal>>(
+fn answer_job<F: FnOnce(Sides<'_>, &mut [u8]) -> Result<usize, Refusal>>(
     job: &[u8],
     output: &mut [u8],
     answer: F,
@@ -45,7 +47,11 @@ fn answer_job<F: FnOnce(&[u32], &[u32], &mut [u8]) -> Result<usize, Refusal>>(
 {
     let mut rights = [0u32; SLOT];
     let read = read_job(job, &mut rights)?;
-    answer(read.left.numbers(), run_of(&rights, 0), output)
+    let sides = Sides {
+        left: read.left.numbers(),
+        right: run_of(&rights, 0),
+    };
+    answer(sides, output)
 }
 
 // FIND. The workspace holds the noted terms, 40 numbers to a slot.

@@ -32,7 +32,7 @@ pub enum Sign {
     Letter,
 }
 
-// A byte of a term.
+// A byte of a term. No Option of three kinds: the scope document has four, of which foul is one.
 #[derive(Clone, Copy, PartialEq, Eq)]
 pub enum Mark {
     Sign(Sign),
@@ -49,6 +49,7 @@ pub enum NumberError {
 }
 
 // What a byte of a term is.
+#[tactic(auto, using(crate::proofs::Marking::by_value), unfolding(crate::specs::Marks::mark))]
 pub fn mark_of(b: u8) -> Mark
     ensures { result ≡ mark b }
 {
@@ -84,6 +85,7 @@ fn digits(text: &[u8], most: u32) -> Result<u32, NumberError>
 }
 
 // The number that a text is, without a needless leading zero.
+#[tactic(auto, using(crate::proofs::Numbers::number_read))]
 pub fn number(text: &[u8], most: u32) -> Result<u32, NumberError>
     requires { most ≤ 4096 }
     ensures { result ≡ limited most (read_number text.now) }
@@ -119,6 +121,7 @@ pub fn keyed<'a>(s: &'a [u8], key: &[u8]) -> Option<(&'a [u8], &'a [u8])>
 }
 
 // An item of one byte, as a number of a run.
+#[tactic(auto, using(crate::proofs::Reading::one_byte, crate::proofs::Reading::no_atom), unfolding(terms::specs::Numbers::token))]
 fn sign_item(b: u8) -> Option<u32>
     ensures { Items (b ∷ []) result }
 {

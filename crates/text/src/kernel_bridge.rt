@@ -16,7 +16,7 @@ ghost use Rattle.text.specs.Writer.{Writes};
 
 use crate::step;
 use crate::writer::Writer;
-use search::search::{Binding, LARGEST, Law, Span, Spans, append, bind_sides};
+use search::search::{Binding, LARGEST, Law, Pair, Span, Spans, append, bind_sides};
 use terms::term;
 use terms::term::{ADD, ZERO};
 
@@ -26,7 +26,8 @@ pub mod lambdas;
 // The lines of a path.
 pub mod path;
 
-// The place of a letter among the equation's letters: how many they are, if it is none of them.
+// The place of a letter among the equation's letters: how many they are, if it is none of them, which no letter of an accepted job is. No Option,
+// since the definition of the proof text has that number for none.
 fn index_of(names: &[u32], n: u32) -> usize
     ensures { result ≡ index_of n names.now }
 {
@@ -67,6 +68,7 @@ fn put_atom(w: &mut Writer<'_>, n: u32, names: &[u32])
 }
 
 // A sum or product up to its left part.
+#[tactic(auto, using(crate::proofs::Writing::put_as, crate::proofs::Rendered::operator_add, crate::proofs::Rendered::operator_mul), unfolding(crate::specs::Bytes::ascii))]
 fn put_operator(w: &mut Writer<'_>, n: u32)
     ensures { Writes (operator n) w.old w.new }
 {
@@ -145,7 +147,8 @@ fn put_call(w: &mut Writer<'_>, law: Law, run: &[u32], z: Spans, names: &[u32])
     put_arguments(w, run, z, names);
 }
 
-// Copies the term at the front of a run behind the first `n` numbers of a buffer: nothing if there is no room.
+// Copies the term at the front of a run behind the first `n` numbers of a buffer, and gives where the copy ends: nothing is copied where there is no
+// room, and it ends at `n`. No Option, since no accepted job comes to that.
 fn copy_term(out: &mut [u32], n: usize, s: &[u32]) -> usize
     requires { n ≤ length out.old }
     ensures { Copies s.now 0 out.old n result out.new }
@@ -164,7 +167,11 @@ pub fn render_axiom_application(w: &mut Writer<'_>, law: Law, s: &[u32], t: &[u3
     let mut both = [0u32; 2 * LARGEST];
     let middle = copy_term(&mut both, 0, s);
     copy_term(&mut both, middle, t);
-    if let Binding::Bound(z) = bind_sides(law, &both, middle) {
+    let pair = Pair {
+        both: &both,
+        middle,
+    };
+    if let Binding::Bound(z) = bind_sides(law, pair) {
         put_call(w, law, &both, z, names);
     }
 }

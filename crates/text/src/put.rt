@@ -33,6 +33,15 @@ impl<const N: usize> Text for [u8; N] {
     }
 }
 
+// And so do the bytes of a slice, whose length is known only when it runs.
+impl<'a> Text for &'a [u8] {
+    ghost shows = { λ s t. t ≡ s.now };
+
+    fn put(&self, w: &mut Writer<'_>) {
+        w.put_bytes(*self);
+    }
+}
+
 // A number in decimal.
 impl Text for usize {
     ghost shows = { λ n t. t ≡ number n };
@@ -101,6 +110,7 @@ fn put_letter(w: &mut Writer<'_>, n: u32)
 }
 
 // The byte of a run's number that is no letter.
+#[tactic(auto, using(crate::proofs::Items::sign_mul), unfolding(crate::specs::Items::sign_of))]
 fn sign_of(n: u32) -> u8
     ensures { result ≡ sign_of n }
 {
@@ -160,7 +170,8 @@ pub fn put_word(w: &mut Writer<'_>, letters: &[u32])
     }
 }
 
-// The words of a spelled list, each ended by 0, parted by `;`: no words are `0`.
+// The words of a spelled list, each ended by 0, parted by `;`: no words are `0`. An iterator over the pieces would
+// leave each its 0, or end with a piece that is no word.
 pub fn put_words(w: &mut Writer<'_>, list: &[u32])
     ensures same { SameOutput w.old w.new }
     ensures text { (ws : List Word) → list.now ≡ spelled ws → Writes (word_list ws) w.old w.new }

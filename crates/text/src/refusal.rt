@@ -48,7 +48,7 @@ impl From<Refusal> for usize {
 }
 
 // What an answer's length, or a count, is added to: no refusal has as large a number.
-const ANSWERED: usize = 100;
+pub const ANSWERED: usize = 100;
 
 // What an entry returns: 100 plus the answer's length or a count, or the refusal's number.
 pub fn returned(answer: Result<usize, Refusal>) -> usize

@@ -33,6 +33,7 @@ pub struct Lines<'a> {
 }
 
 // A law's name.
+#[tactic(auto, unfolding(crate::specs::StepText::law_name, crate::specs::Bytes::ascii))]
 pub fn law_name(law: Law) -> &'static [u8]
     ensures { result.now ≡ law_name (name_of law) }
 {
@@ -51,6 +52,7 @@ pub fn law_name(law: Law) -> &'static [u8]
 }
 
 // Whether a law is read forward or back.
+#[tactic(auto, unfolding(crate::specs::StepText::direction, crate::specs::Bytes::ascii))]
 pub fn direction_name(direction: Direction) -> &'static [u8]
     ensures { result.now ≡ text.direction (direction_of direction) }
 {
@@ -61,6 +63,7 @@ pub fn direction_name(direction: Direction) -> &'static [u8]
 }
 
 // The byte of a side.
+#[tactic(auto, unfolding(crate::specs::StepText::sides, crate::specs::Bytes::ascii))]
 fn letter_of(side: Side) -> u8
     ensures { result ∷ [] ≡ sides (side_of side ∷ []) }
 {
@@ -70,7 +73,7 @@ fn letter_of(side: Side) -> u8
     }
 }
 
-// The sides from the term that starts at `from` to the place, outermost first.
+// The sides from the term that starts at `from` to the place, outermost first. It goes by positions of the whole run, as a line's place is one.
 fn put_sides(w: &mut Writer<'_>, run: &[u32], from: usize, place: usize)
     ensures { (t : Term) → Holds run.now from t → place - from < size t → Writes (sides (place_at t (place - from))) w.old w.new }
 {
@@ -161,6 +164,7 @@ pub struct Uses<'a>(pub Lines<'a>);
 impl<'a> Text for Uses<'a> {
     ghost shows = { λ u t. (s : Term) × (xs : List Line) × Walk u.0.ws.now u.0.path.now s xs × (t ≡ parted 44 (uses semiring xs)) };
 
+    // Counted by hand: filter and enumerate would be two adapters in place of one test.
     fn put(&self, w: &mut Writer<'_>) {
         let mut count = 0;
         for law in LAWS {

@@ -26,31 +26,35 @@ impl<'a> Writer<'a> {
         Writer { buf, at: 0 }
     }
 
-    // One byte.
+    // One byte. The place is held beside what is stored, or it would be read anew behind it.
     pub fn put_byte(&mut self, b: u8)
         ensures { Writes (b ∷ []) self.old self.new }
     {
-        store_byte(self.buf, self.at, b);
-        self.at = self.at.saturating_add(1);
+        let at = self.at;
+        store_byte(self.buf, at, b);
+        self.at = at.saturating_add(1);
     }
 
     // A text of bytes.
     pub fn put_bytes(&mut self, text: &[u8])
         ensures { Writes text.now self.old self.new }
     {
-        store(self.buf, self.at, text);
-        self.at = self.at.saturating_add(text.len());
+        let at = self.at;
+        store(self.buf, at, text);
+        self.at = at.saturating_add(text.len());
     }
 
     // Three bytes, at once where they fit: most of a long answer are letters with a space before them, and a copy of so few bytes is slower.
     pub(crate) fn put_three(&mut self, a: u8, b: u8, c: u8)
         ensures { Writes (a ∷ b ∷ c ∷ []) self.old self.new }
     {
-        store_three(self.buf, self.at, a, b, c);
-        self.at = self.at.saturating_add(3);
+        let at = self.at;
+        store_three(self.buf, at, a, b, c);
+        self.at = at.saturating_add(3);
     }
 
-    // A number in decimal.
+    // A number in decimal. The library's `write!` would do it by a Result, and tells which digits were written only where that is Ok: nothing says
+    // that it is.
     pub fn put_number(&mut self, n: usize)
         ensures { Writes (number n) self.old self.new }
     {
@@ -79,6 +83,8 @@ impl<'a> Writer<'a> {
     }
 }
 
+// What stores knows an output and a place, and no writer: its contracts speak of bytes alone.
+
 // A text in an output from a place on, as far as the output goes.
 fn store(out: &mut [u8], at: usize, text: &[u8])
     ensures { out.new ≡ overlay out.old at text.now }
@@ -97,10 +103,14 @@ fn store_byte(out: &mut [u8], at: usize, b: u8)
     }
 }
 
+// Three bytes at once where they fit. Where the output has ended nothing is copied: a long answer is measured so.
 fn store_three(out: &mut [u8], at: usize, a: u8, b: u8, c: u8)
     ensures { out.new ≡ overlay out.old at (a ∷ b ∷ c ∷ []) }
 {
-    if at < out.len() && 3 <= out.len() - at {
+    if out.len() <= at {
+        return;
+    }
+    if 3 <= out.len() - at {
         out[at] = a;
         out[at + 1] = b;
         out[at + 2] = c;

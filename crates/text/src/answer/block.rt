@@ -17,7 +17,7 @@ ghost use Rattle.text.specs.Answering.{Led, Met, Unmet, Known, AllKnown};
 ghost use Rattle.text.specs.Writer.{Writes};
 
 use super::Sides;
-use super::outcome::{Refused, put_none, put_proved};
+use super::outcome::{Found, Refused, put_none, put_proved};
 use crate::put::Text;
 use crate::refusal::Refusal;
 use crate::step::Lines;
@@ -25,12 +25,11 @@ use crate::writer::Writer;
 use search::bounded_search::{Ended, Stop};
 use search::path::path_of;
 use search::replies::Reply;
-use search::search::{Direction, LARGEST, Law};
+use search::search::{Direction, Law};
 use search::slots;
-use search::slots::{Origin, Runs, SLOT, Step};
+use search::slots::{Origin, Runs, SLOT, SlotRun, Step};
 use terms::term;
 use words::candidate::LETTERS;
-use words::normal_form::front;
 
 // The most lines of a path of an accepted job.
 const MOST_LINES: usize = 16;
@@ -47,9 +46,14 @@ pub struct Searched<'a> {
 fn put_walk(w: &mut Writer<'_>, sides: Sides<'_>, expanded: usize, lines: Lines<'_>)
     ensures { (j : Job) (xs : List Line) (n : ℕ) → answering.Sides sides.entry.left.now sides.entry.right.now j → Walk lines.entry.ws.now lines.entry.path.now j.left xs → Writes (outcome_text semiring j (proved xs expanded n)) w.old w.new }
 {
+    let found = Found {
+        sides,
+        expanded,
+        lines,
+    };
     let mut names = [0u32; LETTERS];
     if let Some(n) = term::letters(sides.left, sides.right, &mut names) {
-        put_proved(w, sides, expanded, lines, front(&names, n));
+        put_proved(w, found, &names[..n]);
     }
 }
 
@@ -58,30 +62,34 @@ fn put_path(w: &mut Writer<'_>, sides: Sides<'_>, expanded: usize, last: u32, ws
     ensures { (j : Job) (xs : List Line) (n : ℕ) → answering.Sides sides.entry.left.now sides.entry.right.now j → Led ws.now j.left last xs → length xs ≤ 16 → Writes (outcome_text semiring j (proved xs expanded n)) w.old w.new }
 {
     let mut path = [0u32; MOST_LINES];
-    let n = path_of(ws, last, &mut path);
-    let lines = Lines {
-        ws,
-        path: front(&path, n),
-    };
-    put_walk(w, sides, expanded, lines);
+    if let Some(n) = path_of(ws, last, &mut path) {
+        let lines = Lines {
+            ws,
+            path: &path[..n],
+        };
+        put_walk(w, sides, expanded, lines);
+    }
 }
 
 // A law matches the whole equation: its line is noted in two slots of their own, and then printed as any other path is.
 fn put_direct(w: &mut Writer<'_>, sides: Sides<'_>, law: Law)
     ensures { (j : Job) → answering.Sides sides.entry.left.now sides.entry.right.now j → Writes (outcome_text semiring j (proved (whole_line (name_of law) j.right ∷ []) 0 0)) w.old w.new }
 {
-    if LARGEST < sides.left.len() || LARGEST < sides.right.len() {
+    let Some(left) = SlotRun::of(sides.left) else {
         return;
-    }
+    };
+    let Some(right) = SlotRun::of(sides.right) else {
+        return;
+    };
     let mut ws = [0u32; 2 * SLOT];
-    slots::note_start(&mut ws, sides.left);
+    slots::note_start(&mut ws, left);
     let step = Step {
         law,
         direction: Direction::Forward,
         place: 0,
         parent: 0,
     };
-    slots::note(&mut ws, 1, sides.right, step, 1);
+    slots::note(&mut ws, 1, right, step, 1);
     put_path(w, sides, 0, 1, &ws);
 }
 

@@ -27,7 +27,8 @@ fn runs_out(reply: Reply, ended: Ended) -> bool
     reply == Reply::Unnoted && ended.stop != Stop::Over
 }
 
-// The blocks' text, where it fits.
+// The blocks' text, where it fits. A function of its own, since one struct holds no references of two lifetimes: the blocks' parts have one here,
+// and more than one in the caller.
 fn answer_blocks<'a>(
     left: &'a [u32],
     rights: Runs<'a>,

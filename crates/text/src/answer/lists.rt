@@ -9,12 +9,12 @@ ghost use Rattle.text.specs.Words.{words_text, lists_text};
 ghost use Rattle.text.specs.Entry.{Gives};
 ghost use Rattle.text.specs.Writer.{Writes};
 
-use super::answered;
+use super::{Sides, answered};
 use crate::put::{Text, WordsOf};
 use crate::refusal::Refusal;
 use crate::writer::Writer;
 use std::cmp::Ordering;
-use words::normal_form::{ROOM, compare_lists, front, words_of};
+use words::normal_form::{ROOM, compare_lists, words_of};
 
 // Two lists of words in this order, and whether they are the same.
 fn put_lists(w: &mut Writer<'_>, same: bool, a: &[u32], b: &[u32])
@@ -45,16 +45,16 @@ impl<'a> Text for Lists<'a> {
 }
 
 // The answer to an equation of two terms of at most 31 nodes.
-pub fn answer_words(left: &[u32], right: &[u32], out: &mut [u8]) -> Result<usize, Refusal>
-    ensures { (s t : Term) → IsRun left.now s → IsRun right.now t → size s ≤ 31 → size t ≤ 31 → Gives (fitting (length out.old) (words_text (words s) (words t))) out.old result out.new }
+pub fn answer_words(sides: Sides<'_>, out: &mut [u8]) -> Result<usize, Refusal>
+    ensures { (s t : Term) → IsRun sides.entry.left.now s → IsRun sides.entry.right.now t → size s ≤ 31 → size t ≤ 31 → Gives (fitting (length out.old) (words_text (words s) (words t))) out.old result out.new }
 {
     let mut a = [0u32; ROOM];
     let mut b = [0u32; ROOM];
-    let m = words_of(left, &mut a);
-    let n = words_of(right, &mut b);
+    let m = words_of(sides.left, &mut a);
+    let n = words_of(sides.right, &mut b);
     let lists = Lists {
-        left: front(&a, m),
-        right: front(&b, n),
+        left: &a[..m],
+        right: &b[..n],
     };
     answered(&lists, out)
 }

@@ -11,14 +11,24 @@ ghost use Rattle.text.specs.Answer.{refused, printed};
 ghost use Rattle.text.specs.Job.{Job};
 ghost use Rattle.text.specs.Find.{outcome_text};
 ghost use Rattle.text.specs.Printing.{figures};
+ghost use Rattle.text.specs.Prints.{PrintsReturned};
 ghost use Rattle.text.specs.Walk.{Walk};
 ghost use Rattle.text.specs.Writer.{Writes};
 
 use super::Sides;
 use crate::kernel_bridge::lambdas::Proof;
-use crate::put::{TermOf, Text};
+use crate::put::{TermOf, Text, put_in_front};
+use crate::refusal::ANSWERED;
 use crate::step::{Lines, Uses, put_steps};
 use crate::writer::Writer;
+
+// A path that was found between two sides: its lines, and how many terms were opened till then.
+#[derive(Clone, Copy)]
+pub struct Found<'a> {
+    pub sides: Sides<'a>,
+    pub expanded: usize,
+    pub lines: Lines<'a>,
+}
 
 // The text where no path is found.
 pub fn put_none(w: &mut Writer<'_>, sides: Sides<'_>, expanded: usize, cut: bool)
@@ -31,7 +41,8 @@ pub fn put_none(w: &mut Writer<'_>, sides: Sides<'_>, expanded: usize, cut: bool
     w.line(b"cut=", &cut);
 }
 
-// A refusal by its number, as a program prints it and a block says it.
+// A refusal by its number, as a block says it and a program prints it. No `Refusal`, since a program knows no more of it than the number that an
+// entry returned.
 #[derive(Clone, Copy)]
 pub struct Refused(pub usize);
 
@@ -45,30 +56,37 @@ impl Text for Refused {
     }
 }
 
-// How many lines a path has, how many terms were opened, and the laws used.
-fn put_figures(w: &mut Writer<'_>, expanded: usize, lines: Lines<'_>)
-    ensures { (s : Term) (xs : List Line) → Walk lines.entry.ws.now lines.entry.path.now s xs → Writes (figures expanded xs) w.old w.new }
+// What a program prints, at the front of the output, by the number that an entry returned: the answer, which the entry left there, or two
+// lines with the refusal's number. It gives the length.
+pub fn printed(number: usize, output: &mut [u8]) -> usize
+    ensures { PrintsReturned number output.old result output.new }
 {
-    let steps = lines.path.len();
+    if ANSWERED <= number {
+        number - ANSWERED
+    } else {
+        put_in_front(&Refused(number), output)
+    }
+}
+
+// How many lines a path has, how many terms were opened, and the laws used.
+fn put_figures(w: &mut Writer<'_>, found: Found<'_>)
+    ensures { (s : Term) (xs : List Line) → Walk found.entry.lines.ws.now found.entry.lines.path.now s xs → Writes (figures found.entry.expanded xs) w.old w.new }
+{
+    let steps = found.lines.path.len();
     w.line(b"steps=", &steps);
-    w.line(b"expanded=", &expanded);
-    w.line(b"uses=", &Uses(lines));
+    w.line(b"expanded=", &found.expanded);
+    w.line(b"uses=", &Uses(found.lines));
 }
 
 // The text where a path is found.
-pub fn put_proved(
-    w: &mut Writer<'_>,
-    sides: Sides<'_>,
-    expanded: usize,
-    lines: Lines<'_>,
-    names: &[u32],
-)
-    ensures { (j : Job) (xs : List Line) (n : ℕ) → IsRun sides.entry.left.now j.left → IsRun sides.entry.right.now j.right → Walk lines.entry.ws.now lines.entry.path.now j.left xs → names.now ≡ rising (letters j.left ++ letters j.right) → Writes (outcome_text semiring j (proved xs expanded n)) w.old w.new }
+pub fn put_proved(w: &mut Writer<'_>, found: Found<'_>, names: &[u32])
+    ensures { (j : Job) (xs : List Line) (n : ℕ) → IsRun found.entry.sides.left.now j.left → IsRun found.entry.sides.right.now j.right → Walk found.entry.lines.ws.now found.entry.lines.path.now j.left xs → names.now ≡ rising (letters j.left ++ letters j.right) → Writes (outcome_text semiring j (proved xs found.entry.expanded n)) w.old w.new }
 {
+    let lines = found.lines;
     w.line(b"answer=", b"proved");
-    w.line(b"left=", &TermOf(sides.left));
-    w.line(b"right=", &TermOf(sides.right));
-    put_figures(w, expanded, lines);
+    w.line(b"left=", &TermOf(found.sides.left));
+    w.line(b"right=", &TermOf(found.sides.right));
+    put_figures(w, found);
     put_steps(w, lines);
     w.line(b"proof=", &Proof { lines, names });
 }

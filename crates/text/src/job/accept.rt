@@ -1,4 +1,5 @@
 // Jobs accepted or refused: the sides read, and refusals 1 to 6, 9 and 10.
+// The right sides go into any buffer that is long enough for their slots: an array of one length would ask more of those who call.
 ghost use Rattle.std.specs.Prelude.{◌≡◌, ◌*◌, ◌≤◌, ◌<◌, length};
 ghost use Rattle.search.specs.Index.{SLOT};
 ghost use Rattle.search.specs.Searched.{limits_of};
@@ -14,7 +15,7 @@ use crate::refusal::Refusal;
 use search::bounded_search::Limits;
 use search::search::LARGEST;
 use search::slots;
-use search::slots::Runs;
+use search::slots::SlotRun;
 use terms::term;
 use words::candidate::Equation;
 
@@ -37,7 +38,8 @@ const MOST_DEPTH: u32 = 15;
 
 const MOST_NODES: u32 = 4096;
 
-// Left's run, how many right sides there are, and the limits.
+// Left's run, how many right sides there are, and the limits. The runs of the right sides stay beside it, in the slots that were lent: if it borrowed
+// these, no clause could say what they hold behind the call.
 #[derive(Drop)]
 pub struct Read {
     pub left: Run,
@@ -58,32 +60,34 @@ fn orient(a: &[u32], rights: &mut [u32]) -> Run
     requires { SLOT ≤ length rights.old }
     ensures { Orients a.now rights.old result rights.new }
 {
-    let mut sides = Equation::<LARGEST>::new();
+    let mut smaller = [0u32; LARGEST];
+    let mut larger = [0u32; LARGEST];
+    let mut sides = Equation::new(&mut smaller, &mut larger);
     sides.keep(a, slots::run_of(rights, 0));
-    slots::hold_slot(rights, 0, sides.right());
+    let other = SlotRun {
+        numbers: sides.right(),
+    };
+    slots::hold_slot(rights, 0, other);
     Run::of(sides.left()).unwrap()
 }
 
 // Refusals 4 to 6 and 10 for left and the `n` right sides in slots. A right side that comes before left takes its place where it is the only one.
+#[tactic(auto, using(crate::proofs::Accepts::sides_accepted))]
 fn accept_sides(left: Run, n: usize, limits: Limits, rights: &mut [u32]) -> Result<Read, Refusal>
     requires { (0 < n) × (n ≤ 16) × (SLOT * n ≤ length rights.old) }
     ensures { AcceptsSides left n limits rights.old result rights.new }
 {
     let a = left.numbers();
-    let others = Runs {
-        slots: rights,
-        count: n,
-    };
-    if !all_pass(others, |b| few_letters(a, b)) {
+    if !all_pass(rights, n, |b| few_letters(a, b)) {
         return Err(Refusal::TooManyLetters);
     }
     if !in_range(limits) {
         return Err(Refusal::LimitOver);
     }
-    if !all_pass(others, |b| !term::equal(a, b)) {
+    if !all_pass(rights, n, |b| !term::equal(a, b)) {
         return Err(Refusal::SameSides);
     }
-    if all_pass(others, |b| term::compare(b, a).is_ge()) {
+    if all_pass(rights, n, |b| term::compare(b, a).is_ge()) {
         return Ok(Read {
             left,
             rights: n,
@@ -102,6 +106,7 @@ fn accept_sides(left: Run, n: usize, limits: Limits, rights: &mut [u32]) -> Resu
 }
 
 // The jobs of a text that is well formed: refusals 2 to 6 and 10. `run` has room for the items of any side.
+#[tactic(auto, using(std::proofs::lemmas::Result::err_from_is_err_and, crate::proofs::Jobs::foul_left, crate::proofs::Jobs::foul_right, crate::proofs::Jobs::sides_read))]
 fn read_sides(w: Written<'_>, run: &mut [u32], rights: &mut [u32]) -> Result<Read, Refusal>
     requires { (length w.left.now < length run.old) × (length w.lines.now ≤ length run.old) × (w.rights ≤ 16) × (SLOT * w.rights ≤ length rights.old) }
     ensures { ReadsSides w.entry result rights.new }
@@ -114,6 +119,7 @@ fn read_sides(w: Written<'_>, run: &mut [u32], rights: &mut [u32]) -> Result<Rea
 
 // The jobs of a text of at most `BYTES` bytes with at most `most` right sides; with more it is refused by `over`. The buffer for the items is
 // filled with zeros first, which for a large one takes as long as a short search.
+#[tactic(auto, using(crate::proofs::Jobs::within_read, std::proofs::lemmas::Result::err_from_is_err_and))]
 fn read_within<const BYTES: usize>(
     s: &[u8],
     most: usize,
@@ -135,6 +141,7 @@ fn read_within<const BYTES: usize>(
 }
 
 // FIND's jobs, one for each right side. 512 bytes are enough for one right side of 31 nodes.
+#[tactic(auto, using(crate::proofs::Jobs::short_find_read, crate::proofs::Jobs::find_read))]
 pub fn read_find(s: &[u8], rights: &mut [u32]) -> Result<Read, Refusal>
     requires { SLOT * 16 ≤ length rights.old }
     ensures { ReadsFind s.now result rights.new }

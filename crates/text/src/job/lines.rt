@@ -26,6 +26,7 @@ pub fn limit_line<'a>(s: &'a [u8], key: &[u8]) -> Option<(u32, &'a [u8])>
 }
 
 // The limits in the four lines that are a text.
+#[tactic(auto, using(crate::proofs::Layouts::limits_read), unfolding(crate::specs::Bytes::ascii))]
 fn limit_lines(s: &[u8]) -> Option<Limits>
     ensures { LimitsIn s.now result }
 {
@@ -44,7 +45,9 @@ fn limit_lines(s: &[u8]) -> Option<Limits>
     })
 }
 
-// How many `right=` lines begin a text, and what follows them: both are known at the first line without the key.
+// How many `right=` lines begin a text, and what follows them: both are known at the first line without the key. An iterator would give
+// the lines, and not what is left behind them.
+#[tactic(auto, using(crate::proofs::RightLines::one_line, crate::proofs::RightLines::no_more), unfolding(crate::specs::Bytes::ascii))]
 fn right_lines(s: &[u8]) -> (usize, &[u8])
     ensures { RightsIn s.now result.0 result.1.now }
 {

@@ -8,35 +8,35 @@ use super::keyed;
 use super::side::read_term;
 use super::written::Written;
 use crate::refusal::Refusal;
-use search::search::LARGEST;
 use search::slots;
-use search::slots::Runs;
+use search::slots::SlotRun;
 use terms::term;
 use words::candidate::LETTERS;
 
 // Whether two runs together have at most six different letters.
-pub(super) fn few_letters(a: &[u32], b: &[u32]) -> bool
+pub fn few_letters(a: &[u32], b: &[u32]) -> bool
     ensures { FewLetters a.now b.now result }
 {
     let mut names = [0u32; LETTERS];
     term::letters(a, b, &mut names).is_some()
 }
 
-// Whether each right side passes a test.
-pub fn all_pass<F: Fn(&[u32]) -> bool>(rights: Runs<'_>, passes: F) -> bool
-    requires { F.IsAlwaysCallable passes }
-    ensures { AllPass (λ xs b. FnReturnsAt F.Fn passes xs b) rights.entry.slots.now rights.entry.count result }
+// Whether each of the first `n` right sides passes a test. They are a part of any length beside their number, where `Runs` would ask for all of
+// their slots: one that is cut behind its last run will do.
+pub fn all_pass<F: Fn(&[u32]) -> bool>(rights: &[u32], n: usize, passes: F) -> bool
+    requires { (n ≤ 16) × F.IsAlwaysCallable passes }
+    ensures { AllPass (λ xs b. FnReturnsAt F.Fn passes xs b) rights.now n result }
 {
-    for k in 0..rights.count as u32 {
-        if !passes(rights.run(k)) {
-            return false;
-        }
-    }
-    true
+    (0..n as u32).all(|k| passes(slots::run_of(rights, k)))
 }
 
 // Reads the right sides into slots; `run` has room for each. One that is no term is refused before one that is too large, so that all are read.
-pub fn read_rights(w: Written<'_>, run: &mut [u32], rights: &mut [u32]) -> Result<(), Refusal>
+// How many lines there are is known, so that each is there where it is unwrapped. An iterator over them would have to be written for this loop alone.
+pub(super) fn read_rights(
+    w: Written<'_>,
+    run: &mut [u32],
+    rights: &mut [u32],
+) -> Result<(), Refusal>
     requires { (length w.lines.now ≤ length run.old) × (SLOT * w.rights ≤ length rights.old) }
     ensures { ReadsRights w.entry rights.old rights.new result }
 {
@@ -45,10 +45,9 @@ pub fn read_rights(w: Written<'_>, run: &mut [u32], rights: &mut [u32]) -> Resul
     for r in 0..w.rights {
         let (side, more) = keyed(rest, b"right=").unwrap();
         let n = read_term(side, run).ok_or(Refusal::NoTerm)?;
-        if n <= LARGEST {
-            slots::hold_slot(rights, r, &run[..n]);
-        } else {
-            read = Err(Refusal::TooLarge);
+        match SlotRun::of(&run[..n]) {
+            Some(right) => slots::hold_slot(rights, r, right),
+            None => read = Err(Refusal::TooLarge),
         }
         rest = more;
     }

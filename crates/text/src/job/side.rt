@@ -7,7 +7,8 @@ use search::search::LARGEST;
 use std::marker::Model;
 use terms::term;
 
-// The run of a term of at most 31 nodes.
+// The run of a term of at most 31 nodes. An equation of `words` holds two such runs, in one value, so that both are cleared and compared together;
+// here one is kept alone.
 #[derive(Drop)]
 pub struct Run {
     numbers: [u32; LARGEST],
@@ -51,6 +52,7 @@ impl Run {
 
 // The numbers of a side's items, at the front of `run`: how many there are, if every item stands for something. An iterator over the items
 // would leave them to be counted all the same.
+#[tactic(auto, using(crate::proofs::Sides::foul_item, crate::proofs::Sides::next_item, crate::proofs::Sides::foul_last))]
 fn items(side: &[u8], run: &mut [u32]) -> Option<usize>
     requires { length side.now < length run.old }
     ensures { ReadsItems side.now run.new result }
@@ -67,6 +69,7 @@ fn items(side: &[u8], run: &mut [u32]) -> Option<usize>
 }
 
 // The run of the term that a side spells, at the front of `run`: how many numbers it has, if there is such a term.
+#[tactic(auto, using(crate::proofs::Sides::term_read, crate::proofs::Sides::no_term))]
 pub fn read_term(side: &[u8], run: &mut [u32]) -> Option<usize>
     requires { length side.now < length run.old }
     ensures { ReadsTerm side.now run.new result }

@@ -25,6 +25,7 @@ use search::{chain, path, slots};
 use terms::term::ADD;
 
 // Where in a run the part on one side of the term at its front begins: an atom is its own part.
+#[tactic(auto, using(crate::proofs::Framing::part_found, crate::proofs::Framing::part_missing))]
 fn part_of(s: &[u32], side: Side) -> &[u32]
     ensures { (t : Term) → Holds s.now 0 t → Holds result.now 0 (part (side_of side) t) }
 {

@@ -9,4 +9,4 @@ returns-in_err-read g c =
     rw (p.1, p.2) (job_refused c.args.job.now c.args.output.now c.in_err-read.ensures)
 
 pub returns : goal.returns
-returns g c = job_answered c.args.job.now c.in_ok-read.ensures c.numbers.result c.run_of.result c.numbers.ensures.is c.run_of.ensures _ _ c.answer.result c.answer.ensures
+returns g c = job_answered c.args.job.now c.in_ok-read.ensures (record { left = c.numbers.result; right = c.run_of.result }) c.numbers.ensures.is c.run_of.ensures _ _ c.answer.result c.answer.ensures

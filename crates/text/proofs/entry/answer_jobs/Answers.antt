@@ -1,14 +1,7 @@
 -- `answer_jobs` meets its contract: the job is refused, or answered by the search.
-use Rattle.std.proofs.Common.{arith}
 use Rattle.std.proofs.lemmas.Result.{err_from_is_err_and}
 use Rattle.text.proofs.Entries.{find_refused, find_answered}
 use Rattle.text.proofs.entry.answer_jobs.Goals as goal
-
-pub invariant_of-right_sides : goal.invariant_of-right_sides
-invariant_of-right_sides c = let h = c.in_ok-read.ensures in record { within = omega (arith, h.few_rights); few = omega (arith, h.few_rights) }
-
-pub answer_find-requires : goal.answer_find-requires
-answer_find-requires c = let h = c.in_ok-read.ensures in (h.some_rights, h.few_rights)
 
 pub returns-in_err-read : goal.returns-in_err-read
 returns-in_err-read c =

@@ -6,11 +6,11 @@ use Rattle.text.proofs.entry.rename.Goals as goal
 pub returned-requires : goal.returned-requires
 returned-requires c =
     let a = c.args in
-    let g = rename_given a.job.now a.output.now c.answer_job.result c.answer_job.ensures (λ left right o o' q post. post) in
+    let g = rename_given a.job.now a.output.now c.answer_job.result c.answer_job.ensures (λ sides o o' q post. post.1) in
     gives_fitting _ _ c.answer_job.result c.answer_job.new.output g (omega arith)
 
 pub returns : goal.returns
 returns c =
     let a = c.args in
-    let g = rename_given a.job.now a.output.now c.answer_job.result c.answer_job.ensures (λ left right o o' q post. post) in
+    let g = rename_given a.job.now a.output.now c.answer_job.result c.answer_job.ensures (λ sides o o' q post. post.1) in
     rw c.returned.ensures (call_of _ _ c.answer_job.result g)

@@ -1,11 +1,11 @@
 -- `item` meets its contract: one byte is a sign, and of several the first is `v` and the others are a number.
 use Rattle.std.proofs.Common.{rules, ◌≡◌, ap, sym, ◌∙◌, arith, get_or, true}
 use Rattle.std.specs.Result.{result_ok}
+use Rattle.std.proofs.lemmas.List.{take_rest}
 use Rattle.text.specs.declared.job.Sign.TheVariants.{Letter}
 use Rattle.text.specs.declared.job.Mark.TheVariants as is
 use Rattle.text.specs.Marks.{mark}
 use Rattle.text.proofs.Marking.{tells}
-use Rattle.text.proofs.Lines.{to_end}
 use Rattle.text.proofs.Reading.{no_item, no_letter, letter_item}
 use Rattle.text.proofs.job.item.Goals as goal
 
@@ -17,7 +17,7 @@ returns-then-eq c =
     let s = c.args.text.now in
     let e : c.mark_of.result ≡ is.Sign Letter = search rules in
     letter_item s (omega arith) (tells (get_or s 0 0) (is.Sign Letter) (sym c.mark_of.ensures ∙ e)) c.ok.result
-    (c.ok.ensures.value ∙ ap result_ok (rw (to_end s 1) at c.number.ensures))
+    (c.ok.ensures.value ∙ ap result_ok (rw (take_rest s 1) at c.number.ensures))
 
 pub returns-else-eq : goal.returns-else-eq
 unfolding mark

@@ -1,9 +1,6 @@
 -- `copy_term` meets its contract.
-use Rattle.text.proofs.Applied.{copies_none, copies_all}
+use Rattle.text.proofs.Applied.{copies_all}
 use Rattle.text.proofs.kernel_bridge.copy_term.Goals as goal
-
-pub returns-then-out-n : goal.returns-then-out-n
-returns-then-out-n c = copies_none c.args.s.now c.args.out.now c.args.n c.requires c.end_of-end.result c.end_of-end.ensures c.if-out-n.true
 
 pub returns : goal.returns
 returns c =

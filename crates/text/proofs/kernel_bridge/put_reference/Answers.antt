@@ -1,7 +1,7 @@
 -- `put_reference` meets its contract.
 use mathlib.Core.Path.{ap}
 use Rattle.text.specs.Bytes.{ascii}
-use Rattle.text.specs.Proof.{variable, index_of, ref}
+use Rattle.text.specs.Proof.{variable, index_of}
 use Rattle.text.proofs.Writing.{put_as}
 use Rattle.text.proofs.Rendered.{put_ref}
 use Rattle.text.proofs.kernel_bridge.put_reference.Goals as goal

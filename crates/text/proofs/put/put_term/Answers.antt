@@ -1,6 +1,5 @@
 -- `put_term` meets its contract: the items are put one after the other.
 use Prim.Native.Char.{code}
-use native.Mathlib.Omega.{arith}
 use Rattle.text.specs.Items.{item}
 use Rattle.text.proofs.Writing.{then, same_output}
 use Rattle.text.proofs.Items.{put_no_piece, put_piece, put_whole}

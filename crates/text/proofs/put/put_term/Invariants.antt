@@ -1,8 +1,7 @@
 -- `put_term` meets its contract. The invariant: the items before i are put.
-use Prim.Native.Nat.{◌≤◌, ◌-◌}
 use Prim.Native.Char.{code}
 use mathlib.Core.List.{map}
-use lib.ListN.{length, take}
+use lib.ListN.{take}
 use Rattle.text.specs.Bytes.{parted}
 use Rattle.text.specs.Items.{item}
 use Rattle.text.specs.Writer.{Writes}

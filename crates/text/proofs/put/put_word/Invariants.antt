@@ -1,7 +1,7 @@
 -- `put_word` meets its contract. The invariant: the letters before i are put.
 use Prim.Native.Char.{code}
 use mathlib.Core.List.{map}
-use lib.ListN.{length, take}
+use lib.ListN.{take}
 use Rattle.text.specs.Bytes.{parted}
 use Rattle.text.specs.Writer.{Writes}
 use Rattle.text.proofs.WordTexts.{letter_text}

@@ -1,5 +1,5 @@
 -- `put_words` meets its contract: the words are put one after the other.
-use Rattle.std.proofs.Common.{◌≡◌, ◌+◌, ◌-◌, ◌≤◌, ◌<◌, ◌∙◌, sym, ap, subst, eqb, rules, tests, arith, refl, List, length, take, drop, length-drop}
+use Rattle.std.proofs.Common.{◌≡◌, ◌+◌, ◌-◌, ◌≤◌, sym, subst, eqb, rules, tests, arith, refl, List, length, take, drop, length-drop}
 use Rattle.std.proofs.lemmas.Bool.Decides.{nat_tests}
 use Rattle.std.proofs.lemmas.Iterator.{YieldsList-from_slice}
 use Rattle.std.proofs.lemmas.Iterator.Search.{position_from_yields_List}
@@ -34,9 +34,6 @@ loop-end-preserved c =
           (same_after c.loop-end.w c.put_gap.new.self c.put_word.new.w (same_output c.put_gap.ensures) c.put_word.ensures.same),
       λ ws e. one_more end E c.in-Some.is (c.loop-end.invariant.2 ws e) c.put_gap.ensures c.put_word.ensures.text,
     )
-
-pub returns-clause-same : goal.returns-clause-same
-returns-clause-same c = c.loop-end.invariant.1
 
 pub returns-clause-text : goal.returns-clause-text
 returns-clause-text c =

@@ -1,13 +1,7 @@
 -- `put_sides` meets its contract: one side, and then the sides of a part.
-use native.Mathlib.Omega.{arith}
 use Rattle.text.proofs.Writing.{put_as}
-use Rattle.text.proofs.StepTexts.{sides_end, turn_nears, sides_more}
+use Rattle.text.proofs.StepTexts.{sides_end, sides_more}
 use Rattle.text.proofs.step.+put_sides.Goals as goal
-
-pub put_sides-requires : goal.put_sides-requires
-put_sides-requires t c =
-    let e = turn_nears c.side_at.ensures c.in-Some.side c.in-Some.part c.in-Some.is in
-    omega (arith, e)
 
 pub returns-in_default : goal.returns-in_default
 returns-in_default t c = sides_end c.side_at.ensures c.args.w.now c.in_default.is

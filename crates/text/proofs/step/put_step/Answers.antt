@@ -4,11 +4,8 @@ use Rattle.text.specs.Bytes.{ascii}
 use Rattle.text.specs.Answer.{field}
 use Rattle.text.specs.StepText.{step_value}
 use Rattle.text.specs.Find.{step}
-use Rattle.text.proofs.Walks.{no_step, one_step}
+use Rattle.text.proofs.Walks.{one_step}
 use Rattle.text.proofs.step.put_step.Goals as goal
-
-pub returns-in_default : goal.returns-in_default
-returns-in_default c = no_step c.origin_of.ensures c.in_default.is
 
 pub returns-in-From : goal.returns-in-From
 unfolding step field ascii

@@ -1,5 +1,4 @@
 -- `put_steps` meets its contract.
-use Rattle.std.proofs.Common.{rules}
 use Rattle.text.proofs.Walks.{steps_start, steps_more, steps_all}
 use Rattle.text.proofs.step.put_steps.Goals as goal
 

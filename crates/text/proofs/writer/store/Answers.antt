@@ -1,6 +1,4 @@
 -- `store` meets its contract: as much as fits is copied.
-use mathlib.Core.Path.{◌∙◌}
-use native.Mathlib.Omega.{arith}
 use Rattle.text.proofs.Overlay.{overlay_part, overlay_out}
 use Rattle.text.proofs.writer.store.Goals as goal
 

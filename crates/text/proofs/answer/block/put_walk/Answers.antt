@@ -1,13 +1,9 @@
 -- `put_walk` meets its contract.
-use mathlib.Core.Path.{refl, ◌∙◌}
-use Rattle.text.proofs.Answering.{letters_fit, letters_listed}
+use Rattle.text.proofs.Answering.{letters_listed}
 use Rattle.text.proofs.answer.block.put_walk.Goals as goal
-
-pub returns-in_default : goal.returns-in_default
-returns-in_default c = λ j xs n sides walk. absurd (letters_fit sides c.letters.ensures refl c.in_default.is)
 
 pub returns-in-Some : goal.returns-in-Some
 returns-in-Some c =
     λ j xs n sides walk.
     c.put_proved.ensures j xs n sides.left_run sides.right_run walk
-    (c.front.ensures ∙ letters_listed sides c.letters.ensures c.in-Some.is)
+    (letters_listed sides c.letters.ensures c.in-Some.is)

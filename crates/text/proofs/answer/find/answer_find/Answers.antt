@@ -18,20 +18,11 @@ room = replicate 16 Unnoted
 lent : {n : ℕ} → n ≤ 16 → length (take n room) ≡ n
 lent {n} h = length-take-le n room h
 
-pub slice_bounds-replies-end : goal.slice_bounds-replies-end
-slice_bounds-replies-end c = sym (lent c.requires.1)
-
-pub search_bounded_rewrite-ended-requires : goal.search_bounded_rewrite-ended-requires
-search_bounded_rewrite-ended-requires c = omega (arith, lent c.requires.1)
-
 pub returns-then-runs_out : goal.returns-then-runs_out
 returns-then-runs_out c = λ bs s ts m read run runs count is.
     let one : length ts ≡ 1 = omega (arith, count, c.if-alone.true) in
     let known = all_known bs s ts m read c.search_bounded_rewrite-ended.ensures c.is_cut-cut.ensures c.search_bounded_rewrite-ended.auto.ws (omega (arith, one)) run runs (count ∙ sym (lent c.requires.1)) is in
     find_out bs s ts m read known c.args.out.now one c.if-runs_out.ensures
-
-pub answer_blocks-requires : goal.answer_blocks-requires
-answer_blocks-requires c = omega (arith, c.search_bounded_rewrite-ended.ensures.kept, lent c.requires.1, c.requires.1)
 
 pub returns : goal.returns
 returns c = λ bs s ts m read run runs count is.

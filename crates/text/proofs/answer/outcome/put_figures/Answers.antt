@@ -16,4 +16,4 @@ unfolding field ascii
 returns c =
     λ s xs walk.
     then (c.line.ensures (number (length xs)) (ap number (sym (walk_count walk))))
-    (then (c.line-2.ensures (number c.args.expanded) refl) (c.line-3.ensures (parted (code ",") (uses semiring xs)) (s, xs, walk, refl)))
+    (then (c.line-2.ensures (number c.args.found.expanded) refl) (c.line-3.ensures (parted (code ",") (uses semiring xs)) (s, xs, walk, refl)))

@@ -18,5 +18,5 @@ returns c =
     then (c.line.ensures (ascii "proved") refl)
     (then (c.line-2.ensures (write_term j.left) (j.left, left, refl))
     (then (c.line-3.ensures (write_term j.right) (j.right, right, refl))
-    (figures_then c.args.expanded xs (c.put_figures.ensures j.left xs walk)
+    (figures_then c.args.found.expanded xs (c.put_figures.ensures j.left xs walk)
     (then (c.put_steps.ensures j.left xs walk) (put_last (c.line-4.ensures (proof semiring j.left j.right xs) (j.left, j.right, xs, walk, names, refl)))))))

@@ -1,24 +1,7 @@
 -- `accept_sides` meets its contract: each refusal in its turn, or left's run kept.
 use Rattle.std.proofs.Common.{rules}
-use Rattle.text.proofs.Accepts.{letters_found, differ_found, after_found, refuse_letters, refuse_limits, refuse_same, accept_after, refuse_before, accept_one}
+use Rattle.text.proofs.Accepts.{letters_found, differ_found, after_found, accept_after, refuse_before}
 use Rattle.text.proofs.job.accept.accept_sides.Goals as goal
-
-pub returns-then-not-all_pass : goal.returns-then-not-all_pass
-returns-then-not-all_pass c =
-    let few = letters_found {xs = c.numbers-a.result.now} c.all_pass.ensures (λ ys b told. search rules) in
-    rw (← c.numbers-a.ensures.is) (refuse_letters c.args.limits few c.if-not-all_pass.true)
-
-pub returns-then-not-in_range : goal.returns-then-not-in_range
-returns-then-not-in_range c =
-    let few = letters_found {xs = c.numbers-a.result.now} c.all_pass.ensures (λ ys b told. search rules) in
-    rw (← c.numbers-a.ensures.is) (refuse_limits c.args.limits few c.if-not-all_pass.false c.in_range.ensures c.if-not-in_range.true)
-
-pub returns-then-not-all_pass-2 : goal.returns-then-not-all_pass-2
-returns-then-not-all_pass-2 c =
-    let few = letters_found {xs = c.numbers-a.result.now} c.all_pass.ensures (λ ys b told. search rules) in
-    let differ = differ_found {xs = c.numbers-a.result.now} c.all_pass-2.ensures (λ ys b told. search rules) in
-    rw (← c.numbers-a.ensures.is)
-    (refuse_same c.args.limits few c.if-not-all_pass.false c.in_range.ensures c.if-not-in_range.false differ c.if-not-all_pass-2.true)
 
 pub returns-then-all_pass : goal.returns-then-all_pass
 returns-then-all_pass c =
@@ -37,11 +20,3 @@ returns-then-not-alone c =
     rw (← c.numbers-a.ensures.is)
     (refuse_before c.args.limits few c.if-not-all_pass.false c.in_range.ensures c.if-not-in_range.false differ c.if-not-all_pass-2.false
     c.requires.0 later c.if-not-alone.true c.if-all_pass.false)
-
-pub returns : goal.returns
-returns c =
-    let few = letters_found {xs = c.numbers-a.result.now} c.all_pass.ensures (λ ys b told. search rules) in
-    let differ = differ_found {xs = c.numbers-a.result.now} c.all_pass-2.ensures (λ ys b told. search rules) in
-    rw (← c.numbers-a.ensures.is)
-    (accept_one c.args.limits few c.if-not-all_pass.false c.in_range.ensures c.if-not-in_range.false differ c.if-not-all_pass-2.false
-    c.if-not-alone.false c.orient.ensures)

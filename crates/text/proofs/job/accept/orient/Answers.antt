@@ -6,4 +6,4 @@ use Rattle.text.proofs.job.accept.orient.Goals as goal
 pub returns : goal.returns
 returns c =
     let kept = MatchOption-at_some _ _ _ c.unwrap.ensures c.of.ensures in
-    rw (kept.0, c.left.ensures.is) (kept_in_order c.run_of.ensures c.keep.ensures c.right.ensures.is c.hold_slot.ensures)
+    rw (kept.0, c.left.ensures.is) (kept_in_order c.run_of.ensures (rw c.new-sides.ensures at c.keep.ensures.kept) c.right.ensures.is c.hold_slot.ensures)

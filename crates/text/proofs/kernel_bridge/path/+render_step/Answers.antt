@@ -4,7 +4,6 @@ use Rattle.search.specs.Law.{semiring}
 use Rattle.search.specs.Coded.{name_of, direction_of, side_of}
 use Rattle.text.specs.Bytes.{ascii}
 use Rattle.text.specs.Proof.{part}
-use Rattle.text.proofs.StepTexts.{turn_nears}
 use Rattle.text.proofs.Framing.{part_size, line_here, line_below, below_held, below_inside}
 use Rattle.text.proofs.kernel_bridge.path.+render_step.Goals as goal
 
@@ -13,9 +12,6 @@ returns-in_default t c =
     let a = c.args in
     λ u v h k q p z.
     line_here a.names.now semiring (direction_of a.direction) (name_of a.law) c.side_at.ensures v h q c.in_default.is (c.render_law.ensures u v h k p z)
-
-pub render_step-requires : goal.render_step-requires
-render_step-requires t c = omega (arith, turn_nears c.side_at.ensures c.in-Some.side c.in-Some.part c.in-Some.is)
 
 pub returns : goal.returns
 unfolding ascii

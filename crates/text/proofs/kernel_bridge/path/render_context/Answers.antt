@@ -3,7 +3,7 @@ use mathlib.Core.Path.{sym, ap}
 use Rattle.search.specs.Line.{l, r}
 use Rattle.search.specs.Coded.{side_of}
 use Rattle.text.specs.Bytes.{ascii}
-use Rattle.text.specs.Proof.{part, context}
+use Rattle.text.specs.Proof.{part}
 use Rattle.text.specs.Rendered.{operator}
 use Rattle.text.proofs.Writing.{then, put_as, put_none}
 use Rattle.text.proofs.Rendered.{first_found, first_missing, held_past}

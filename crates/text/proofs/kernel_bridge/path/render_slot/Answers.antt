@@ -1,10 +1,6 @@
 -- `render_slot` meets its contract: the line by the step in slot k, from the term in the slot that it names.
-use Rattle.text.proofs.Walks.{no_start}
 use Rattle.text.proofs.Joining.{step_put}
 use Rattle.text.proofs.kernel_bridge.path.render_slot.Goals as goal
-
-pub returns-in_default : goal.returns-in_default
-returns-in_default c = λ ns j x S L. absurd (no_start c.origin_of.ensures L c.in_default.is)
 
 pub returns-in-From : goal.returns-in-From
 returns-in-From c =

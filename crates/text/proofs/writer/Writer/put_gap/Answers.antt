@@ -1,5 +1,4 @@
 -- `put_gap` meets its contract.
-use native.Mathlib.Omega.{arith}
 use Rattle.text.proofs.Items.{put_no_gap, put_some_gap}
 use Rattle.text.proofs.writer.Writer.put_gap.Goals as goal
 
