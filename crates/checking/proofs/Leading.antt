@@ -113,9 +113,6 @@ module _ {s rest : List ℕ} {x : Step} (l : LineAt s x rest) where
 pub record LeadsTo (left right s rest term : List ℕ) : Type 0 where
   pub decides : {r : Bool} → Leads term right rest r → Leads left right s r
 
-pub leads_starts : {left right s : List ℕ} → LeadsTo left right s s left
-leads_starts = record { decides = λ h. h }
-
 module _ {left right s rest term : List ℕ} (L : LeadsTo left right s rest term) where
   -- behind the last line the term is compared
   pub leads_ends : {r : Bool} → line_at rest ≡ none → Equals term right r → Leads left right s r
@@ -170,3 +167,6 @@ module _ {left right s rest term : List ℕ} (L : LeadsTo left right s rest term
                         rw (← w, ← g, f) (l'.exact T.term u zs T.whole hu M (small_rest (line_of l.layout v) zs (rw (← w) at small)));
                   });
             }
+
+-- what the next line tells: it is no term, too large or wrong, leads on, or there is none
+pub ruleset leads_told = (foul_result, large_result, leads_wrong, leads_on, leads_ends)

@@ -1,5 +1,5 @@
 -- The letters of the results, gathered one line after the other.
-use Rattle.std.proofs.Common.{◌≡◌, ℕ, ◌≤◌, leb, List, [], ◌∷◌, ◌++◌, length, take, length-take, refl, sym, ap, ◌∙◌, append_assoc, arith, Some, None}
+use Rattle.std.proofs.Common.{◌≡◌, ℕ, leb, List, [], ◌∷◌, ◌++◌, length, take, length-take, refl, sym, ap, ◌∙◌, append_assoc, arith, Some, None}
 use Prim.Native.Nat.{compare}
 use Rattle.std.specs.Prelude as answered
 use Rattle.std.specs.Option as answered-option
@@ -69,9 +69,6 @@ module _ {s rest : List ℕ} {x : Step} (l : LineAt s x rest) {run : List ℕ} (
 
 -- one line after the other
 
-take_short : (n : ℕ) (xs : List ℕ) → length (take n xs) ≤ length xs
-take_short n xs = omega (arith, length-take n xs)
-
 module _ {s names : List ℕ} {count : ℕ} where
   no_more_letters : line_at s ≡ none → {k : ℕ} → FewMore s names count (Some k)
   unfolding read_results flat_map
@@ -81,7 +78,7 @@ module _ {s names : List ℕ} {count : ℕ} where
             let w = none_left s h e in
             let g : some [] ≡ some ys = rw w at f in
             let v : [] ≡ ys = cc in
-            rw (← v) (sym (le-leb (length (take count names)) (length names) (take_short count names)));
+            rw (← v) (sym (le-leb (length (take count names)) (length names) (omega (arith, length-take count names))));
       }
 
   module _ {rest : List ℕ} {x : Step} (l : LineAt s x rest) where

@@ -4,7 +4,6 @@ pub mod Placed
 pub mod StepParts
 pub mod LineStarts
 pub mod StepLines
-pub mod Refused
 pub mod Results
 pub mod Lettering
 pub mod Walking

@@ -8,6 +8,7 @@ use Rattle.std.specs.Bool.{Decides}
 use Rattle.std.proofs.lemmas.Slice.Eq.{bytes_eq-Decides}
 use Rattle.std.proofs.Math.Option.{Option, none, some, or_else, bind}
 use mathlib.Core.List.{append-nil}
+use Rattle.std.proofs.lemmas.Iterator.Adapters.{option_map_id}
 use Rattle.search.specs.Law.{semiring}
 use Rattle.search.specs.Coded.{name_of, direction_of, laws}
 use Rattle.search.specs.declared.search.Law.{Law}
@@ -63,11 +64,6 @@ module _ {A B : Type 0} (text : B → List ℕ) (name : A → B) (bs : List ℕ)
       go true e = refl
       go false e = e
 
--- what the code found, which keeps what it finds as it is
-same_map : {A : Type 0} (r s : answered.Option A) → option_map (λ x. x) r ≡ s → r ≡ s
-same_map (Some x) s e = e
-same_map None s e = e
-
 -- ---- the law
 
 abbrev pub law_named : List ℕ → Law → Bool
@@ -75,7 +71,7 @@ law_named bs w = bytes_eq bs (law_name (name_of w))
 
 pub law_told : (bs : List ℕ) (r : answered.Option Law) → option_map (λ x. x) r ≡ find (law_named bs) laws → LawIn bs r
 unfolding read_law semiring
-law_told bs r e = go r (first_named law_name name_of bs laws ∙ ap (told law_name name_of bs) (sym (same_map r _ e)))
+law_told bs r e = go r (first_named law_name name_of bs laws ∙ ap (told law_name name_of bs) (sym e ∙ option_map_id r))
   where
     go : (r : answered.Option Law) → which law_name (map name_of laws) bs ≡ told law_name name_of bs r → LawIn bs r
     go (Some w) f = f
@@ -88,7 +84,7 @@ direction_named bs d = bytes_eq bs (direction (direction_of d))
 
 pub direction_told : (bs : List ℕ) (r : answered.Option Direction) → option_map (λ x. x) r ≡ find (direction_named bs) (Forward ∷ Back ∷ []) → DirectionIn bs r
 unfolding read_direction
-direction_told bs r e = go r (first_named direction direction_of bs (Forward ∷ Back ∷ []) ∙ ap (told direction direction_of bs) (sym (same_map r _ e)))
+direction_told bs r e = go r (first_named direction direction_of bs (Forward ∷ Back ∷ []) ∙ ap (told direction direction_of bs) (sym e ∙ option_map_id r))
   where
     go : (r : answered.Option Direction) → which direction (map direction_of (Forward ∷ Back ∷ [])) bs ≡ told direction direction_of bs r → DirectionIn bs r
     go (Some d) f = f

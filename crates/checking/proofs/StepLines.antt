@@ -1,8 +1,8 @@
 -- Step lines, and the two lines before them.
 use Rattle.std.proofs.Common.{◌≡◌, ℕ, Bool, true, false, eqb, List, [], ◌∷◌, length, refl, sym, ap, ◌∙◌, arith}
-use Rattle.std.proofs.lemmas.Bool.{false≢true}
 use mathlib.Core.Bool.{true≢false}
 use Rattle.std.proofs.Math.Option.{Option, none, some, bind as ◌then◌, none-ne-some}
+use Rattle.terms.proofs.Spelled.{some_of}
 use Rattle.terms.specs.Numbers.{is_some}
 use Rattle.terms.specs.Theory.Reflects.{Reflects, eqb_reflects}
 use Rattle.search.specs.Law.{semiring}
@@ -58,11 +58,6 @@ module _ {s rest : List ℕ} {x : Step} (l : LineAt s x rest) where
 
 -- the sides' lines, then the steps
 
-is_something : {A : Type 0} (o : Option A) → is_some o ≡ true → (x : A) × (o ≡ some x)
-unfolding is_some
-is_something none e = absurd (false≢true e)
-is_something (some x) e = (x, refl)
-
 is_nothing : {A : Type 0} (o : Option A) → is_some o ≡ false → o ≡ none
 unfolding is_some
 is_nothing none e = refl
@@ -97,4 +92,4 @@ module _ (s : List ℕ) where
             }
 
         pub laid_out : is_some (lines_from steps) ≡ true → LaidOut s w
-        laid_out h = let (xs, e) = is_something (lines_from steps) h in with_steps xs e
+        laid_out h = let (xs, e) = some_of (lines_from steps) h in with_steps xs e

@@ -1,6 +1,7 @@
 -- A place followed side by side: what is left of it, at the subterm reached.
 use Rattle.std.proofs.Common.{◌≡◌, ℕ, ◌+◌, ◌-◌, List, [], ◌∷◌, refl, ap, ◌∙◌, arith, Some, None}
 use Rattle.std.proofs.Math.Option.{Option, none, some, map}
+use Rattle.search.proofs.Using.{shifted}
 use Rattle.terms.specs.Term.{Term}
 use Rattle.terms.specs.Held.{IsRun, Holds}
 use Rattle.terms.proofs.Held.{holds_whole}
@@ -13,10 +14,6 @@ pub record Walks (xs : List ℕ) (t : Term) (p : List Side) (n : ℕ) (q : List 
   pub reached : Term
   pub held : Holds xs n reached
   pub positions : position p t ≡ map (λ i. n + i) (position q reached)
-
-same_map : (f g : ℕ → ℕ) → ((i : ℕ) → f i ≡ g i) → (o : Option ℕ) → map f o ≡ map g o
-same_map f g e none = refl
-same_map f g e (some i) = ap some (e i)
 
 map_twice : (f g : ℕ → ℕ) (o : Option ℕ) → map f (map g o) ≡ map (λ i. f (g i)) o
 map_twice f g none = refl
@@ -41,7 +38,7 @@ module _ {xs : List ℕ} {t : Term} {p : List Side} where
           held = e.held;
           positions =
               w.positions ∙ ap (map (λ i. n + i)) (e.positions q) ∙ map_twice (λ i. n + i) (λ i. k - n + i) (position q e.part)
-              ∙ same_map (λ i. n + (k - n + i)) (λ i. k + i) (λ i. omega arith) (position q e.part);
+              ∙ shifted (λ i. n + (k - n + i)) (λ i. k + i) (λ i. omega arith) (position q e.part);
         }
 
     -- there is no such part, and so no such place

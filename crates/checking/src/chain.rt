@@ -6,7 +6,7 @@ use super::place::position_of;
 use super::reader::Reader;
 use super::steps::StepLines;
 use search::chain::is_use;
-use search::search::{LARGEST, append};
+use search::search::{LARGEST, Pair, append};
 use terms::term;
 use text::job::side::Run;
 
@@ -23,16 +23,21 @@ fn follows(step: Step<'_>, source: &Run, target: &Run) -> bool
     let mut both = [0u32; BOTH];
     let middle = append(&mut both, 0, source.numbers());
     let end = append(&mut both, middle, target.numbers());
-    is_use(step.law, step.direction, &both[..end], middle, at)
+    let pair = Pair {
+        both: &both[..end],
+        middle,
+    };
+    is_use(step.law, step.direction, pair, at)
 }
 
 // Whether each line holds on the term before it, the first on left, and the last gives right, where all are well formed and no result has
 // over 31 nodes.
+#[tactic(auto, using(crate::proofs::Leading::leads_told))]
 pub fn leads<const BYTES: usize>(
     left: Run,
     right: &[u32],
     steps: StepLines<'_, BYTES>,
-    reader: &mut Reader<BYTES>,
+    reader: &mut Reader<'_, BYTES>,
 ) -> bool
     ensures { Leads left right.now steps.entry.text.now result }
 {

@@ -6,12 +6,10 @@ ghost use Rattle.checking.specs.Check.{good};
 ghost use Rattle.checking.specs.Claims.{CheckCall};
 
 use super::judge::judge;
-use text::put::{Text, put_in_front};
+use text::answer::answered;
+use text::put::Text;
 use text::refusal::{Refusal, returned};
 use text::writer::Writer;
-
-// The length of the answer.
-const GOOD: usize = 12;
 
 // The answer.
 struct Good;
@@ -30,11 +28,7 @@ fn answer(text: &[u8], output: &mut [u8]) -> Result<usize, Refusal>
     ensures length { IfOk result (λ n. n ≡ 12) }
 {
     judge(text)?;
-    if output.len() < GOOD {
-        return Err(Refusal::ShortOutput);
-    }
-    put_in_front(&Good, output);
-    Ok(GOOD)
+    answered(&Good, output)
 }
 
 pub fn check(text: &[u8], output: &mut [u8]) -> usize

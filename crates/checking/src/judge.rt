@@ -6,6 +6,7 @@ use super::chain::leads;
 use super::lines::{few_letters, layout_of, read_results};
 use super::reader::Reader;
 use super::steps::StepLines;
+use text::answer::Sides;
 use text::job::side::Run;
 use text::refusal::Refusal;
 
@@ -17,11 +18,15 @@ fn judge_terms(
     left: Run,
     right: Run,
     steps: StepLines<'_, MOST_BYTES>,
-    reader: &mut Reader<MOST_BYTES>,
+    reader: &mut Reader<'_, MOST_BYTES>,
 ) -> Result<(), Refusal>
     ensures { JudgesTerms left right steps.entry.text.now result }
 {
-    if !few_letters(left.numbers(), right.numbers(), steps, reader) {
+    let sides = Sides {
+        left: left.numbers(),
+        right: right.numbers(),
+    };
+    if !few_letters(sides, steps, reader) {
         return Err(Refusal::TooManyLetters);
     }
     if steps.text.is_empty() {
@@ -38,7 +43,7 @@ fn judge_lines(
     left: &[u8],
     right: &[u8],
     steps: StepLines<'_, MOST_BYTES>,
-    reader: &mut Reader<MOST_BYTES>,
+    reader: &mut Reader<'_, MOST_BYTES>,
 ) -> Result<(), Refusal>
     requires { (length left.now < 8192) × (length right.now < 8192) }
     ensures { JudgesLines left.now right.now steps.entry.text.now result }
@@ -60,8 +65,9 @@ pub fn judge(s: &[u8]) -> Result<(), Refusal>
     }
     let w = layout_of(s).ok_or(Refusal::Malformed)?;
     let steps = StepLines { text: w.steps };
+    let mut numbers = [0u32; MOST_BYTES];
     let mut reader = Reader {
-        numbers: [0; MOST_BYTES],
+        numbers: &mut numbers,
     };
     judge_lines(w.left, w.right, steps, &mut reader)
 }

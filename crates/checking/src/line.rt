@@ -3,14 +3,13 @@ ghost use Rattle.std.specs.Prelude.{◌≡◌, MatchOption};
 ghost use Rattle.std.proofs.Math.Option.{none};
 ghost use Rattle.terms.specs.Numbers.{is_some};
 ghost use Rattle.search.specs.Law.{semiring};
-ghost use Rattle.search.specs.Coded.{name_of, direction_of};
-ghost use Rattle.text.specs.StepText as text;
 ghost use Rattle.text.specs.StepText.{read_place};
 ghost use Rattle.checking.specs.Layout.{step_layout};
 ghost use Rattle.checking.specs.LineRead.{LawIn, DirectionIn, StepAt, line_at, LineAt};
 
 use search::search::{DIRECTIONS, Direction, LAWS, Law};
 use text::job::{keyed, up_to};
+use text::step::{direction_name, law_name};
 
 // Law and direction, and the place and the result as they are written.
 #[derive(Clone, Copy)]
@@ -19,36 +18,6 @@ pub struct Step<'a> {
     pub direction: Direction,
     pub place: &'a [u8],
     pub result: &'a [u8],
-}
-
-// A law's name.
-#[tactic(auto, unfolding(text::specs::StepText::law_name, text::specs::Bytes::ascii))]
-fn law_name(law: Law) -> &'static [u8]
-    ensures { result.now ≡ text.law_name (name_of law) }
-{
-    match law {
-        Law::AddAssoc => b"add_assoc",
-        Law::AddComm => b"add_comm",
-        Law::AddZeroRight => b"add_zero_right",
-        Law::MulAssoc => b"mul_assoc",
-        Law::MulOneLeft => b"mul_one_left",
-        Law::MulOneRight => b"mul_one_right",
-        Law::LeftDistrib => b"left_distrib",
-        Law::RightDistrib => b"right_distrib",
-        Law::ZeroMul => b"zero_mul",
-        Law::MulZero => b"mul_zero",
-    }
-}
-
-// A direction's name.
-#[tactic(auto, unfolding(text::specs::StepText::direction, text::specs::Bytes::ascii))]
-fn direction_name(direction: Direction) -> &'static [u8]
-    ensures { result.now ≡ text.direction (direction_of direction) }
-{
-    match direction {
-        Direction::Forward => b"forward",
-        Direction::Back => b"back",
-    }
 }
 
 // The law whose name a text is.
@@ -102,6 +71,7 @@ fn step_in(value: &[u8]) -> Option<Step<'_>>
 }
 
 // The step of the line that begins a text, and what follows the line.
+#[tactic(auto, using(crate::proofs::LineStarts::no_line, crate::proofs::LineStarts::no_step, crate::proofs::LineStarts::line_told), unfolding(text::specs::Bytes::ascii))]
 pub fn step_line(s: &[u8]) -> Option<(Step<'_>, &[u8])>
     ensures { MatchOption result (line_at s.now ≡ none) (λ v. LineAt s.now v.0 v.1.now) }
 {

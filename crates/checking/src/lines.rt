@@ -13,11 +13,10 @@ use super::reader::Reader;
 use super::steps::StepLines;
 use search::search::LARGEST;
 use terms::term;
+use text::answer::Sides;
 use text::job::keyed;
 use text::refusal::Refusal;
-
-// The most different letters of a derivation.
-const MOST_LETTERS: usize = 6;
+use words::candidate::LETTERS;
 
 // The sides, and the text that the step lines are.
 #[derive(Clone, Copy)]
@@ -28,6 +27,7 @@ pub struct Written<'a> {
 }
 
 // Whether a text is step lines.
+#[tactic(auto, using(crate::proofs::StepLines::formed_on, crate::proofs::StepLines::ended))]
 fn well_formed(text: &[u8]) -> bool
     ensures { result ≡ is_some (lines_from text.now) }
 {
@@ -39,6 +39,7 @@ fn well_formed(text: &[u8]) -> bool
 }
 
 // The terms in the lines of a derivation.
+#[tactic(auto, using(crate::proofs::StepLines::no_left, crate::proofs::StepLines::no_right, crate::proofs::StepLines::laid_out), unfolding(text::specs::Bytes::ascii))]
 pub fn layout_of(s: &[u8]) -> Option<Written<'_>>
     ensures { MatchOption result (check_layout semiring s.now ≡ none) (λ w. LaidOut s.now w) }
 {
@@ -54,7 +55,7 @@ pub fn layout_of(s: &[u8]) -> Option<Written<'_>>
 // all are read.
 pub fn read_results<const BYTES: usize>(
     steps: StepLines<'_, BYTES>,
-    reader: &mut Reader<BYTES>,
+    reader: &mut Reader<'_, BYTES>,
 ) -> Result<(), Refusal>
     ensures { ReadsResults steps.entry.text.now result }
 {
@@ -70,15 +71,14 @@ pub fn read_results<const BYTES: usize>(
 
 // The different letters of both sides and all results, in the front of `names`: how many there are, if there is room for all.
 fn letters<const BYTES: usize>(
-    left: &[u32],
-    right: &[u32],
+    sides: Sides<'_>,
     steps: StepLines<'_, BYTES>,
-    reader: &mut Reader<BYTES>,
+    reader: &mut Reader<'_, BYTES>,
     names: &mut [u32],
 ) -> Option<usize>
-    ensures { Letters left.now right.now steps.entry.text.now (length names.old) result }
+    ensures { Letters sides.entry.left.now sides.entry.right.now steps.entry.text.now (length names.old) result }
 {
-    let mut count = term::letters(left, right, names)?;
+    let mut count = term::letters(sides.left, sides.right, names)?;
     for step in steps {
         count = term::gather(reader.read(step.result)?, names, count)?;
     }
@@ -87,13 +87,12 @@ fn letters<const BYTES: usize>(
 
 // Whether both sides and all results together have at most six different letters, where all lines are well formed and all results terms.
 pub fn few_letters<const BYTES: usize>(
-    left: &[u32],
-    right: &[u32],
+    sides: Sides<'_>,
     steps: StepLines<'_, BYTES>,
-    reader: &mut Reader<BYTES>,
+    reader: &mut Reader<'_, BYTES>,
 ) -> bool
-    ensures { FewLetters left.now right.now steps.entry.text.now result }
+    ensures { FewLetters sides.entry.left.now sides.entry.right.now steps.entry.text.now result }
 {
-    let mut names = [0u32; MOST_LETTERS];
-    letters(left, right, steps, reader, &mut names).is_some()
+    let mut names = [0u32; LETTERS];
+    letters(sides, steps, reader, &mut names).is_some()
 }

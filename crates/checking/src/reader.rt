@@ -1,24 +1,27 @@
 // Terms read one at a time.
-ghost use Rattle.std.specs.Prelude.{◌≡◌, ◌<◌, length, MatchOption};
+ghost use Rattle.std.specs.Prelude.{◌≡◌, ◌<◌, ◌≤◌, length, MatchOption};
 ghost use Rattle.std.proofs.Math.Option.{none};
 ghost use Rattle.text.specs.TermText.{read_term};
 ghost use Rattle.checking.specs.LinesRead.{ReadsTerm};
 
 use text::job::side::read_term;
 
-// Room for the items of any term in a text of at most `BYTES` bytes. A text needs it once, however many lines it has.
+// Lent room for the items of any term in a text of at most `BYTES` bytes. A text needs it once, however many lines it has. It goes beside the
+// step lines and not in one struct with them: it is room and no part of the derivation, and of such a struct each contract would have to say
+// that the lines stay.
 #[derive(Drop)]
-pub struct Reader<const BYTES: usize> {
-    pub numbers: [u32; BYTES],
+pub struct Reader<'a, const BYTES: usize> {
+    pub numbers: &'a mut [u32],
+    ghost long: { BYTES ≤ length numbers.now },
 }
 
-impl<const BYTES: usize> Reader<BYTES> {
+impl<'a, const BYTES: usize> Reader<'a, BYTES> {
     // The run of the term that a text spells.
     pub fn read(&mut self, text: &[u8]) -> Option<&[u32]>
         requires { length text.now < BYTES }
         ensures { MatchOption result (read_term text.now ≡ none) (λ run. ReadsTerm text.now run.now) }
     {
-        let n = read_term(text, &mut self.numbers)?;
+        let n = read_term(text, self.numbers)?;
         Some(&self.numbers[..n])
     }
 }

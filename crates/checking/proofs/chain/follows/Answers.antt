@@ -10,16 +10,18 @@ joined before after first second e f g h = cc
 pub returns-in_default : goal.returns-in_default
 returns-in_default c = no_place c.args.step c.args.source.now c.args.target.now (rw c.numbers.ensures.is at c.in_default.ensures)
 
-pub is_use-requires : goal.is_use-requires
-is_use-requires c =
-    let p = c.in-Some.ensures in
+pub invariant_of-pair : goal.invariant_of-pair
+invariant_of-pair c =
     let source = c.args.source.now in
     let target = c.args.target.now in
     let both : take c.append-end.result c.append-end.new.out ≡ source ++ target =
-    joined c.numbers-2.result.now c.numbers-3.result.now source target c.numbers-2.ensures.is c.numbers-3.ensures.is c.append-middle.ensures.1 c.append-end.ensures.1 in (
-      omega (arith, p.within, ap length c.numbers.ensures.is, ap length c.numbers-2.ensures.is),
-      omega (arith, ap length both, length-append source target, ap length c.numbers-2.ensures.is),
-    )
+    joined c.numbers-2.result.now c.numbers-3.result.now source target c.numbers-2.ensures.is c.numbers-3.ensures.is c.append-middle.ensures.1 c.append-end.ensures.1 in
+    record { within = omega (arith, ap length both, length-append source target, ap length c.numbers-2.ensures.is) }
+
+pub is_use-requires : goal.is_use-requires
+is_use-requires c =
+    let p = c.in-Some.ensures in
+    omega (arith, p.within, ap length c.numbers.ensures.is, ap length c.numbers-2.ensures.is)
 
 pub returns : goal.returns
 returns c =

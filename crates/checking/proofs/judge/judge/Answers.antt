@@ -1,7 +1,7 @@
 -- `judge` meets its contract: the lines of a text that is not too long.
 use Rattle.std.proofs.Common.{arith}
 use Rattle.text.specs.declared.refusal.Refusal.TheVariants.{Malformed}
-use Rattle.checking.proofs.Refused.{refused_by}
+use Rattle.text.proofs.Refused.{refused_by}
 use Rattle.checking.proofs.Judging.{judge_long, judge_malformed, judge_laid}
 use Rattle.checking.proofs.judge.judge.Goals as goal
 

@@ -1,7 +1,7 @@
 -- `judge_lines` meets its contract: the terms are read, then asked for their size, then judged.
 use Rattle.std.proofs.lemmas.Result.{err_from_is_err_and}
 use Rattle.text.specs.declared.refusal.Refusal.TheVariants.{NoTerm, TooLarge}
-use Rattle.checking.proofs.Refused.{refused_by}
+use Rattle.text.proofs.Refused.{refused_by}
 use Rattle.checking.proofs.Judging.{foul_left, foul_right, results_refused, large_left, large_right, lines_judged}
 use Rattle.checking.proofs.judge.judge_lines.Goals as goal
 

@@ -7,4 +7,4 @@ abbrev pub invariant-loop-step : goal.invariant-loop-step
 invariant-loop-step g l =
     (goal.iterator-loop-step g).can_next l.step-iterator
     × (goal.iterator-loop-step g).is_finite l.step-iterator
-    × LettersTo l.left l.right l.steps.text.now (length l.fn.names) l.step-iterator.text.now l.names l.count
+    × LettersTo l.sides.left.now l.sides.right.now l.steps.text.now (length l.fn.names) l.step-iterator.text.now l.names l.count

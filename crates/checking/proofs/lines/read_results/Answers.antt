@@ -1,14 +1,10 @@
-use Rattle.std.proofs.Common.{arith}
 use Rattle.text.specs.declared.refusal.Refusal.TheVariants.{NoTerm}
-use Rattle.checking.proofs.Refused.{refused_by}
+use Rattle.text.proofs.Refused.{refused_by}
 use Rattle.checking.proofs.Results.{at_first, all_read, foul_result, small_result, large_result}
 use Rattle.checking.proofs.lines.read_results.Goals as goal
 
 pub loop-step-init : goal.loop-step-init
 loop-step-init g c = (tt, tt, rw c.into_iter-step-iterator.ensures.into_iter_gives (at_first c.args.steps.text.now))
-
-pub read-requires : goal.read-requires
-read-requires g c = omega (arith, c.in-Some.ensures.steps.shorter, c.loop-step.step-iterator.short)
 
 pub returns-in_err-run : goal.returns-in_err-run
 returns-in_err-run g c =
