@@ -33,7 +33,7 @@ accepted_harmless {k = k} inside E e =
 -- ---- a put
 
 -- the lists were made
-module _ (cat : List ℕ) (k n : ℕ) (inside : k < PLACES) (key : Key) {xs ys : List ℕ} {room : ℕ} {e : Sides} (M : MakesLists key xs ys room e)
+module _ (cat : List ℕ) (k n : ℕ) (key : Key) {xs ys : List ℕ} {room : ℕ} {e : Sides} (M : MakesLists key xs ys room e)
     (enough : SLOT * MOST ≤ room) where
   -- no place has room for them
   pub lists_long : (ROOM < length e.left) ⊎ (ROOM < length e.right) → PutsLists cat k n key xs ys 15 cat

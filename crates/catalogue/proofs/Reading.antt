@@ -1,5 +1,5 @@
 -- The texts of a put and of a withdrawal, line by line.
-use Rattle.std.proofs.Common.{◌≡◌, ℕ, ◌<◌, ◌≤◌, Bool, true, false, T, leb, List, [], ◌∷◌, length, sym, refl, ap, ◌∙◌, arith, le-leb}
+use Rattle.std.proofs.Common.{◌≡◌, ℕ, ◌<◌, ◌≤◌, Bool, true, false, leb, List, [], ◌∷◌, length, sym, refl, ap, ◌∙◌, arith, le-leb}
 use mathlib.Core.Option.{Option, none, some, none-ne-some}
 use borrow.Author.Tests.{lt-leb}
 use Rattle.terms.specs.Theory.Reflects.{Reflects, both_reflect}
@@ -18,7 +18,7 @@ use Rattle.text.specs.Theory.JobText.{job_accepted}
 use Rattle.catalogue.specs.Catalogue.{Entry}
 use Rattle.catalogue.specs.Texts.{Kind, key_name, read_key, in_catalogue, read_put, read_withdrawal, lines_by}
 use Rattle.catalogue.specs.Texts as texts
-use Rattle.catalogue.specs.Theory.Written.{key_read}
+use Rattle.catalogue.specs.Theory.Written.{key_read, numbers_in_range}
 use Rattle.catalogue.specs.Promises.{key_of, entry, NumberAt, Unnumbered, KeyAt, Unkeyed, TakesPut}
 use Rattle.catalogue.specs.declared.kind.Key.{Key}
 
@@ -35,13 +35,6 @@ range_true n low high = go (in_catalogue n) (in_range n)
     go true h = refl
     go false h = absurd (h (low, high))
 
-range_told : (n : ℕ) → T (in_catalogue n) → (1 ≤ n) × (n ≤ 999)
-range_told n t = go (in_catalogue n) (in_range n) t
-  where
-    go : (b : Bool) → Reflects ((1 ≤ n) × (n ≤ 999)) b → T b → (1 ≤ n) × (n ≤ 999)
-    go true h t = h
-    go false h t = absurd t
-
 module _ (s : List ℕ) where
   pub no_number : Unlimited s (ascii "number=") → Unnumbered s
   no_number U m f t = absurd (none-ne-some m (sym (U "number=" refl) ∙ f))
@@ -53,7 +46,7 @@ module _ (s : List ℕ) where
 
     pub number_out : (1 ≤ n → n ≤ 999 → ⊥) → Unnumbered s
     number_out h m f t =
-        let (low, high) = range_told m.number t in
+        let (low, high) = numbers_in_range m.number t in
         let e = stated m f in
         h (omega (arith, e, L.is)) (omega (arith, e, L.is))
 

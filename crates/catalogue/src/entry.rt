@@ -9,6 +9,7 @@ use crate::put::put_equation;
 use crate::read::{read_put, read_withdrawal};
 use crate::withdraw::withdraw_entry;
 use search::slots::{SLOT, run_of};
+use text::answer::Sides;
 use text::refusal::{Refusal, returned};
 
 // The count of kinds after a put.
@@ -20,13 +21,11 @@ fn try_put(text: &[u8], catalogue: &mut [u32]) -> Result<usize, Refusal>
     };
     let mut rights = [0u32; SLOT];
     let put = read_put(text, &mut rights)?;
-    put_equation(
-        catalogue,
-        put.number,
-        put.key,
-        put.left.numbers(),
-        run_of(&rights, 0),
-    )
+    let sides = Sides {
+        left: put.left.numbers(),
+        right: run_of(&rights, 0),
+    };
+    put_equation(catalogue, put.number, put.key, sides)
 }
 
 pub fn put(text: &[u8], catalogue: &mut [u32]) -> usize

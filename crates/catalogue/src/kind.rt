@@ -2,6 +2,7 @@
 ghost use Rattle.std.specs.Prelude.{◌≡◌};
 ghost use Rattle.catalogue.specs.Promises.{number_of, MakesLists};
 
+use text::answer::Sides;
 use text::answer::rename::same_words;
 use words::candidate::words::canonical_words;
 use words::candidate::{Equation, canonical_terms};
@@ -22,12 +23,14 @@ impl From<Key> for u32 {
 }
 
 // The lists for the lines of a key: the renamed sides, or the renamed lists of words, of which there are none where the words agree.
-pub fn lists_of<const N: usize>(key: Key, left: &[u32], right: &[u32], lists: &mut Equation<N>)
-    ensures { MakesLists key left.now right.now N lists.new }
+pub fn lists_of(key: Key, sides: Sides<'_>, lists: &mut Equation<'_>)
+    ensures made { MakesLists key sides.entry.left.now sides.entry.right.now lists.old.room lists.new.sides }
+    ensures room { lists.new.room ≡ lists.old.room }
 {
+    let Sides { left, right } = sides;
     match key {
         Key::Raw => canonical_terms(left, right, lists),
-        Key::Words if same_words(left, right) => lists.keep(&[], &[]),
+        Key::Words if same_words(Sides { left, right }) => lists.keep(&[], &[]),
         Key::Words => canonical_words(left, right, lists),
     }
 }

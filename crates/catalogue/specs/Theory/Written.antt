@@ -21,7 +21,7 @@ key_only : (bs : List ℕ) {k : Key} → read_key bs ≡ some k → bs ≡ key_n
 unfolding read_key
 key_only bs = which_only key_name (raw ∷ worded ∷ []) bs
 
-numbers_in_range : (n : ℕ) → T (in_catalogue n) → (1 ≤ n) × (n ≤ 999)
+pub numbers_in_range : (n : ℕ) → T (in_catalogue n) → (1 ≤ n) × (n ≤ 999)
 unfolding in_catalogue
 numbers_in_range n t = let (low, high) = both (nat_le 1 n) (nat_le n 999) t in (leb→le 1 n low, leb→le n 999 high)
 

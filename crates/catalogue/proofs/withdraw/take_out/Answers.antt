@@ -7,9 +7,9 @@ use Rattle.catalogue.proofs.withdraw.take_out.Goals as goal
 
 pub returns : goal.returns
 returns c =
-    taken_counted c.told-catalogue c.requires c.if-shared.keep_count
+    taken_counted c.told-catalogue c.start.ensures.within c.if-shared.set_count
     (λ key left right K l r.
     elim c.if-shared.branch [
-      | then-shared w ↦ inl (w.if-shared.ensures key left right K l r, w.keep_count-is)
+      | then-shared w ↦ inl (w.if-shared.ensures key left right K l r, w.set_count-is)
       | else-shared w ↦ inr (w.if-shared.ensures key left right K l r, λ p. omega (arith, c.fits-catalogue COUNT))
-    ]) c.keep_count.ensures
+    ]) (rw c.start.ensures.is at c.set_count.ensures)
