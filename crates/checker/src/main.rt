@@ -6,25 +6,16 @@ ghost use Rattle.checking.specs.Check.{program};
 
 use checking::entry;
 use std::io::{self, Read, Write};
-use text::answer::outcome::Refused;
-use text::put::put_in_front;
+use text::answer::outcome::printed;
 
 const OUTPUT: usize = 64;
 
-// A number from here on is an answer's, a lower one a refusal's.
-const ANSWER: usize = 100;
-
-// What the program prints, at the front of the output: the answer, or two lines with the refusal's number. The program of
-// FIND has these lines over its own entry; no library below both says what a program prints, and one for it is no plainer.
+// What the program prints, at the front of the output: the answer, or two lines with the refusal's number.
 fn respond(input: &[u8], output: &mut [u8; OUTPUT]) -> usize
     ensures { Prints (program input.now) output.new result }
 {
     let number = entry::check(input, output);
-    if ANSWER <= number {
-        number - ANSWER
-    } else {
-        put_in_front(&Refused(number), output)
-    }
+    printed(number, output)
 }
 
 // One byte more than a derivation may have is read, so that a longer input is seen to be too long.

@@ -5,29 +5,20 @@ ghost use Rattle.text.specs.Entry.{program};
 ghost use Rattle.text.specs.Prints.{Prints};
 
 use std::io::{self, Read, Write};
-use text::answer::outcome::Refused;
+use text::answer::outcome::printed;
 use text::entry;
-use text::put::put_in_front;
 
 // 400 slots.
 const WORKSPACE: usize = 16000;
 
 const OUTPUT: usize = 32768;
 
-// A number from here on is an answer's, a lower one a refusal's.
-const ANSWER: usize = 100;
-
-// What the program prints, at the front of the output: the answer, or two lines with the refusal's number. The program of
-// CHECK has these lines over its own entry; no library below both says what a program prints, and one for it is no plainer.
+// What the program prints, at the front of the output: the answer, or two lines with the refusal's number.
 fn respond(input: &[u8], output: &mut [u8; OUTPUT], workspace: &mut [u32; WORKSPACE]) -> usize
     ensures { Prints (program input.now) output.new result }
 {
     let number = entry::find(input, output, workspace);
-    if ANSWER <= number {
-        number - ANSWER
-    } else {
-        put_in_front(&Refused(number), output)
-    }
+    printed(number, output)
 }
 
 // One byte more than a job may have is read, so that a longer input is seen to be too long.

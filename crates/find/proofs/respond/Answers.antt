@@ -1,11 +1,7 @@
--- `respond` meets its contract: below 100 the number is a refusal's, and its text is put.
-use Rattle.std.proofs.Common.{refl, arith}
-use Rattle.find.proofs.Printing.{answer_prints, refusal_prints}
+-- `respond` meets its contract: what is printed by the number that the entry returned is what is due.
+use Rattle.std.proofs.Common.{arith}
+use Rattle.find.proofs.Printing.{call_prints}
 use Rattle.find.proofs.respond.Goals as goal
 
-pub returns-then-number-ge-ANSWER : goal.returns-then-number-ge-ANSWER
-returns-then-number-ge-ANSWER c = answer_prints (omega arith) (omega arith) c.find-number.ensures c.if-number-ge-ANSWER.true
-
-pub returns-else-number-ge-ANSWER : goal.returns-else-number-ge-ANSWER
-returns-else-number-ge-ANSWER c =
-    refusal_prints (omega arith) (omega arith) c.find-number.ensures c.if-number-ge-ANSWER.false (c.put_in_front.ensures _ refl)
+pub returns : goal.returns
+returns c = call_prints (omega arith) (omega arith) c.find-number.ensures c.printed.ensures
