@@ -1,5 +1,5 @@
 -- What a stored call is made on, what is due of it, and what a fault says of it.
-use Rattle.std.specs.Prelude.{◌≡◌, ℕ, ◌+◌, ◌*◌, ◌%◌, ◌<◌, Bool, true, false, not, ◌&&◌, ◌⊎◌, List, ◌++◌, length, take, drop, ◌==◌, ◌≢◌, nat_le, nat_lt, Result, Ok, Err, if◌then◌else◌}
+use Rattle.std.specs.Prelude.{◌≡◌, ℕ, ◌+◌, ◌*◌, ◌%◌, ◌<◌, Bool, true, false, not, ◌&&◌, ◌⊎◌, List, ◌++◌, length, take, drop, ◌==◌, ◌≢◌, nat_le, nat_lt, Option, Some, None, Result, Ok, Err, if◌then◌else◌}
 use Rattle.text.specs.Entry.{Call, FindCall}
 use Rattle.text.specs.Words.{words_entry}
 use Rattle.text.specs.Rename.{rename_entry}
@@ -19,8 +19,9 @@ abbrev pub lent_numbers : (slots : ℕ) → ℕ
 lent_numbers slots = if nat_lt 1000 slots then 41000 else (slots * 40 + slots % 40)
 
 -- the number to return: the stored one, or 100 and the answer's length
-abbrev pub due_number : (stored : ℕ) (answer : List ℕ) → ℕ
-due_number stored answer = if stored == 0 then (100 + length answer) else stored
+abbrev pub due_number : (stored : Option ℕ) (answer : List ℕ) → ℕ
+due_number (Some n) answer = n
+due_number None answer = 100 + length answer
 
 -- whether a call of FIND that returns this number has searched: it is no refusal, or it is 7 or 8
 abbrev pub is_searched : (number : ℕ) → Bool

@@ -1,5 +1,5 @@
 -- What is counted of the calls.
-use Rattle.std.specs.Prelude.{ℕ, ◌+◌, ◌&&◌, [], nat_le, nat_lt, slice_index, slice_set, slice_index_or, Result, Ok, Err, if◌then◌else◌}
+use Rattle.std.specs.Prelude.{ℕ, ◌+◌, ◌&&◌, [], nat_le, nat_lt, slice_index, slice_set, slice_index_or, Option, Some, None, Result, Ok, Err, if◌then◌else◌}
 use Rattle.replay.specs.Records.{number_of}
 use Rattle.replay.specs.declared.record.Record.{Record}
 use Rattle.replay.specs.declared.record.Entry.{Entry}
@@ -17,12 +17,13 @@ one_more place t =
     let row = slice_set (slice_index_or t.counts place.0 []) place.1 (n + 1) in
     if nat_lt n 1000000 then record { counts = slice_set t.counts place.0 row } else t
 
--- the number of a refusal; 0 for an answer, which is stored as 0 or, of PUT and WITHDRAW, as 100 and more
-abbrev pub refusal : (number : ℕ) → ℕ
-refusal number = if nat_lt 99 number then 0 else number
+-- the number of a refusal; 0 for an answer, of which none is stored or, of PUT and WITHDRAW, 100 and more
+abbrev pub refusal : (number : Option ℕ) → ℕ
+refusal (Some n) = if nat_lt 99 n then 0 else n
+refusal None = 0
 
 -- where a call is counted by its entry and its stored number; with all calls where one of them is too large
-abbrev pub place : (entry : Entry) (number : ℕ) → ℕ × ℕ
+abbrev pub place : (entry : Entry) (number : Option ℕ) → ℕ × ℕ
 place entry number =
     if nat_le (number_of entry) 6 && nat_le (refusal number) 15 then (number_of entry, refusal number) else (0, 0)
 

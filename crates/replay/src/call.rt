@@ -4,8 +4,10 @@ ghost use Rattle.replay.specs.Calls.{lent_numbers, due_number, changed_to, is_li
 
 use crate::dirt;
 use crate::record::{Entry, Record};
+use search::slots::SLOT;
 use std::error::Error;
 use std::fmt;
+use text::refusal::ANSWERED;
 
 // What is not as it is stored.
 #[derive(Clone, Copy, Debug, PartialEq, Eq)]
@@ -32,12 +34,6 @@ impl fmt::Display for Fault {
 
 impl Error for Fault {}
 
-// A number from here on is an answer's, a lower one a refusal's.
-pub const ANSWER: usize = 100;
-
-// How many numbers a slot takes.
-const SLOT: usize = 40;
-
 // More slots are lent no more numbers.
 const MOST_SLOTS: usize = 1000;
 
@@ -55,14 +51,10 @@ fn numbers_for(slots: usize) -> usize
 }
 
 // The number that the call is to return: the stored one, or 100 and the answer's length.
-fn due_number(stored: usize, answer: &[u8]) -> usize
+fn due_number(stored: Option<usize>, answer: &[u8]) -> usize
     ensures { result ≡ due_number stored answer.now }
 {
-    if stored == 0 {
-        ANSWER + answer.len()
-    } else {
-        stored
-    }
+    stored.unwrap_or(ANSWERED + answer.len())
 }
 
 // Makes a call of an entry, on those of the buffers that it takes.
@@ -85,26 +77,30 @@ fn made(
     }
 }
 
-// Where the workspace may be changed up to: in the lent part by FIND, but not by its refusals 1 to 6, 9 and 10; nowhere
-// by the others.
-fn changed_up_to(entry: Entry, number: usize, lent: usize) -> usize
-    ensures { result ≡ changed_to entry number lent }
-{
-    match (entry, number) {
-        (Entry::Find, ..=6 | 9 | 10) => 0,
-        (Entry::Find, _) => lent,
-        _ => 0,
+impl Entry {
+    // Where a call that returned a number may have changed the workspace up to: in the lent part by FIND, but not by
+    // its refusals 1 to 6, 9 and 10; nowhere by the others. Refusals stand here by their numbers, as the entries return
+    // them.
+    fn changed_up_to(self, number: usize, lent: usize) -> usize
+        ensures { result ≡ changed_to self number lent }
+    {
+        match (self, number) {
+            (Entry::Find, ..=6 | 9 | 10) => 0,
+            (Entry::Find, _) => lent,
+            _ => 0,
+        }
+    }
+
+    // Whether it may have changed the catalogue: one of PUT or WITHDRAW that is not refused.
+    fn is_listing(self, number: usize) -> bool
+        ensures { result ≡ is_listing self number }
+    {
+        ANSWERED <= number && matches!(self, Entry::Put | Entry::Withdraw)
     }
 }
 
-// Whether a call may change the catalogue: one of PUT or WITHDRAW that is not refused.
-fn is_listing(entry: Entry, number: usize) -> bool
-    ensures { result ≡ is_listing entry number }
-{
-    ANSWER <= number && matches!(entry, Entry::Put | Entry::Withdraw)
-}
-
-// The buffers that calls are made on.
+// The buffers that calls are made on, of any lengths. The copies are by type as long as what they copy: this program
+// alone makes them, and with a shorter copy a call would be held to a part of what was there.
 #[derive(Drop)]
 pub struct Buffers<const OUTPUT: usize, const WORKSPACE: usize, const CATALOGUE: usize> {
     pub output: [u8; OUTPUT],
@@ -135,11 +131,11 @@ impl<const OUTPUT: usize, const WORKSPACE: usize, const CATALOGUE: usize> Buffer
         if !dirt::is_due(&self.output, call.answer, first) {
             return Err(Fault::Output);
         }
-        let from = changed_up_to(call.entry, number, lent);
+        let from = call.entry.changed_up_to(number, lent);
         if !dirt::is_same_from(&self.workspace, &self.former, from) {
             return Err(Fault::Workspace);
         }
-        if !is_listing(call.entry, number) && self.catalogue != self.before {
+        if !call.entry.is_listing(number) && self.catalogue != self.before {
             return Err(Fault::Catalogue);
         }
         Ok(())

@@ -27,13 +27,13 @@ impl Dirty for u32 {
     }
 }
 
-// Fills a buffer from its first number on; by index, since a proof knows no element that is written through `iter_mut`.
+// Fills a buffer from its first number on.
 pub fn fill<T: Dirty>(buffer: &mut [T], first: T)
     ensures { buffer.new ≡ dirt T.following first (length buffer.old) }
 {
     let mut next = first;
-    for i in 0..buffer.len() {
-        buffer[i] = next;
+    for slot in buffer.iter_mut() {
+        *slot = next;
         next = next.following();
     }
 }

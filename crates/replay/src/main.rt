@@ -30,7 +30,8 @@ fn read_full(input: &mut impl Read, buffer: &mut [u8]) -> io::Result<usize>
     ensures { IfOk result (λ n. n ≤ length buffer.new) }
 {
     let mut done: usize = 0;
-    // A read that is interrupted is made again; one into a full buffer answers 0.
+    // A read that is interrupted is made again; one into a full buffer answers 0. The bound, which no input reaches, is
+    // there so that the loop is proved to end.
     for _ in 0..u64::MAX {
         match input.read(&mut buffer[done..]) {
             Ok(0) => break,
@@ -61,6 +62,7 @@ impl Replay {
         let mut rest = list;
         while list.len() - upto < rest.len() {
             let Some((call, behind)) = record::read(rest) else {
+                // Nothing of the rest can be read.
                 self.report.print("the list breaks off\n");
                 return 0;
             };

@@ -34,12 +34,12 @@ impl From<usize> for Entry {
     }
 }
 
-impl Entry {
-    // The number that stands for the entry in the list.
-    pub fn number(self) -> usize
-        ensures { result ≡ number_of self }
-    {
-        match self {
+// The number that stands for the entry in the list.
+impl From<Entry> for usize {
+    ghost from_gives = { λ entry n. n ≡ number_of entry };
+
+    fn from(entry: Entry) -> usize {
+        match entry {
             Entry::Find => 1,
             Entry::Words => 2,
             Entry::Rename => 3,
@@ -53,7 +53,7 @@ impl Entry {
 
 impl fmt::Display for Entry {
     fn fmt<W: fmt::Write>(&self, f: &mut fmt::Formatter<W>) -> fmt::Result {
-        write!(f, "{}", self.number())
+        write!(f, "{}", usize::from(*self))
     }
 }
 
@@ -63,7 +63,8 @@ pub struct Record<'a> {
     pub entry: Entry,
     pub slots: usize,
     pub room: usize,
-    pub number: usize,
+    // The number to return, or none (in the list, 0) where it follows from the answer's length.
+    pub number: Option<usize>,
     pub job: &'a [u8],
     pub answer: &'a [u8],
 }
@@ -95,7 +96,7 @@ pub fn read(list: &[u8]) -> Option<(Record<'_>, &[u8])>
     let (slots, rest) = number(rest);
     let (room, rest) = number(rest);
     let (job_length, rest) = number(rest);
-    let (due, rest) = number(rest);
+    let (stored, rest) = number(rest);
     let (answer_length, rest) = number(rest);
     let (job, rest) = rest.split_at_checked(job_length)?;
     let (answer, rest) = rest.split_at_checked(answer_length)?;
@@ -103,7 +104,7 @@ pub fn read(list: &[u8]) -> Option<(Record<'_>, &[u8])>
         entry: Entry::from(entry),
         slots,
         room,
-        number: due,
+        number: (stored != 0).then_some(stored),
         job,
         answer,
     };

@@ -2,9 +2,10 @@
 ghost use Rattle.std.specs.Prelude.{◌≡◌, ◌<◌, ℕ};
 ghost use Rattle.replay.specs.Tally.{count_at, one_more, refusal, place, counted};
 
-use crate::call::{ANSWER, Fault};
-use crate::record::{Entry, Record};
+use crate::call::Fault;
+use crate::record::Record;
 use std::fmt;
+use text::refusal::ANSWERED;
 
 const ROWS: usize = 7;
 
@@ -25,21 +26,24 @@ pub struct Tally {
     pub counts: [[u32; COLUMNS]; ROWS],
 }
 
-// The number of a refusal: an answer is stored as 0 or, of PUT and WITHDRAW, as 100 and more.
-fn refusal_of(number: usize) -> usize
+// The number of a refusal, or 0 for an answer: of PUT and WITHDRAW, an answer has the stored number 100 or more.
+fn refusal_of(number: Option<usize>) -> usize
     ensures { result ≡ refusal number }
 {
-    if ANSWER <= number { 0 } else { number }
+    match number {
+        Some(n) if n < ANSWERED => n,
+        _ => 0,
+    }
 }
 
 // Where a call is counted by its entry and what it is to give: with all calls where one of them is too large.
-fn place_of(entry: Entry, number: usize) -> (usize, usize)
-    ensures place { result ≡ place entry number }
+fn place_of(call: &Record<'_>) -> (usize, usize)
+    ensures place { result ≡ place call.now.entry call.now.number }
     ensures row { result.0 < ROWS }
     ensures column { result.1 < COLUMNS }
 {
-    let row = entry.number();
-    let column = refusal_of(number);
+    let row = usize::from(call.entry);
+    let column = refusal_of(call.number);
     if row < ROWS && column < COLUMNS {
         (row, column)
     } else {
@@ -84,7 +88,7 @@ impl Tally {
         ensures { self.new ≡ counted call.now held self.old }
     {
         self.add_one(CALLS);
-        self.add_one(place_of(call.entry, call.number));
+        self.add_one(place_of(call));
         if held.is_err() {
             self.add_one(DIFFERENCES);
         }

@@ -3,7 +3,7 @@ use Rattle.std.proofs.Common.{◌≡◌, ◌-◌, ◌++◌, length, take}
 use Rattle.replay.specs.Dirt.{dirt}
 use Rattle.replay.proofs.dirt.fill.Given as goal
 
-abbrev pub invariant-loop-i : goal.invariant-loop-i
-invariant-loop-i g l =
+abbrev pub invariant-loop-slot : goal.invariant-loop-slot
+invariant-loop-slot g l =
     let following = g.T.Dirty.following in
-    take l.i l.buffer ++ dirt following l.next (length l.initial.buffer - l.i) ≡ dirt following l.initial.next (length l.initial.buffer)
+    take l.slot-index l.buffer ++ dirt following l.next (length l.initial.buffer - l.slot-index) ≡ dirt following l.initial.next (length l.initial.buffer)
