@@ -25,13 +25,14 @@ fn fours_agree(a: &[u32], b: &[u32]) -> usize
     4 * both
 }
 
-// The place of the first number that differs, if any does: fours are passed over while they agree.
+// The place of the first number that differs, if any does, where so many at the front agree.
 // A list that is a beginning of the other, as no run is, differs from it at its end.
-pub fn first_difference(a: &[u32], b: &[u32]) -> Option<usize>
+fn difference_from(a: &[u32], b: &[u32], from: usize) -> Option<usize>
+    requires { Agree a.now b.now from }
     ensures { Differs a.now b.now result }
 {
     let both = a.len().min(b.len());
-    for i in fours_agree(a, b)..both {
+    for i in from..both {
         if a[i] != b[i] {
             return Some(i);
         }
@@ -40,4 +41,19 @@ pub fn first_difference(a: &[u32], b: &[u32]) -> Option<usize>
         return None;
     }
     Some(both)
+}
+
+// The place of the first number that differs, if any does.
+pub fn first_difference(a: &[u32], b: &[u32]) -> Option<usize>
+    ensures { Differs a.now b.now result }
+{
+    difference_from(a, b, 0)
+}
+
+// The same for runs that are nearly always the same: fours are passed over while they agree, in half the time. Where runs differ soon, as they do
+// when they are put in order, that takes longer.
+pub fn difference_by_fours(a: &[u32], b: &[u32]) -> Option<usize>
+    ensures { Differs a.now b.now result }
+{
+    difference_from(a, b, fours_agree(a, b))
 }

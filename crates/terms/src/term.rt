@@ -6,7 +6,7 @@ ghost use Rattle.terms.specs.Sort.{lost, insert, insert_all};
 ghost use Rattle.terms.specs.Numbers.{put_in, letters_of};
 ghost use Rattle.terms.specs.Promises.{Compares, Equals, Ends, Sized, Extends, Deep, Reads, Fills, Lists};
 
-use crate::difference::first_difference;
+use crate::difference::{difference_by_fours, first_difference};
 use std::cmp::Ordering;
 
 // The numbers of a run that are no letters: 0, 1, a sum and a product. Those below ZERO are letters, and those below ADD atoms.
@@ -18,8 +18,8 @@ pub const ADD: u32 = 4098;
 
 pub const MUL: u32 = 4099;
 
-// `compare` and `equal` go by `first_difference`, not by the library's `cmp` and `==`: those have no contract that names the place where two
-// runs differ, and none that speaks of terms.
+// `compare` and `equal` go by the place of the first difference, not by the library's `cmp` and `==`: those have no contract that names it, and
+// none that speaks of terms.
 
 // Which of two runs comes first, by the first number that differs.
 pub fn compare(a: &[u32], b: &[u32]) -> Ordering
@@ -35,7 +35,7 @@ pub fn compare(a: &[u32], b: &[u32]) -> Ordering
 pub fn equal(a: &[u32], b: &[u32]) -> bool
     ensures { Equals a.now b.now result }
 {
-    first_difference(a, b).is_none()
+    difference_by_fours(a, b).is_none()
 }
 
 // Where the term that starts at `at` ends: where the list ends, if that comes first, and `at` itself past that.

@@ -1,6 +1,6 @@
 use native.Mathlib.Omega.{arith}
 use Rattle.terms.proofs.Compared.{differ_here, both_ended, one_ended}
-use Rattle.terms.proofs.difference.first_difference.Goals as goal
+use Rattle.terms.proofs.difference.difference_from.Goals as goal
 
 pub returns-then-a-i : goal.returns-then-a-i
 returns-then-a-i c = differ_here _ _ c.loop-i.i c.loop-i.invariant (omega arith) (omega arith) c.if-a-i.true

@@ -1,6 +1,0 @@
--- `first_difference` meets its contract. The loop's invariant: the first `i` numbers agree.
-use Rattle.terms.specs.Differ.{Agree}
-use Rattle.terms.proofs.difference.first_difference.Given as goal
-
-abbrev pub invariant-loop-i : goal.invariant-loop-i
-invariant-loop-i l = Agree l.a l.b l.i
