@@ -93,7 +93,7 @@ impl Search<'_> {
 
     // Opens the noted terms in turn, from the first one on, and notes their results, until the `waiting` right sides that are unnoted are
     // noted, each with its slot told. The results are not noted when their term is opened, and no two are the same, so that each is new in
-    // its turn. The promise is for terms whose lines have room among the results.
+    // its turn. The promise is for terms whose lines have room among the results. What is noted is counted by hand: it goes on from term to term.
     fn explore<const NUMBERS: usize, const MOST: usize>(
         self,
         waiting: usize,

@@ -38,7 +38,7 @@ const ANY: u32 = 0;
 const NONE: u32 = 4100;
 
 // The number that a run begins with where a law is bound forward, and where it is bound back: ANY, or NONE where a letter of the side put in
-// is always left unbound. No Option in place of ANY, since short searches take 4 to 7 in a hundred longer with one.
+// is always left unbound. No Option in their place, since short searches take 4 to 7 in a hundred longer with one.
 fn firsts(law: Law) -> (u32, u32)
     ensures { (result.0 ≡ first_of law Forward) × (result.1 ≡ first_of law Back) }
 {
@@ -88,7 +88,8 @@ pub fn bind_law(law: Law, direction: Direction, s: &[u32], at: usize) -> Binding
     bind_side(replaced, put, s, at)
 }
 
-// Puts the run of a law's side, whose letters are bound, with their parts for them after the first `n` numbers of a buffer.
+// Puts the run of a law's side, whose letters are bound, with their parts for them after the first `n` numbers of a buffer. The place in it is
+// counted by hand: a letter moves it over a whole part.
 fn fill(q: &[u32], s: &[u32], z: Spans, out: &mut [u32], n: usize) -> Option<usize>
     requires { (n ≤ length out.old) × Within (length s.now) z }
     ensures { Fills q.now s.now z out.old out.new n result }

@@ -15,6 +15,7 @@ use terms::term;
 pub const LINES: usize = LAWS.len() * DIRECTIONS.len();
 
 // The results of one term, in slots like those of noted terms: the first `count` numbers of `order` name their slots, in term order.
+// An array and a count: no library of such vectors is taken in.
 #[derive(Drop)]
 pub struct Results<const NUMBERS: usize, const MOST: usize> {
     pub slots: [u32; NUMBERS],

@@ -115,7 +115,7 @@ pub fn sides_of(law: Law) -> (&'static [u32], &'static [u32])
 }
 
 // The side of a law that is replaced, read in a direction, and the side that is put in for it. Law and direction are handed on side by
-// side: a step has them so in the scope document, and a struct of the two beside it would be taken apart again at each place.
+// side, as a step has them in the scope document.
 pub fn sides(law: Law, direction: Direction) -> (&'static [u32], &'static [u32])
     ensures { Directed result.0.now result.1.now law direction }
 {
@@ -126,8 +126,8 @@ pub fn sides(law: Law, direction: Direction) -> (&'static [u32], &'static [u32])
     }
 }
 
-// A part of a run: where it starts and how many numbers it has. A part of no numbers stands for none: no Option, since no term is without
-// numbers.
+// A part of a run: where it starts and how many numbers it has. A part of no numbers stands for none: no Option, which whoever
+// fills in a side, where each letter has its part, would have to unwrap.
 #[derive(Clone, Copy, PartialEq, Eq)]
 pub struct Span {
     pub at: usize,
@@ -200,8 +200,8 @@ fn may_meet(s: &[u32], z: Spans, x: u32, at: usize, end: usize) -> bool
 }
 
 // Matches the pattern whose run is `p` against the term whose run starts at `at`, from what the letters stand for already. A run and a
-// position of it are no struct, since several positions of one run are spoken of at once, and the functions of terms take the two so. The position is counted by hand: a letter
-// moves it over a whole term.
+// position of it are no struct, since several positions of one run are spoken of at once, and the functions of terms take the two so. The
+// position is counted by hand: a letter moves it over a whole term.
 pub fn bind(p: &[u32], s: &[u32], at: usize, z: Spans) -> Binding
     requires { (at ≤ length s.now) × Within (length s.now) z }
     ensures { Matches p.now s.now at z result }
@@ -251,7 +251,7 @@ pub fn bind_sides(law: Law, pair: Pair<'_>) -> Binding
 }
 
 // Puts numbers after the first `n` of a buffer, which has room for them: the position after them. A buffer goes by positions, and not by
-// its parts, since the parts that letters stand for are positions too.
+// its parts: of a part that is given back no contract could say what the buffer holds then.
 pub fn append(out: &mut [u32], n: usize, src: &[u32]) -> usize
     requires { n + length src.now ≤ length out.old }
     ensures { (result ≡ n + length src.now) × (take result out.new ≡ take n out.old ++ src.now) }

@@ -64,7 +64,7 @@ impl Origin {
 }
 
 // What the term in a slot comes from: the start past the end. Here and below nothing is asked of a slot's number, and a slot that is not
-// whole is answered for: a workspace comes with any contents.
+// whole is answered for: a workspace comes with any contents. It goes beside the number, since several slots of one are spoken of.
 pub fn origin_of(ws: &[u32], k: u32) -> Origin
     ensures { Originates ws.now k result }
 {

@@ -17,7 +17,8 @@ pub const MOST: usize = 324;
 // The most letters of one.
 pub const LONGEST: usize = 16;
 
-// A slot is 17 numbers: a word's length, then room for its letters.
+// A slot is 17 numbers: a word's length, then room for its letters. The slots are lent, and the next one to be filled goes beside them through all
+// that fills them: of a struct with both each contract would have to say that it lends the same slots still.
 pub const SLOT: usize = 17;
 
 // The numbers in so many slots.

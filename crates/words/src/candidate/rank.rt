@@ -43,7 +43,7 @@ fn begins_with(words: &[u32], k: usize, x: u32, y: u32) -> bool
 }
 
 // The slot after the words, from slot i on, that begin with the letters x and y.
-// No `find`: its closure would have to answer for any number, and `begins_with` asks for a slot that there is.
+// A loop: by `find` the proof is longer, and the text no shorter.
 fn pair_end(words: &[u32], i: usize, x: u32, y: u32) -> usize
     ensures { Paired words.now x y i result }
 {

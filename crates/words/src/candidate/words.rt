@@ -32,7 +32,7 @@ fn gather_words(words: &[u32], out: &mut [u32], n: usize) -> Option<usize>
     Some(count)
 }
 
-// The different letters of the words in two lists of slots, rising, in the front of `out`.
+// The different letters of the words in two lists of slots, rising, in the front of `out`. The same for runs is in terms; no run holds all words.
 fn letters_of_words(u: &[u32], v: &[u32], out: &mut [u32]) -> Option<usize>
     ensures { Lists (flatten (slot_words u.now)) (flatten (slot_words v.now)) out.old result out.new }
 {
