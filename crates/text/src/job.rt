@@ -63,7 +63,7 @@ pub fn mark_of(b: u8) -> Mark
     }
 }
 
-// Digits as a number. Once it is above the largest allowed it stays as it is.
+// Digits as a number. Once it is above the largest allowed it stays as it is. By hand: the library reads a sign, too, and fails on long ones.
 fn digits(text: &[u8], most: u32) -> Result<u32, NumberError>
     requires { most ≤ 4096 }
     ensures { result ≡ limited most (digits 0 text.now) }

@@ -148,7 +148,7 @@ fn put_call(w: &mut Writer<'_>, law: Law, run: &[u32], z: Spans, names: &[u32])
 }
 
 // Copies the term at the front of a run behind the first `n` numbers of a buffer, and gives where the copy ends: nothing is copied where there is no
-// room, and it ends at `n`. No Option, since no accepted job comes to that.
+// room, and it ends at `n`. No Option: the caller goes on from that place in any case.
 fn copy_term(out: &mut [u32], n: usize, s: &[u32]) -> usize
     requires { n ≤ length out.old }
     ensures { Copies s.now 0 out.old n result out.new }

@@ -27,8 +27,8 @@ fn runs_out(reply: Reply, ended: Ended) -> bool
     reply == Reply::Unnoted && ended.stop != Stop::Over
 }
 
-// The blocks' text, where it fits. A function of its own, since one struct holds no references of two lifetimes: the blocks' parts have one here,
-// and more than one in the caller.
+// The blocks' text, where it fits. A function of its own: in its caller, where the replies and the workspace were lent for writing before, one
+// struct of all four is refused (tried).
 fn answer_blocks<'a>(
     left: &'a [u32],
     rights: Runs<'a>,

@@ -27,19 +27,17 @@ fn put_lists(w: &mut Writer<'_>, same: bool, a: &[u32], b: &[u32])
 
 // The answer, from the spelled lists of both sides.
 #[derive(Clone, Copy)]
-struct Lists<'a> {
-    left: &'a [u32],
-    right: &'a [u32],
-}
+struct Lists<'a>(Sides<'a>);
 
 impl<'a> Text for Lists<'a> {
-    ghost shows = { λ l t. (us : List Word) × (vs : List Word) × (l.left.now ≡ spelled us) × (l.right.now ≡ spelled vs) × (t ≡ words_text us vs) };
+    ghost shows = { λ l t. (us : List Word) × (vs : List Word) × (l.0.left.now ≡ spelled us) × (l.0.right.now ≡ spelled vs) × (t ≡ words_text us vs) };
 
     fn put(&self, w: &mut Writer<'_>) {
-        match compare_lists(self.left, self.right) {
-            Ordering::Less => put_lists(w, false, self.left, self.right),
-            Ordering::Equal => put_lists(w, true, self.left, self.right),
-            Ordering::Greater => put_lists(w, false, self.right, self.left),
+        let Sides { left, right } = self.0;
+        match compare_lists(left, right) {
+            Ordering::Less => put_lists(w, false, left, right),
+            Ordering::Equal => put_lists(w, true, left, right),
+            Ordering::Greater => put_lists(w, false, right, left),
         }
     }
 }
@@ -52,9 +50,9 @@ pub fn answer_words(sides: Sides<'_>, out: &mut [u8]) -> Result<usize, Refusal>
     let mut b = [0u32; ROOM];
     let m = words_of(sides.left, &mut a);
     let n = words_of(sides.right, &mut b);
-    let lists = Lists {
+    let lists = Lists(Sides {
         left: &a[..m],
         right: &b[..n],
-    };
+    });
     answered(&lists, out)
 }

@@ -22,7 +22,8 @@ use crate::refusal::ANSWERED;
 use crate::step::{Lines, Uses, put_steps};
 use crate::writer::Writer;
 
-// A path that was found between two sides: its lines, and how many terms were opened till then.
+// A path that was found between two sides: its lines, and how many terms were opened till then. Where none was found there are no lines, and
+// sides and count go by themselves.
 #[derive(Clone, Copy)]
 pub struct Found<'a> {
     pub sides: Sides<'a>,

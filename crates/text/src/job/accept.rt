@@ -19,7 +19,8 @@ use search::slots::SlotRun;
 use terms::term;
 use words::candidate::Equation;
 
-// The most right sides of a job of FIND.
+// The most right sides of a job of FIND. That a job has no more stands in the clauses below and in no type, since what is written is told before
+// that is refused.
 pub const MOST_RIGHTS: usize = 16;
 
 // The most bytes of a job of FIND, of one that is short, and of another job.

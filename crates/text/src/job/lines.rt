@@ -45,8 +45,8 @@ fn limit_lines(s: &[u8]) -> Option<Limits>
     })
 }
 
-// How many `right=` lines begin a text, and what follows them: both are known at the first line without the key. An iterator would give
-// the lines, and not what is left behind them.
+// How many `right=` lines begin a text, and what follows them: both are known at the first line without the key. An iterator over
+// them, with what it promises, is longer than this loop and the one that reads them.
 #[tactic(auto, using(crate::proofs::RightLines::one_line, crate::proofs::RightLines::no_more), unfolding(crate::specs::Bytes::ascii))]
 fn right_lines(s: &[u8]) -> (usize, &[u8])
     ensures { RightsIn s.now result.0 result.1.now }

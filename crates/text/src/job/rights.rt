@@ -21,8 +21,8 @@ pub fn few_letters(a: &[u32], b: &[u32]) -> bool
     term::letters(a, b, &mut names).is_some()
 }
 
-// Whether each of the first `n` right sides passes a test. They are a part of any length beside their number, where `Runs` would ask for all of
-// their slots: one that is cut behind its last run will do.
+// Whether each of the first `n` right sides passes a test. They are a part of any length beside their number: `Runs` would ask more of a
+// caller, since a part that is cut behind its last run will do.
 pub fn all_pass<F: Fn(&[u32]) -> bool>(rights: &[u32], n: usize, passes: F) -> bool
     requires { (n ≤ 16) × F.IsAlwaysCallable passes }
     ensures { AllPass (λ xs b. FnReturnsAt F.Fn passes xs b) rights.now n result }
@@ -31,7 +31,8 @@ pub fn all_pass<F: Fn(&[u32]) -> bool>(rights: &[u32], n: usize, passes: F) -> b
 }
 
 // Reads the right sides into slots; `run` has room for each. One that is no term is refused before one that is too large, so that all are read.
-// How many lines there are is known, so that each is there where it is unwrapped. An iterator over them would have to be written for this loop alone.
+// How many lines there are is known, so that each is there where it is unwrapped. An iterator over them, with what it promises, is longer than this
+// loop and the one that counts them.
 pub(super) fn read_rights(
     w: Written<'_>,
     run: &mut [u32],

@@ -51,7 +51,8 @@ impl Run {
 }
 
 // The numbers of a side's items, at the front of `run`: how many there are, if every item stands for something. An iterator over the items
-// would leave them to be counted all the same.
+// would leave them to be counted all the same. The room is lent beside the side: of a struct that holds it each contract would have to say how
+// long it is still.
 #[tactic(auto, using(crate::proofs::Sides::foul_item, crate::proofs::Sides::next_item, crate::proofs::Sides::foul_last))]
 fn items(side: &[u8], run: &mut [u32]) -> Option<usize>
     requires { length side.now < length run.old }

@@ -104,7 +104,7 @@ fn render_congruence(w: &mut Writer<'_>, side: Side, s: &[u32], t: &[u32], names
 }
 
 // One line, from s to t, with its law at `place` of s. It calls itself for the part that has the place: its calls nest once for
-// each sum or product around the place.
+// each sum or product around the place. No struct of a law, its direction and both terms: it would be made anew for each part.
 fn render_step(
     w: &mut Writer<'_>,
     law: Law,
