@@ -22,7 +22,8 @@ impl From<Key> for u32 {
     }
 }
 
-// The lists for the lines of a key: the renamed sides, or the renamed lists of words, of which there are none where the words agree.
+// The lists for the lines of a key: the renamed sides, or the renamed lists of words, of which there are none where the words agree: two
+// empty lists then stand in the place.
 pub fn lists_of(key: Key, sides: Sides<'_>, lists: &mut Equation<'_>)
     ensures made { MakesLists key sides.entry.left.now sides.entry.right.now lists.old.room lists.new.sides }
     ensures room { lists.new.room ≡ lists.old.room }

@@ -57,7 +57,7 @@ impl Model for Place {
 
 impl Place {
     // Place number k.
-    fn numbered(k: usize) -> Place
+    pub fn numbered(k: usize) -> Place
         requires { k < abstract.PLACES }
         ensures { result ≡ k }
     {
@@ -83,6 +83,9 @@ pub struct Kind<'a> {
     ghost left_fits: { length left.now ≤ stored.ROOM },
     ghost right_fits: { length right.now ≤ stored.ROOM },
 }
+
+// A catalogue and a place in it go side by side from here on: of a struct with both each contract would have to say that it is the same catalogue
+// still.
 
 // The first place that has a number; free places have `FREE`.
 pub fn place_of(catalogue: &[u32; LENGTH], n: u32) -> Option<Place>

@@ -24,6 +24,8 @@ fn put_at(catalogue: &mut [u32; LENGTH], place: Place, n: u32, kind: Kind<'_>) -
     set_count(catalogue, if known { count } else { count.wrapping_add(1) })
 }
 
+// Number, key and sides go side by side: a put that was read holds left alone, since right stays in its slot.
+
 // The lists of an equation's lines made, and the entry stored in a place. Lists that no place has room for are refused; no job has such.
 fn put_lists(
     catalogue: &mut [u32; LENGTH],

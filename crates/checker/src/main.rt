@@ -10,7 +10,8 @@ use text::answer::outcome::printed;
 
 const OUTPUT: usize = 64;
 
-// What the program prints, at the front of the output: the answer, or two lines with the refusal's number.
+// What the program prints, at the front of the output: the answer, or two lines with the refusal's number. Both programs do it by `printed`, each
+// for its own entry.
 fn respond(input: &[u8], output: &mut [u8; OUTPUT]) -> usize
     ensures { Prints (program input.now) output.new result }
 {

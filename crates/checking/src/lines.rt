@@ -26,7 +26,7 @@ pub struct Written<'a> {
     pub steps: &'a [u8],
 }
 
-// Whether a text is step lines.
+// Whether a text is step lines. `StepLines` would ask for a bounded one.
 #[tactic(auto, using(crate::proofs::StepLines::formed_on, crate::proofs::StepLines::ended))]
 fn well_formed(text: &[u8]) -> bool
     ensures { result ≡ is_some (lines_from text.now) }

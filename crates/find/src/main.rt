@@ -13,7 +13,8 @@ const WORKSPACE: usize = 16000;
 
 const OUTPUT: usize = 32768;
 
-// What the program prints, at the front of the output: the answer, or two lines with the refusal's number.
+// What the program prints, at the front of the output: the answer, or two lines with the refusal's number. Both programs do it by `printed`, each
+// for its own entry.
 fn respond(input: &[u8], output: &mut [u8; OUTPUT], workspace: &mut [u32; WORKSPACE]) -> usize
     ensures { Prints (program input.now) output.new result }
 {

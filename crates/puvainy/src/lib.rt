@@ -1,5 +1,5 @@
 // The six entries, each over the function below with the same contract. Hosts call them as C functions, which are in the crate
-// puvainy_c.
+// puvainy_c: no crate can call those, so both stand.
 #![tactic(auto)]
 
 ghost use Rattle.std.specs.Prelude.{length};
