@@ -26,6 +26,10 @@ number_of Put = 5
 number_of Withdraw = 6
 number_of (Other n) = n
 
+-- what a call is to return, by the number stored for it: where that is 0 it is to answer
+abbrev pub due_in : (stored : ℕ) → Option ℕ
+due_in stored = if stored == 0 then None else Some stored
+
 -- the end of a list
 abbrev pub IsEnd : (list end : List ℕ) → Type 0
 IsEnd list end = end ≡ drop (length list - length end) list

@@ -38,7 +38,8 @@ pub fn fill<T: Dirty>(buffer: &mut [T], first: T)
     }
 }
 
-// Whether the text is at the front of the output, and the bytes behind it are those that were filled in.
+// Whether the text is at the front of the output, and the bytes behind it are those that were filled in. By hand: what is
+// due behind the text is known only by going through it.
 pub fn is_due(output: &[u8], text: &[u8], first: u8) -> bool
     ensures { IsTrue result ↔ (output.now ≡ due text.now first (length output.now)) }
 {

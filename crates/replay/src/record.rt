@@ -1,6 +1,6 @@
 // The list of stored calls: where its records start, and what stands in them.
 ghost use Rattle.std.specs.Prelude.{◌≡◌, ◌-◌, ◌<◌, ◌≤◌, length, drop};
-ghost use Rattle.replay.specs.Records.{Reads, entry_of, number_of, IsEnd};
+ghost use Rattle.replay.specs.Records.{Reads, entry_of, number_of, due_in, IsEnd};
 ghost use Rattle.replay.specs.Dirt.{over};
 
 use std::fmt;
@@ -85,6 +85,13 @@ fn number(list: &[u8]) -> (usize, &[u8])
     (value, &list[list.len()..])
 }
 
+// What a call is to return, by the number stored for it: none where it is to answer.
+fn due_in(stored: usize) -> Option<usize>
+    ensures { result ≡ due_in stored }
+{
+    (stored != 0).then_some(stored)
+}
+
 // The record that starts the list, and the list behind it.
 pub fn read(list: &[u8]) -> Option<(Record<'_>, &[u8])>
     ensures { Reads list.now result }
@@ -104,7 +111,7 @@ pub fn read(list: &[u8]) -> Option<(Record<'_>, &[u8])>
         entry: Entry::from(entry),
         slots,
         room,
-        number: (stored != 0).then_some(stored),
+        number: due_in(stored),
         job,
         answer,
     };

@@ -11,7 +11,7 @@ const ROWS: usize = 7;
 
 const COLUMNS: usize = 16;
 
-// A row and a column each: where all calls are counted, and where those that differ.
+// A row and a column each: where all calls are counted, and where those that differ. They stand in the table, so that one function counts.
 const CALLS: (usize, usize) = (0, 0);
 
 const DIFFERENCES: (usize, usize) = (0, 1);
