@@ -62,9 +62,9 @@ pub put_some_gap : {o o₁ : Writer} (s i : ℕ) → 0 < i → Writes (s ∷ [])
 put_some_gap s i h p = put_as (sym (gap_some s i h)) p
 
 -- a letter of one digit, not the first
-pub put_digit_letter : {o o₁ : Writer} (s i n : ℕ) → 0 < i → n < 10 → Writes (s ∷ code "v" ∷ (48 + n) ∷ []) o o₁ → Writes (gap s i ++ write_letter n) o o₁
+pub digit_letter : (s i n : ℕ) → 0 < i → n < 10 → s ∷ code "v" ∷ (48 + n) ∷ [] ≡ gap s i ++ write_letter n
 unfolding write_letter
-put_digit_letter s i n h k p = put_as (ap₂ ◌++◌ (sym (gap_some s i h)) (ap (λ l. code "v" ∷ l) (sym (number_small n k)))) p
+digit_letter s i n h k = ap₂ ◌++◌ (sym (gap_some s i h)) (ap (λ l. code "v" ∷ l) (sym (number_small n k)))
 
 -- a piece more behind the others
 parted_behind : (s : ℕ) (p : List ℕ) (ps : List (List ℕ)) (q : List ℕ) → (parted s (p ∷ ps) ++ (s ∷ [])) ++ q ≡ parted s (p ∷ (ps ++ (q ∷ [])))
@@ -86,10 +86,9 @@ unfolding parted
 put_no_piece s f xs o = put_none o
 
 -- the pieces of one number more
-pub put_piece : {o o₁ o₂ : Writer} (s : ℕ) (f : ℕ → List ℕ) (xs : List ℕ) (i : ℕ) → i < length xs
-    → Writes (parted s (map f (take i xs))) o o₁ → Writes (gap s i ++ f (get_or xs i 0)) o₁ o₂
-    → Writes (parted s (map f (take (i + 1) xs))) o o₂
-put_piece s f xs i h p q = put_as (sym (append_assoc (parted s (map f (take i xs))) (gap s i) (f (get_or xs i 0))) ∙ law) (then p q)
+pub pieces_more : (s : ℕ) (f : ℕ → List ℕ) (xs : List ℕ) (i : ℕ) → i < length xs
+    → parted s (map f (take i xs)) ++ (gap s i ++ f (get_or xs i 0)) ≡ parted s (map f (take (i + 1) xs))
+pieces_more s f xs i h = sym (append_assoc (parted s (map f (take i xs))) (gap s i) (f (get_or xs i 0))) ∙ law
   where
     size : length (map f (take i xs)) ≡ i
     size = length-map (take i xs) f ∙ length-take-le i xs (omega arith)
@@ -99,6 +98,11 @@ put_piece s f xs i h p q = put_as (sym (append_assoc (parted s (map f (take i xs
         ap (λ (k : ℕ). (parted s (map f (take i xs)) ++ gap s k) ++ f (get_or xs i 0)) (sym size)
         ∙ parted_more s (map f (take i xs)) (f (get_or xs i 0))
         ∙ ap (parted s) (sym (map-append f (take i xs) (get_or xs i 0 ∷ [])) ∙ ap (map f) (sym (take-suc xs i 0 h) ∙ ap (λ k. take k xs) (sym (add-one i))))
+
+pub put_piece : {o o₁ o₂ : Writer} (s : ℕ) (f : ℕ → List ℕ) (xs : List ℕ) (i : ℕ) → i < length xs
+    → Writes (parted s (map f (take i xs))) o o₁ → Writes (gap s i ++ f (get_or xs i 0)) o₁ o₂
+    → Writes (parted s (map f (take (i + 1) xs))) o o₂
+put_piece s f xs i h p q = put_as (pieces_more s f xs i h) (then p q)
 
 -- ---- a whole term
 

@@ -1,5 +1,5 @@
 -- Texts put one after the other.
-use mathlib.Core.Path.{◌≡◌, refl, sym, ap, ◌∙◌}
+use mathlib.Core.Path.{◌≡◌, refl, sym, ap, subst, ◌∙◌}
 use mathlib.Core.List.{List, [], ◌∷◌, ◌++◌, append_assoc}
 use Prim.Native.Nat.{ℕ, suc, ◌+◌, ◌-◌, ◌≤◌, ◌<◌, min}
 use native.Mathlib.Nat.{add-zero, add-suc, suc-add}
@@ -82,6 +82,10 @@ then {ys} {zs} {o} {o₁} {o₂} {a} {b} {c} p q =
 -- nothing put
 pub put_none : (o : List ℕ) (a : ℕ) → length o < top → a ≤ top → Put [] o a a o
 put_none o a h k = record { next = omega arith; bytes = sym (overlay_none o a); room = h }
+
+-- the same text, said another way
+pub put_as : {ys zs o o' : List ℕ} {a r : ℕ} → ys ≡ zs → Put ys o a r o' → Put zs o a r o'
+put_as {o = o} {o'} {a} {r} e p = subst (λ t. Put t o a r o') e p
 
 -- a part of a text, as far as the output goes, is all of it that can be stored
 pub overlay_part : (xs : List ℕ) (a : ℕ) (ys zs : List ℕ) (n : ℕ) → a < length xs → n ≡ min (length ys) (length xs - a) → zs ≡ take n ys

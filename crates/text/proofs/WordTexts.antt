@@ -1,5 +1,5 @@
 -- The words of a spelled list, one after the other, with a byte between them.
-use Prim.Native.Nat.{ℕ, suc, ◌+◌, ◌-◌, ◌≤◌, ◌<◌}
+use Prim.Native.Nat.{ℕ, suc, ◌+◌, ◌-◌, ◌<◌}
 use Prim.Native.Char.{code}
 use mathlib.Core.Path.{◌≡◌, refl, sym, ap, ap₂, ◌∙◌}
 use mathlib.Core.List.{List, [], ◌∷◌, ◌++◌, map, append_assoc, append-nil, map-append}
@@ -10,7 +10,7 @@ use borrow.Author.Tests.{lt-ltb}
 use Rattle.std.specs.Prelude.{Option, Some, None}
 use Rattle.std.specs.List.{position_or_len}
 use lib.ListN.{length, take, drop, length-map, length-append}
-use lib.Seq.{take_all, take_at, drop-append-add}
+use lib.Seq.{take_at, drop-append-add}
 use Rattle.std.proofs.Math.Numerals.{one-add}
 use Rattle.words.specs.Words.{Word}
 use Rattle.words.specs.Spelled.{spelled}
@@ -39,11 +39,11 @@ put_empty_word xs [] h e p = p
 put_empty_word xs (n ∷ w) h e p = let z : ⊥ = omega (arith, ap length e) in absurd z
 
 -- when every number of a word is put, its text is
-pub put_whole_word : {o o₁ : Writer} (xs : List ℕ) (i : ℕ) (w : Word) → (length xs ≡ 0 → ⊥) → length xs ≤ i → xs ≡ map suc w
-    → Writes (parted (code " ") (map letter_text (take i xs))) o o₁ → Writes (word w) o o₁
+pub put_whole_word : {o o₁ : Writer} (xs : List ℕ) (w : Word) → (length xs ≡ 0 → ⊥) → xs ≡ map suc w
+    → Writes (parted (code " ") (map letter_text xs)) o o₁ → Writes (word w) o o₁
 unfolding word
-put_whole_word xs i [] f h e p = absurd (f (ap length e))
-put_whole_word xs i (n ∷ w) f h e p = put_as (ap (parted (code " ")) (ap (map letter_text) (take_all i xs h ∙ e) ∙ letters_text (n ∷ w))) p
+put_whole_word xs [] f e p = absurd (f (ap length e))
+put_whole_word xs (n ∷ w) f e p = put_as (ap (parted (code " ")) (ap (map letter_text) e ∙ letters_text (n ∷ w))) p
 
 -- ---- several words
 

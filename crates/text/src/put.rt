@@ -5,14 +5,14 @@ ghost use Rattle.terms.specs.Held.{IsRun};
 ghost use Rattle.words.specs.Words.{Word};
 ghost use Rattle.words.specs.Spelled.{spelled};
 ghost use Rattle.text.specs.Answer.{yes_no};
-ghost use Rattle.text.specs.Bytes.{number};
+ghost use Rattle.text.specs.Bytes.{number, parted};
 ghost use Rattle.text.specs.TermText.{write_letter, write_term};
 ghost use Rattle.text.specs.Items.{sign_of, item, gap};
 ghost use Rattle.text.specs.Words.{word, word_list};
 ghost use Rattle.text.specs.Put.{Put};
 ghost use Rattle.text.specs.Writer.{Writes, SameOutput};
 
-use crate::writer::Writer;
+use crate::writer::{Writer, store_three};
 use terms::term::{ADD, ONE, ZERO};
 
 // A value that is put as text.
@@ -144,16 +144,30 @@ pub fn put_term(w: &mut Writer<'_>, run: &[u32])
     }
 }
 
-// Letter i of a word, with a space before it unless it is the first.
-fn put_next_letter(w: &mut Writer<'_>, i: usize, n: u32)
-    ensures { Writes (gap 32 i ++ write_letter n) w.old w.new }
+// Letter i of a word in an output from a place on, with a space before it unless it is the first: where it ends.
+fn put_next_letter(out: &mut [u8], at: usize, i: usize, n: u32) -> usize
+    ensures { Put (gap 32 i ++ write_letter n) out.old at result out.new }
 {
     if 0 < i && n < 10 {
-        w.put_three(b' ', b'v', b'0' + n as u8);
-    } else {
-        w.put_gap(i, b' ');
-        put_letter(w, n);
+        store_three(out, at, b' ', b'v', b'0' + n as u8);
+        return at.saturating_add(3);
     }
+    let mut w = Writer { buf: out, at };
+    w.put_gap(i, b' ');
+    put_letter(&mut w, n);
+    w.at
+}
+
+// The letters of a word, each plus 1, in an output from a place on: where they end. The place goes by value: a writer's lies in memory, and would be
+// read and stored anew for each letter, which is slower.
+fn put_letters(out: &mut [u8], at: usize, letters: &[u32]) -> usize
+    ensures { Put (parted 32 (map (λ n. write_letter (n - 1)) letters.now)) out.old at result out.new }
+{
+    let mut place = at;
+    for (i, n) in letters.iter().enumerate() {
+        place = put_next_letter(out, place, i, n.saturating_sub(1));
+    }
+    place
 }
 
 // A word by its letters, each plus 1: parted by one space, and the empty word `1`.
@@ -165,9 +179,8 @@ pub fn put_word(w: &mut Writer<'_>, letters: &[u32])
         w.put_byte(b'1');
         return;
     }
-    for (i, n) in letters.iter().enumerate() {
-        put_next_letter(w, i, n.saturating_sub(1));
-    }
+    let at = w.at;
+    w.at = put_letters(w.buf, at, letters);
 }
 
 // The words of a spelled list, each ended by 0, parted by `;`: no words are `0`. An iterator over the pieces would

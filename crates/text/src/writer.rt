@@ -44,15 +44,6 @@ impl<'a> Writer<'a> {
         self.at = at.saturating_add(text.len());
     }
 
-    // Three bytes, at once where they fit: most of a long answer are letters with a space before them, and a copy of so few bytes is slower.
-    pub(crate) fn put_three(&mut self, a: u8, b: u8, c: u8)
-        ensures { Writes (a ∷ b ∷ c ∷ []) self.old self.new }
-    {
-        let at = self.at;
-        store_three(self.buf, at, a, b, c);
-        self.at = at.saturating_add(3);
-    }
-
     // A number in decimal. The library's `write!` would do it by a Result, and tells which digits were written only where that is Ok: nothing says
     // that it is.
     pub fn put_number(&mut self, n: usize)
@@ -103,8 +94,9 @@ fn store_byte(out: &mut [u8], at: usize, b: u8)
     }
 }
 
-// Three bytes at once where they fit. Where the output has ended nothing is copied: a long answer is measured so.
-fn store_three(out: &mut [u8], at: usize, a: u8, b: u8, c: u8)
+// Three bytes, at once where they fit: most of a long answer are letters with a space before them, and a copy of so few bytes is slower. Where the
+// output has ended nothing is copied: a long answer is measured so.
+pub(crate) fn store_three(out: &mut [u8], at: usize, a: u8, b: u8, c: u8)
     ensures { out.new ≡ overlay out.old at (a ∷ b ∷ c ∷ []) }
 {
     if out.len() <= at {
