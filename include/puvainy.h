@@ -138,7 +138,7 @@
  * Stack: at most 120,000 bytes for puvainy_find, 100,000 for puvainy_words, 190,000 for puvainy_rename,
  * 40,000 for puvainy_check, 190,000 for puvainy_put and 20,000 for puvainy_withdraw on x86-64 (the macros
  * below). That is more than the frames of the deepest calls take together, with a path of 16 lines and terms
- * 15 deep. puvainy_check takes 35,000 bytes, for one line as for a text of 8,182 bytes, and some 2,200 more
+ * 15 deep. puvainy_check takes 35,032 bytes, for one line as for a text of 8,182 bytes, and some 2,200 more
  * where the names of memcpy and memset are bound in that call. The gate makes the calls of examples/deep.calls
  * on stacks of just these figures (examples/stack.c). A thread with 256 KiB has enough.
  */
