@@ -7,7 +7,7 @@ use Rattle.std.proofs.Math.Dec.{compare_is_eq}
 use Rattle.terms.specs.Compare.{Ordering, lt, eq, gt, order_numbers}
 use Rattle.terms.specs.Differ.{differ_at, DifferAt}
 use Rattle.terms.specs.Term.{Term, size, depth, order, same}
-use Rattle.terms.specs.Letters.{letters, rising}
+use Rattle.terms.specs.Letters.{letters, rising, variables}
 use Rattle.terms.specs.Run.{run}
 use Rattle.terms.specs.Held.{IsRun, Holds}
 use Rattle.terms.specs.Numbers.{read_run, is_some, end_at, depth_of, letters_of}
@@ -105,3 +105,8 @@ Fills xs out None out' = (length out < length xs) × (length out' ≡ length out
 pub record Lists (xs ys out : List ℕ) (r : Option ℕ) (out' : List ℕ) : Type 0 where
   pub numbers : Fills (rising (letters_of xs ++ letters_of ys)) out r out'
   pub terms : (s t : Term) → IsRun xs s → IsRun ys t → Fills (rising (letters s ++ letters t)) out r out'
+
+-- of `variables`
+pub record ListsVariables (xs ys out : List ℕ) (r : Option ℕ) (out' : List ℕ) : Type 0 where
+  pub numbers : Fills (rising (variables xs ++ variables ys)) out r out'
+  pub terms : (s t : Term) → IsRun xs s → IsRun ys t → Fills (rising (variables (letters s ++ letters t))) out r out'

@@ -1,10 +1,11 @@
 // The order, the parts, the size, the depth and the letters of terms that are runs of numbers.
-ghost use Rattle.std.specs.Prelude.{◌≡◌, take, nat_le};
+ghost use Rattle.std.specs.Prelude.{◌≡◌, ◌++◌, take, nat_le};
 ghost use Rattle.std.specs.List.{position_or_len};
 ghost use Prim.Native.Nat.{compare};
 ghost use Rattle.terms.specs.Sort.{lost, insert, insert_all};
-ghost use Rattle.terms.specs.Numbers.{put_in, letters_of};
-ghost use Rattle.terms.specs.Promises.{Compares, Equals, Ends, Sized, Extends, Deep, Reads, Fills, Lists};
+ghost use Rattle.terms.specs.Letters.{rising, those_below};
+ghost use Rattle.terms.specs.Numbers.{put_in};
+ghost use Rattle.terms.specs.Promises.{Compares, Equals, Ends, Sized, Extends, Deep, Reads, Fills, Lists, ListsVariables};
 
 use crate::difference::{difference_by_fours, first_difference};
 use std::cmp::Ordering;
@@ -17,6 +18,9 @@ pub const ONE: u32 = 4097;
 pub const ADD: u32 = 4098;
 
 pub const MUL: u32 = 4099;
+
+// The first c letter: those below it are v letters, which may be renamed.
+pub const FIXED: u32 = 1000;
 
 // `compare` and `equal` go by the place of the first difference, not by the library's `cmp` and `==`: those have no contract that names it, and
 // none that speaks of terms.
@@ -151,26 +155,41 @@ fn insert(out: &mut [u32], n: usize, x: u32) -> Option<usize>
     Some(count)
 }
 
-// The letters of a run put among the first `n` numbers, one after another: how many there are then, if there was room for all.
+// The numbers of a run below a bound put among the first `n` numbers, one after another: the letters, or the v letters alone; how many there are
+// then, if there was room for all.
 // Here and in `insert` a count stands beside the buffer: it says what stands at the front of a buffer that the caller goes on with, from run to
 // run or from line to line.
-pub fn gather(s: &[u32], out: &mut [u32], n: usize) -> Option<usize>
-    ensures { Fills (insert_all lost compare (take n out.old) (letters_of s.now)) out.old result out.new }
+pub fn gather(s: &[u32], out: &mut [u32], n: usize, below: u32) -> Option<usize>
+    ensures { Fills (insert_all lost compare (take n out.old) (those_below below s.now)) out.old result out.new }
 {
     let mut count = n.min(out.len());
     for &x in s {
-        if x < ZERO {
+        if x < below {
             count = insert(out, count, x)?;
         }
     }
     Some(count)
 }
 
-// The different letters of two runs, rising, in the front of `out`, whose rest is kept: how many there are.
+// The different numbers of two runs below a bound, rising, in the front of `out`, whose rest is kept: how many there are.
 // Where there are more of them than `out` has room for, its contents are free.
+fn gather_both(a: &[u32], b: &[u32], out: &mut [u32], below: u32) -> Option<usize>
+    ensures { Fills (rising (those_below below a.now ++ those_below below b.now)) out.old result out.new }
+{
+    let n = gather(a, out, 0, below)?;
+    gather(b, out, n, below)
+}
+
+// The different letters of two runs.
 pub fn letters(a: &[u32], b: &[u32], out: &mut [u32]) -> Option<usize>
     ensures { Lists a.now b.now out.old result out.new }
 {
-    let n = gather(a, out, 0)?;
-    gather(b, out, n)
+    gather_both(a, b, out, ZERO)
+}
+
+// The different v letters of two runs.
+pub fn variables(a: &[u32], b: &[u32], out: &mut [u32]) -> Option<usize>
+    ensures { ListsVariables a.now b.now out.old result out.new }
+{
+    gather_both(a, b, out, FIXED)
 }

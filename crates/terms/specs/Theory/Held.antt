@@ -1,7 +1,7 @@
 -- Runs as they stand in lists: `Fine` speaks of each letter, runs are as long and ordered as their terms, and none is a beginning of another.
 use Rattle.std.specs.Prelude.{ℕ, ◌<◌, ◌≤◌, ◌≡◌, refl, List, [], ◌∷◌, ◌++◌, length, take, drop}
 use Rattle.std.proofs.Common.{arith, sym, ◌∙◌, ap, ⊎_elim, append-nil, length-append, take-append-drop, drop_of_length-le, take_all}
-use Rattle.terms.specs.Lists.{not-in-nil, only_one, append_cases}
+use Rattle.terms.specs.Lists.{here, not-in-nil, only_one, append_cases, in_left, in_right}
 use Rattle.terms.specs.Compare.{gt, lexicographic, order_numbers}
 use Rattle.terms.specs.Differ.{DifferAt}
 use Rattle.terms.specs.Term.{Term, letter, zero, one, add, mul, size, order}
@@ -22,6 +22,15 @@ fine_letters zero f n i = absurd (not-in-nil i)
 fine_letters one f n i = absurd (not-in-nil i)
 fine_letters (add s t) f n i = ⊎_elim (fine_letters s f.0 n) (fine_letters t f.1 n) (append_cases (letters s) i)
 fine_letters (mul s t) f n i = ⊎_elim (fine_letters s f.0 n) (fine_letters t f.1 n) (append_cases (letters s) i)
+
+-- and what tells that it is fine
+pub letters_fine : (t : Term) → EachLetter (λ n. n < ZERO) t → Fine t
+unfolding Fine letters
+letters_fine (letter n) h = h n (here refl)
+letters_fine zero h = tt
+letters_fine one h = tt
+letters_fine (add s t) h = (letters_fine s (λ n i. h n (in_left (letters t) i)), letters_fine t (λ n i. h n (in_right (letters s) i)))
+letters_fine (mul s t) h = (letters_fine s (λ n i. h n (in_left (letters t) i)), letters_fine t (λ n i. h n (in_right (letters s) i)))
 
 pub length_run : (t : Term) → length (run t) ≡ size t
 unfolding run size

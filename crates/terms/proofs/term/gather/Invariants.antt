@@ -3,4 +3,4 @@ use Rattle.terms.proofs.Gathered.{Gathering}
 use Rattle.terms.proofs.term.gather.Given as goal
 
 abbrev pub invariant-loop-x : goal.invariant-loop-x
-invariant-loop-x l = Gathering l.s l.initial.out l.n l.out l.count l.x-index
+invariant-loop-x l = Gathering l.below l.s l.initial.out l.n l.out l.count l.x-index
