@@ -5,10 +5,10 @@ use Rattle.terms.specs.Lists.{◌∈◌, here, there}
 use Rattle.terms.specs.Compare.{order_numbers}
 use Rattle.terms.specs.Equation.{orient}
 use Rattle.terms.specs.Term.{Term, letter, zero, one, add, mul, size, order, subst}
-use Rattle.terms.specs.Letters.{letters, rising}
+use Rattle.terms.specs.Letters.{letters, rising, variables}
 use Rattle.terms.specs.Run.{ZERO, ONE, ADD, MUL, run}
 use Rattle.terms.specs.Held.{Fine, IsRun}
-use Rattle.terms.specs.Promises.{Lists}
+use Rattle.terms.specs.Promises.{ListsVariables}
 use Rattle.terms.specs.Theory.Run.{run_order}
 use Rattle.terms.specs.Theory.Held.{fine_letters, size_of}
 use Rattle.std.specs.Prelude.{Option}
@@ -80,9 +80,9 @@ module _ (names : List ℕ) (few : length names ≤ 6) (s t : Term) (f : Fine s)
       ∙ (λ i. least_to order_numbers (λ c. run_candidate c i) (factorial (length names) - 1))
       ∙ least_candidate names (run s) (run t)
 
--- the promise, by what became of the letters
+-- the promise, by what became of the v letters
 
-module _ (xs ys : List ℕ) {room : ℕ} {names names' : List ℕ} {l : Option ℕ} (listed : Lists xs ys names l names') where
+module _ (xs ys : List ℕ) {room : ℕ} {names names' : List ℕ} {l : Option ℕ} (listed : ListsVariables xs ys names l names') where
   pub too_many : {e : Sides} → length names ≡ 6 → l ≡ None → CanonicalTerms xs ys room e
   too_many n p = record { exact = λ s t u v a b few c. absurd (omega (arith, (rw p at (listed.terms s t u v)).0)) }
 
@@ -93,10 +93,10 @@ module _ (xs ys : List ℕ) {room : ℕ} {names names' : List ℕ} {l : Option �
   all_listed {k} {e} p found = record { exact = exact }
     where
       exact : (s t : Term) → IsRun xs s → IsRun ys t → size s ≤ 31 → size t ≤ 31
-          → length (rising (letters s ++ letters t)) ≤ 6 → 31 ≤ room
+          → length (rising (variables (letters s ++ letters t))) ≤ 6 → 31 ≤ room
           → (e.left ≡ run (canonical_terms s t).left) × (e.right ≡ run (canonical_terms s t).right)
       exact s t u v a b few c =
-          let rs = rising (letters s ++ letters t) in
+          let rs = rising (variables (letters s ++ letters t)) in
           let fills = rw p at (listed.terms s t u v) in
           let letters_used : take k names' ≡ rs = ap (take k) fills.2 ∙ take_at rs (drop k names) k (sym fills.0) in
           let roomy : Room 31 xs ys room = record { first = omega (arith, size_of u); second = omega (arith, size_of v); sides = c } in

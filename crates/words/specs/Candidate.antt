@@ -3,7 +3,7 @@ use Rattle.std.specs.Prelude.{◌≡◌, ℕ, ◌-◌, ◌<◌, ◌≤◌, min, 
 use Rattle.terms.specs.Compare.{Ordering, order_numbers}
 use Rattle.terms.specs.Equation.{Equation, orient}
 use Rattle.terms.specs.Term.{Term, size}
-use Rattle.terms.specs.Letters.{letters, rising}
+use Rattle.terms.specs.Letters.{letters, rising, variables}
 use Rattle.terms.specs.Run.{ZERO, run}
 use Rattle.terms.specs.Held.{IsRun}
 use Rattle.words.specs.Rename.{order_equations, lesser, canonical_terms}
@@ -68,8 +68,8 @@ pub record Finds (IsRoom : Type 0) (e e' : Sides) : Type 0 where
 abbrev pub candidate : (names xs ys : List ℕ) → ℕ → Equation (List ℕ)
 candidate names xs ys c = orient order_numbers (rename_run (renaming names c) xs) (rename_run (renaming names c) ys)
 
--- the canonical equation of two terms of at most 31 nodes with at most six letters
+-- the canonical equation of two terms of at most 31 nodes with at most six v letters
 pub record CanonicalTerms (xs ys : List ℕ) (room : ℕ) (e : Sides) : Type 0 where
   pub exact : (s t : Term) → IsRun xs s → IsRun ys t → size s ≤ 31 → size t ≤ 31
-      → length (rising (letters s ++ letters t)) ≤ 6 → 31 ≤ room
+      → length (rising (variables (letters s ++ letters t))) ≤ 6 → 31 ≤ room
       → (e.left ≡ run (canonical_terms s t).left) × (e.right ≡ run (canonical_terms s t).right)

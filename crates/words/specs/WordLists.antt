@@ -3,7 +3,7 @@ use Rattle.std.specs.Prelude.{◌≡◌, ℕ, ◌*◌, ◌/◌, ◌<◌, ◌≤�
 use Rattle.terms.specs.Compare.{order_numbers}
 use Rattle.terms.specs.Equation.{Equation, orient}
 use Rattle.terms.specs.Term.{Term, size}
-use Rattle.terms.specs.Letters.{letters, rising}
+use Rattle.terms.specs.Letters.{letters, rising, variables}
 use Rattle.terms.specs.Run.{ZERO}
 use Rattle.terms.specs.Held.{IsRun}
 use Rattle.terms.specs.Promises.{ordering_of}
@@ -49,10 +49,10 @@ abbrev pub word_candidate : (names us vs : List ℕ) → ℕ → Equation (List 
 word_candidate names us vs c =
     orient order_numbers (spelled (rename_words (renaming names c) (slot_words us))) (spelled (rename_words (renaming names c) (slot_words vs)))
 
--- the canonical equation of the words of two terms of at most 31 nodes with at most six letters
+-- the canonical equation of the words of two terms of at most 31 nodes with at most six v letters
 pub record CanonicalWords (xs ys : List ℕ) (room : ℕ) (e : Sides) : Type 0 where
   pub exact : (s t : Term) → IsRun xs s → IsRun ys t → size s ≤ 31 → size t ≤ 31
-      → length (rising (letters s ++ letters t)) ≤ 6 → SLOT * MOST ≤ room
+      → length (rising (variables (letters s ++ letters t))) ≤ 6 → SLOT * MOST ≤ room
       → (e.left ≡ spelled (canonical_words (words s) (words t)).left)
       × (e.right ≡ spelled (canonical_words (words s) (words t)).right)
 

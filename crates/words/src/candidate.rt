@@ -1,4 +1,4 @@
-// The least equation over all renamings of its letters.
+// The least equation over all renamings of its v letters.
 ghost use Rattle.std.specs.Prelude.{◌≡◌, ℕ, ◌+◌, ◌-◌, ◌≤◌, length, take};
 ghost use Rattle.terms.specs.Compare.{order_numbers};
 ghost use Rattle.terms.specs.Equation.{orient};
@@ -24,18 +24,18 @@ use std::marker::Model;
 use terms::candidate::in_order;
 use terms::term;
 
-// The most letters that are renamed.
-pub const LETTERS: usize = 6;
+// The most v letters that are renamed.
+pub const MOST_VARIABLES: usize = 6;
 
 // The most nodes of a term.
 const NODES: usize = 31;
 
-// The factorials up to that of LETTERS.
+// The factorials up to that of MOST_VARIABLES.
 const FACTORIALS: [usize; 7] = [1, 1, 2, 6, 24, 120, 720];
 
 // How many permutations k numbers have.
 pub fn factorial(k: usize) -> usize
-    requires { k ≤ LETTERS }
+    requires { k ≤ MOST_VARIABLES }
     ensures { result ≡ factorial k }
 {
     FACTORIALS[k]
@@ -43,7 +43,7 @@ pub fn factorial(k: usize) -> usize
 
 // Permutation number c of the k numbers from i on, at the front of a buffer.
 pub fn permutation(c: usize, k: usize, i: u32, out: &mut [u32])
-    requires { (k ≤ length out.old) × (i + k ≤ LETTERS) }
+    requires { (k ≤ length out.old) × (i + k ≤ MOST_VARIABLES) }
     ensures { take k out.new ≡ decoded k i c }
 {
     if k == 0 {
@@ -198,12 +198,12 @@ trait Renamed {
 
 // The least equation over all renamings of the names.
 fn least_renaming<S: Renamed>(sides: &mut S, names: &[u32], best: &mut Equation<'_>)
-    requires { length names.now ≤ LETTERS }
+    requires { length names.now ≤ MOST_VARIABLES }
     ensures found { Finds (S.is_room sides.old best.old.room) (least_to order_numbers (λ c. S.equation sides.old (renaming names.now c)) (factorial (length names.now) - 1)) best.new.sides }
     ensures room { best.new.room ≡ best.old.room }
 {
     let k = names.len();
-    let mut numbers = [0u32; LETTERS];
+    let mut numbers = [0u32; MOST_VARIABLES];
     for c in 0..factorial(k) {
         permutation(c, k, 0, &mut numbers);
         sides.offer(&Renaming::new(names, &numbers[..k]), c, best);
@@ -232,15 +232,15 @@ impl<'a> Renamed for Terms<'a> {
     }
 }
 
-// The least equation over all renamings of the letters of two terms; nothing if there are more than six letters. No Option: nothing stands
+// The least equation over all renamings of the v letters of two terms; nothing if there are more than six. No Option: nothing stands
 // where there is no room, too, and an accepted job meets neither.
 // A side of 31 nodes wants 31 numbers of room.
 pub fn canonical_terms(a: &[u32], b: &[u32], best: &mut Equation<'_>)
     ensures found { CanonicalTerms a.now b.now best.old.room best.new.sides }
     ensures room { best.new.room ≡ best.old.room }
 {
-    let mut names = [0u32; LETTERS];
-    match term::letters(a, b, &mut names) {
+    let mut names = [0u32; MOST_VARIABLES];
+    match term::variables(a, b, &mut names) {
         Some(k) => least_renaming(&mut Terms { a, b }, &names[..k], best),
         None => best.clear(),
     }

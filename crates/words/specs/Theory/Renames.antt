@@ -1,19 +1,17 @@
 -- Terms and lists of words renamed one renaming after another, by the renaming that changes nothing, and their letters.
 use Rattle.std.specs.Prelude.{◌≡◌, ℕ, List, [], ◌∷◌, ◌++◌, map, refl}
-use Rattle.std.proofs.Common.{arith, sym, ◌∙◌, ap, ap₂, ⊎_elim}
+use Rattle.std.proofs.Common.{arith, sym, ◌∙◌, ap, ap₂}
 use mathlib.Core.List.{flatten, map-append, map-map, map-id}
-use Rattle.terms.specs.Lists.{◌∈◌, here, there, not-in-nil, append_cases, in_left, in_right, in-cast, in_map, of_map}
+use Rattle.terms.specs.Lists.{◌∈◌, in-cast, in_map, of_map}
 use Rattle.terms.specs.Sort.{kept}
 use Rattle.terms.specs.Term.{Term, letter, zero, one, add, mul, size, subst}
 use Rattle.terms.specs.Letters.{letters}
-use Rattle.terms.specs.Theory.SortMembers.{sort_members}
 use Rattle.words.specs.Words.{Word, products, normal, words, expand}
 use Rattle.words.specs.Rename.{rename_term, rename_words}
-use Rattle.words.specs.Theory.Order.{word_order}
 use Rattle.words.specs.Theory.Renaming.{rename_term_depends, rename_words_depends}
 use Rattle.words.specs.Theory.Products.{normal_normal}
 use Rattle.words.specs.Theory.Expand.{words_expand}
-use Rattle.words.specs.Theory.WordLetters.{each_expanded, each_flat, rename_sorted_words}
+use Rattle.words.specs.Theory.WordLetters.{each_expanded, each_flat, sorted_letters, rename_sorted_words}
 use Rattle.words.specs.Theory.Names.{Image}
 use Rattle.words.specs.Theory.Alike.{Renames}
 
@@ -70,23 +68,6 @@ flat_map : (f : ℕ → ℕ) (ws : List Word) → flatten (map (map f) ws) ≡ m
 unfolding flatten
 flat_map f [] = refl
 flat_map f (w ∷ ws) = ap (λ l. map f w ++ l) (flat_map f ws) ∙ sym (map-append f w (flatten ws))
-
-in_flat : {w : Word} {ws : List Word} {n : ℕ} → w ∈ ws → n ∈ w → n ∈ flatten ws
-unfolding flatten
-in_flat (here {xs = ws} e) i = in_left (flatten ws) (rw e at i)
-in_flat (there {x = v} k) i = in_right v (in_flat k i)
-
-of_flat : (ws : List Word) {n : ℕ} → n ∈ flatten ws → (w : Word) × w ∈ ws × n ∈ w
-unfolding flatten
-of_flat [] i = absurd (not-in-nil i)
-of_flat (w ∷ ws) i = ⊎_elim (λ j. (w, here refl, j)) (λ j. let (v, k, l) = of_flat ws j in (v, there k, l)) (append_cases w i)
-
--- the letters of a sorted list are those of the list
-sorted_letters : (ws : List Word) (n : ℕ) → (n ∈ flatten (normal kept ws) → n ∈ flatten ws) × (n ∈ flatten ws → n ∈ flatten (normal kept ws))
-sorted_letters ws n = (
-  λ i. let (w, k, j) = of_flat (normal kept ws) i in in_flat ((sort_members kept word_order ws w).0 k) j,
-  λ i. let (w, k, j) = of_flat ws i in in_flat ((sort_members kept word_order ws w).1 k) j,
-)
 
 rename_words_letters : (f : ℕ → ℕ) (ws : List Word) → Image f (flatten ws) (flatten (rename_words f ws))
 unfolding rename_words

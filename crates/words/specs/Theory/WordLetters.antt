@@ -1,19 +1,15 @@
 -- Words before they are sorted: their letters are the term's, and they are renamed as the sorted ones are.
-use Rattle.std.specs.Prelude.{◌≡◌, ℕ, ◌≤◌, List, [], ◌∷◌, ◌++◌, map, length, refl}
-use Prim.Native.Nat.{compare}
-use Rattle.std.proofs.Common.{◌∙◌, ap}
+use Rattle.std.specs.Prelude.{◌≡◌, ℕ, ◌≤◌, ◌↔◌, List, [], ◌∷◌, ◌++◌, map, length, refl}
 use Rattle.std.proofs.Math.Logic.{⊎_elim}
 use mathlib.Core.List.Permᴰ
-use mathlib.Core.List.{foldr, foldr-append, flatten}
+use mathlib.Core.List.{flatten}
 use Rattle.terms.specs.Lists.{◌∈◌, here, there, not-in-nil, append_cases, only_one, in_left, in_right, of_map}
-use Rattle.terms.specs.Sort.{kept, lost, insert}
+use Rattle.terms.specs.Sort.{kept}
 use Rattle.terms.specs.Term.{Term, letter, zero, one, add, mul}
-use Rattle.terms.specs.Letters.{letters, EachLetter, rising}
-use Rattle.terms.specs.Theory.Order.{compare_order}
-use Rattle.terms.specs.Theory.Folds.{Unordered, unordered_many}
-use Rattle.terms.specs.Theory.Sorting.{insert_unordered, sort_fold, fold_sort, sort_permutation, sort_of_permutation}
-use Rattle.terms.specs.Theory.Distinct.{distinct_length}
-use Rattle.terms.specs.Theory.Letters.{rising_distinct, rising_members}
+use Rattle.terms.specs.Letters.{letters, EachLetter, rising, FIXED, variables}
+use Rattle.terms.specs.Theory.Sorting.{sort_permutation, sort_of_permutation}
+use Rattle.terms.specs.Theory.SortMembers.{sort_members}
+use Rattle.terms.specs.Theory.Letters.{below_same, below_fewer}
 use Rattle.words.specs.Words.{Word, products, normal, expand}
 use Rattle.words.specs.Rename.{rename_words}
 use Rattle.words.specs.Theory.Order.{word_order}
@@ -54,41 +50,52 @@ module _ (P : ℕ → Type 0) where
   each_flat [] h n m = absurd (not-in-nil m)
   each_flat (w ∷ ws) h n m = ⊎_elim (h w (here refl) n) (each_flat ws (λ v i. h v (there i)) n) (append_cases w m)
 
--- so the words have no more letters than the terms
-pub fewer_letters : (s t : Term) → length (rising (flatten (expand s) ++ flatten (expand t))) ≤ length (rising (letters s ++ letters t))
-fewer_letters s t =
-    let all = letters s ++ letters t in
-    let us = flatten (expand s) in
-    let vs = flatten (expand t) in
-    distinct_length (rising_distinct (us ++ vs)) (rising all)
-    (λ n m. (rising_members all n).1
-    (⊎_elim
-    (λ k. in_left (letters t) (each_flat (λ n. n ∈ letters s) (expand s) (each_expanded (λ n. n ∈ letters s) s (λ n i. i)) n k))
-    (λ k. in_right (letters s) (each_flat (λ n. n ∈ letters t) (expand t) (each_expanded (λ n. n ∈ letters t) t (λ n i. i)) n k))
-    (append_cases us ((rising_members (us ++ vs) n).0 m))))
+-- so the words have no more v letters than the terms
 
--- letters are listed alike before and after the words are sorted
+letters_in : (s t : Term) (n : ℕ) → n ∈ flatten (expand s) ++ flatten (expand t) → n ∈ letters s ++ letters t
+letters_in s t n i =
+    ⊎_elim
+    (λ k. in_left (letters t) (each_flat (λ n. n ∈ letters s) (expand s) (each_expanded (λ n. n ∈ letters s) s (λ n j. j)) n k))
+    (λ k. in_right (letters s) (each_flat (λ n. n ∈ letters t) (expand t) (each_expanded (λ n. n ∈ letters t) t (λ n j. j)) n k))
+    (append_cases (flatten (expand s)) i)
 
-insert_kept : Unordered kept (insert lost compare)
-insert_kept = record { swap = (insert_unordered lost compare_order).swap; twice = tt }
+pub fewer_variables : (s t : Term)
+    → length (rising (variables (flatten (expand s) ++ flatten (expand t)))) ≤ length (rising (variables (letters s ++ letters t)))
+fewer_variables s t = below_fewer FIXED (flatten (expand s) ++ flatten (expand t)) (letters s ++ letters t) (letters_in s t)
 
--- the letters of a word inserted
-abbrev insert_word : Word → List ℕ → List ℕ
-insert_word w ns = foldr (insert lost compare) ns w
+-- v letters are listed alike before and after the words are sorted
 
-insert_flat : (ns : List ℕ) (ws : List Word) → foldr (insert lost compare) ns (flatten ws) ≡ foldr insert_word ns ws
+in_flat : {w : Word} {ws : List Word} {n : ℕ} → w ∈ ws → n ∈ w → n ∈ flatten ws
 unfolding flatten
-insert_flat ns [] = refl
-insert_flat ns (w ∷ ws) = foldr-append (insert lost compare) ns w (flatten ws) ∙ ap (insert_word w) (insert_flat ns ws)
+in_flat (here {xs = ws} e) i = in_left (flatten ws) (rw e at i)
+in_flat (there {x = v} k) i = in_right v (in_flat k i)
 
-insert_sorted_words : (ns : List ℕ) (ws : List Word)
-    → foldr (insert lost compare) ns (flatten (normal kept ws)) ≡ foldr (insert lost compare) ns (flatten ws)
-insert_sorted_words ns ws =
-    rw (insert_flat ns (normal kept ws), insert_flat ns ws) (fold_sort word_order (unordered_many insert_kept (λ w. w)) ns ws)
+of_flat : (ws : List Word) {n : ℕ} → n ∈ flatten ws → (w : Word) × w ∈ ws × n ∈ w
+unfolding flatten
+of_flat [] i = absurd (not-in-nil i)
+of_flat (w ∷ ws) i = ⊎_elim (λ j. (w, here refl, j)) (λ j. let (v, k, l) = of_flat ws j in (v, there k, l)) (append_cases w i)
 
-pub rising_sorted_words : (us vs : List Word) → rising (flatten (normal kept us) ++ flatten (normal kept vs)) ≡ rising (flatten us ++ flatten vs)
-unfolding rising
-rising_sorted_words us vs = simp (sort_fold lost compare_order, foldr-append, insert_sorted_words)
+-- the letters of a sorted list are those of the list
+pub sorted_letters : (ws : List Word) (n : ℕ) → n ∈ flatten (normal kept ws) ↔ n ∈ flatten ws
+sorted_letters ws n = (
+  λ i. let (w, k, j) = of_flat (normal kept ws) i in in_flat ((sort_members kept word_order ws w).0 k) j,
+  λ i. let (w, k, j) = of_flat ws i in in_flat ((sort_members kept word_order ws w).1 k) j,
+)
+
+pub rising_sorted_words : (us vs : List Word)
+    → rising (variables (flatten (normal kept us) ++ flatten (normal kept vs))) ≡ rising (variables (flatten us ++ flatten vs))
+rising_sorted_words us vs =
+    below_same FIXED (flatten (normal kept us) ++ flatten (normal kept vs)) (flatten us ++ flatten vs) (λ n. (only n, all n))
+  where
+    only : (n : ℕ) → n ∈ flatten (normal kept us) ++ flatten (normal kept vs) → n ∈ flatten us ++ flatten vs
+    only n i =
+        ⊎_elim (λ j. in_left (flatten vs) ((sorted_letters us n).0 j)) (λ j. in_right (flatten us) ((sorted_letters vs n).0 j))
+        (append_cases (flatten (normal kept us)) i)
+
+    all : (n : ℕ) → n ∈ flatten us ++ flatten vs → n ∈ flatten (normal kept us) ++ flatten (normal kept vs)
+    all n i =
+        ⊎_elim (λ j. in_left (flatten (normal kept vs)) ((sorted_letters us n).1 j)) (λ j. in_right (flatten (normal kept us)) ((sorted_letters vs n).1 j))
+        (append_cases (flatten us) i)
 
 -- and renaming sorts anyway
 pub rename_sorted_words : (f : ℕ → ℕ) (ws : List Word) → rename_words f (normal kept ws) ≡ rename_words f ws

@@ -1,4 +1,4 @@
-// New numbers for letters.
+// New numbers for names. A number that is not among them stays, as c letters do.
 ghost use Rattle.std.specs.Prelude.{◌≡◌, ◌==◌, ◌<◌, length, position, IfSome};
 ghost use Rattle.std.proofs.lemmas.List.Edits.{sets};
 ghost use Rattle.words.specs.Rename.{renamed};

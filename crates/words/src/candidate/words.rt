@@ -1,12 +1,12 @@
-// The least equation of two lists of words over all renamings of their letters.
+// The least equation of two lists of words over all renamings of their v letters.
 ghost use Rattle.std.specs.Prelude.{◌≡◌, ◌≤◌, [], ◌∷◌, map, length, take};
 ghost use Prim.Native.Nat.{compare};
 ghost use mathlib.Core.List.{flatten};
 ghost use Rattle.terms.specs.Compare.{order_numbers};
 ghost use Rattle.terms.specs.Equation.{orient};
 ghost use Rattle.terms.specs.Sort.{lost, insert_all};
-ghost use Rattle.terms.specs.Numbers.{letters_of};
-ghost use Rattle.terms.specs.Promises.{Fills, Lists};
+ghost use Rattle.terms.specs.Letters.{variables};
+ghost use Rattle.terms.specs.Promises.{Fills, ListsVariables};
 ghost use Rattle.words.specs.Spelled.{spelled};
 ghost use Rattle.words.specs.Rename.{rename_words};
 ghost use Rattle.words.specs.RenameRun.{rename_run};
@@ -17,24 +17,26 @@ ghost use Rattle.words.specs.WordLists.{slot_words, RenamesWords, WordRoom, Cano
 use super::super::normal_form::{LONGEST, ROOM, SLOT, front, multiply_out, put_word, word_of};
 use super::super::sort::spell_sorted;
 use super::renaming::Renaming;
-use super::{Equation, LETTERS, Renamed, least_renaming};
+use super::{Equation, MOST_VARIABLES, Renamed, least_renaming};
 use terms::term;
+use terms::term::FIXED;
 
-// The letters of the words in all the slots put among the first `n` numbers, one after another.
+// The v letters of the words in all the slots put among the first `n` numbers, one after another.
 fn gather_words(words: &[u32], out: &mut [u32], n: usize) -> Option<usize>
     requires { n ≤ length out.old }
-    ensures { Fills (insert_all lost compare (take n out.old) (letters_of (flatten (slot_words words.now)))) out.old result out.new }
+    ensures { Fills (insert_all lost compare (take n out.old) (variables (flatten (slot_words words.now)))) out.old result out.new }
 {
     let mut count = n;
     for i in 0..words.len() / SLOT {
-        count = term::gather(word_of(words, i), out, count)?;
+        count = term::gather(word_of(words, i), out, count, FIXED)?;
     }
     Some(count)
 }
 
-// The different letters of the words in two lists of slots, rising, in the front of `out`. The same for runs is in terms; no run holds all words.
-fn letters_of_words(u: &[u32], v: &[u32], out: &mut [u32]) -> Option<usize>
-    ensures { Lists (flatten (slot_words u.now)) (flatten (slot_words v.now)) out.old result out.new }
+// The different v letters of the words in two lists of slots, rising, in the front of `out`. The same for runs is in terms; no run holds all
+// words.
+fn variables_of_words(u: &[u32], v: &[u32], out: &mut [u32]) -> Option<usize>
+    ensures { ListsVariables (flatten (slot_words u.now)) (flatten (slot_words v.now)) out.old result out.new }
 {
     let n = gather_words(u, out, 0)?;
     gather_words(v, out, n)
@@ -98,7 +100,7 @@ impl<'a> Renamed for WordLists<'a> {
     }
 }
 
-// The least equation of the words of two terms over all renamings of the words' letters; nothing if they are more than six, as there.
+// The least equation of the words of two terms over all renamings of the words' v letters; nothing if they are more than six, as there.
 // Each list wants 5,508 numbers of room, as `words_of` does.
 pub fn canonical_words(a: &[u32], b: &[u32], best: &mut Equation<'_>)
     ensures found { CanonicalWords a.now b.now best.old.room best.new.sides }
@@ -111,8 +113,8 @@ pub fn canonical_words(a: &[u32], b: &[u32], best: &mut Equation<'_>)
     let n = multiply_out(b, &mut v, &mut scratch);
     let us = &u[..SLOT * m];
     let vs = &v[..SLOT * n];
-    let mut names = [0u32; LETTERS];
-    match letters_of_words(us, vs, &mut names) {
+    let mut names = [0u32; MOST_VARIABLES];
+    match variables_of_words(us, vs, &mut names) {
         Some(k) => {
             let mut lists = WordLists {
                 u: us,
