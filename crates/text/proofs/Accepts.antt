@@ -35,7 +35,7 @@ use Rattle.text.specs.Answer.{refused, accepted, ◌>>=◌, require}
 use Rattle.text.specs.Job.{in_range, oriented, few}
 use Rattle.text.specs.FindJob.{every, comes_before, several, in_place, all_small, accept_each, job_of}
 use Rattle.text.specs.LayoutRead.{capped}
-use Rattle.text.specs.Accepting.{FewLetters, AllPass, Orients, Takes, AcceptsSides}
+use Rattle.text.specs.Accepting.{FewVariables, AllPass, Orients, Takes, AcceptsSides}
 use Rattle.text.specs.Theory.Jobs.{in_range_true}
 use Rattle.text.specs.Theory.FindJobs.{all_kept}
 
@@ -90,7 +90,7 @@ module _ {xs ys zs rights rights' : List ℕ} {e : Equation (List ℕ)} where
             (kept.0, held_more [] (orient order s t).right H (none_held rights) (rw same kept.1));
       }
 
--- what is asked of left and a right side: at most six letters; that they differ; that right does not come before left
+-- what is asked of left and a right side: at most six v letters; that they differ; that right does not come before left
 
 abbrev pub few_with : Term → Term → Bool
 few_with s t = few (letters s ++ letters t)
@@ -175,7 +175,7 @@ not_before Greater s t e = rw (← e, comes_before)
 
 -- the code's tests of left and each right side in turn
 module _ {Tells : List ℕ → Bool → Type 0} {xs rights : List ℕ} {n : ℕ} {r : Bool} (h : AllPass Tells rights n r) where
-  pub letters_found : ((ys : List ℕ) (b : Bool) → Tells ys b → FewLetters xs ys b) → Found few_with xs rights n r
+  pub letters_found : ((ys : List ℕ) (b : Bool) → Tells ys b → FewVariables xs ys b) → Found few_with xs rights n r
   letters_found d s ts u v e = h.exact (few_with s) (λ ys t b w told. (d ys b told).exact s t u w) ts v e
 
   pub differ_found : ((ys : List ℕ) (b : Bool) → Tells ys b → (q : Bool) × Equals xs ys q × (b ≡ not q)) → Found differs_from xs rights n r
@@ -197,7 +197,7 @@ small_enough : (s : Term) (ts : List Term) → size s ≤ 31 → all_small ts �
 small_enough s ts h k = rw (le-leb (size s) 31 h, k)
 
 module _ (m : limits.Limits) {xs rights : List ℕ} {n : ℕ} {f : Bool} (letters : Found few_with xs rights n f) where
-  pub refuse_letters : {rights' : List ℕ} → f ≡ false → AcceptsSides xs n m rights (Err refusal.TooManyLetters) rights'
+  pub refuse_letters : {rights' : List ℕ} → f ≡ false → AcceptsSides xs n m rights (Err refusal.TooManyVariables) rights'
   refuse_letters h = record { exact = λ s ts y u v c a b e. letters_many s ts y (small_enough s ts a b) (found few_with letters h u v c) }
 
   module _ (i : f ≡ true) {g : Bool} (limits : g ≡ in_range (limits_of m)) where

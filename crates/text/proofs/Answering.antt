@@ -11,6 +11,7 @@ use Rattle.terms.specs.Promises.{Fills, Lists}
 use Rattle.std.specs.Prelude.{Option}
 use Rattle.std.specs.Prelude.{Some, None}
 use Rattle.std.proofs.lemmas.Option.{same_Some, none-some}
+use Rattle.terms.specs.Theory.Letters.{letters_few}
 use Rattle.terms.proofs.Gathered.{fills_front}
 use Rattle.terms.proofs.Held.{size_pos}
 use Rattle.search.specs.Line.{Line}
@@ -25,10 +26,16 @@ use Rattle.text.specs.Job.{Job}
 use Rattle.text.specs.Walk.{Walk}
 use Rattle.text.specs.Answering.{Sides, Led}
 
--- the letters of an accepted job fill the front of six numbers
+-- the letters of an accepted job fill the front of 32 numbers
 module _ {left right names names' : List ℕ} {l : Option ℕ} {j : Job} (S : Sides left right j) (L : Lists left right names l names') where
   filled : Fills (rising (letters j.left ++ letters j.right)) names l names'
   filled = L.terms j.left j.right S.left_run S.right_run
+
+  pub letters_fit : length names ≡ 32 → l ≡ None → ⊥
+  letters_fit room e =
+      let f : Fills (rising (letters j.left ++ letters j.right)) names None names' = rw e at filled in
+      let fit = S.known.sides in
+      omega (arith, f.0, letters_few j.left j.right fit.small_left fit.small_right)
 
   pub letters_listed : {n : ℕ} → l ≡ Some n → take n names' ≡ rising (letters j.left ++ letters j.right)
   letters_listed {n} e =

@@ -8,7 +8,7 @@ use Rattle.std.specs.Prelude.{Result, Ok, Err, IfOk}
 use Rattle.std.specs.Borrow.{MutBor}
 use Rattle.terms.specs.Lists.{◌∈◌}
 use Rattle.terms.specs.Term.{Term, size}
-use Rattle.terms.specs.Letters.{letters, rising}
+use Rattle.terms.specs.Letters.{letters, rising, variables}
 use Rattle.terms.specs.Held.{IsRun}
 use Rattle.words.specs.Words.{words}
 use Rattle.words.specs.Rename.{canonical_terms}
@@ -75,7 +75,7 @@ module _ {Post : Sides → MutBor (List ℕ) → Result ℕ Refusal → MutBor (
   -- and RENAME
   pub rename_given :
       ((sides : Sides) (o o' : MutBor (List ℕ)) (q : Result ℕ Refusal) → Post sides o q o'
-      → (s t : Term) → IsRun sides.left.now s → IsRun sides.right.now t → size s ≤ 31 → size t ≤ 31 → length (rising (letters s ++ letters t)) ≤ 6
+      → (s t : Term) → IsRun sides.left.now s → IsRun sides.right.now t → size s ≤ 31 → size t ≤ 31 → length (rising (variables (letters s ++ letters t))) ≤ 6
       → Gives (fitting (length o.now) (term_lines (canonical_terms s t) ++ renamed_words (words s) (words t))) o.now q o'.now)
       → Gives (rename_entry job (length out)) out r out'
   unfolding rename_entry ◌>>=◌

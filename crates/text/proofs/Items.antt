@@ -1,5 +1,5 @@
 -- The items of a term's text, one after the other, with a byte between them.
-use Prim.Native.Nat.{ℕ, zero, suc, ◌+◌, ◌≤◌, ◌<◌}
+use Prim.Native.Nat.{ℕ, zero, suc, ◌+◌, ◌-◌, ◌≤◌, ◌<◌}
 use Prim.Native.Char.{code}
 use mathlib.Core.Path.{◌≡◌, refl, sym, ap, ap₂, ◌∙◌}
 use mathlib.Core.List.{List, [], ◌∷◌, ◌++◌, map, append_assoc, map-append}
@@ -11,12 +11,14 @@ use lib.Seq.{take-suc, take_all, length-take-le}
 use Rattle.terms.specs.Run.{ZERO, ONE, ADD, run}
 use Rattle.terms.specs.Held.{Fine, IsRun}
 use Rattle.terms.specs.Term.{Term, letter, zero, one, add, mul}
+use Rattle.terms.specs.Letters.{FIXED}
 use Rattle.text.specs.Bytes.{number, parted}
 use Rattle.text.specs.TermText.{write_letter, items, write_term}
 use Rattle.text.specs.Items.{sign_of, item, gap}
 use Rattle.text.specs.Writer.{Writes}
 use Rattle.text.specs.declared.writer.Writer.{Writer}
 use Rattle.text.proofs.Writing.{then, put_as, put_none}
+use Rattle.text.specs.Theory.TermText.{write_v, write_c}
 use Rattle.text.proofs.Decimal.{number_small}
 
 -- ---- one item
@@ -26,12 +28,13 @@ unfolding sign_of
 sign_mul n f g h = rw (ne_eqb n ZERO f, sign_of) (rw (ne_eqb n ONE g) (rw (ne_eqb n ADD h)))
 
 pub put_digit : {o o₁ o₂ : Writer} (n : ℕ) → n < 10 → Writes (code "v" ∷ []) o o₁ → Writes ((48 + n) ∷ []) o₁ o₂ → Writes (write_letter n) o o₂
-unfolding write_letter
-put_digit n h p q = then p (put_as (sym (number_small n h)) q)
+put_digit n h p q = put_as (sym (write_v n (omega arith))) (then p (put_as (sym (number_small n h)) q))
 
-pub put_written : {o o₁ o₂ : Writer} (n : ℕ) → Writes (code "v" ∷ []) o o₁ → Writes (number n) o₁ o₂ → Writes (write_letter n) o o₂
-unfolding write_letter
-put_written n p q = then p q
+pub put_v : {o o₁ o₂ : Writer} (n : ℕ) → n < FIXED → Writes (code "v" ∷ []) o o₁ → Writes (number n) o₁ o₂ → Writes (write_letter n) o o₂
+put_v n h p q = put_as (sym (write_v n h)) (then p q)
+
+pub put_c : {o o₁ o₂ : Writer} (n : ℕ) → FIXED ≤ n → Writes (code "c" ∷ []) o o₁ → Writes (number (n - FIXED)) o₁ o₂ → Writes (write_letter n) o o₂
+put_c n h p q = put_as (sym (write_c n h)) (then p q)
 
 letter_item : (n : ℕ) → n < ZERO → write_letter n ≡ item n
 unfolding item
@@ -63,8 +66,8 @@ put_some_gap s i h p = put_as (sym (gap_some s i h)) p
 
 -- a letter of one digit, not the first
 pub digit_letter : (s i n : ℕ) → 0 < i → n < 10 → s ∷ code "v" ∷ (48 + n) ∷ [] ≡ gap s i ++ write_letter n
-unfolding write_letter
-digit_letter s i n h k = ap₂ ◌++◌ (sym (gap_some s i h)) (ap (λ l. code "v" ∷ l) (sym (number_small n k)))
+digit_letter s i n h k =
+    ap₂ ◌++◌ (sym (gap_some s i h)) (ap (λ l. code "v" ∷ l) (sym (number_small n k)) ∙ sym (write_v n (omega arith)))
 
 -- a piece more behind the others
 parted_behind : (s : ℕ) (p : List ℕ) (ps : List (List ℕ)) (q : List ℕ) → (parted s (p ∷ ps) ++ (s ∷ [])) ++ q ≡ parted s (p ∷ (ps ++ (q ∷ [])))

@@ -6,7 +6,7 @@ use mathlib.Core.Path.{◌≡◌, refl, sym, subst, ◌∙◌}
 use borrow.Author.Tests.{ne_eqb, le-leb, lt-leb}
 use Rattle.terms.specs.Theory.Order.{below?}
 use Rattle.text.specs.declared.job.Sign.{Sign}
-use Rattle.text.specs.declared.job.Sign.TheVariants.{Plus, Times, Letter}
+use Rattle.text.specs.declared.job.Sign.TheVariants.{Plus, Times, Variable, Fixed}
 use Rattle.text.specs.declared.job.Mark.{Mark}
 use Rattle.text.specs.declared.job.Mark.TheVariants as is
 use Rattle.text.specs.Marks.{digit, mark}
@@ -21,9 +21,9 @@ at P k b p f =
 
 module _ (b : ℕ) where
   -- past the signs and the space
-  pub other : (b ≡ 43 → ⊥) → (b ≡ 42 → ⊥) → (b ≡ 118 → ⊥) → (b ≡ 32 → ⊥) → mark b ≡ digit b
+  pub other : (b ≡ 43 → ⊥) → (b ≡ 42 → ⊥) → (b ≡ 118 → ⊥) → (b ≡ 99 → ⊥) → (b ≡ 32 → ⊥) → mark b ≡ digit b
   unfolding mark
-  other p q r s = rw (ne_eqb b 43 p, mark) (rw (ne_eqb b 42 q) (rw (ne_eqb b 118 r) (rw (ne_eqb b 32 s))))
+  other p q r t s = rw (ne_eqb b 43 p, mark) (rw (ne_eqb b 42 q) (rw (ne_eqb b 118 r) (rw (ne_eqb b 99 t) (rw (ne_eqb b 32 s)))))
 
   pub inside : 48 ≤ b → b ≤ 57 → digit b ≡ is.Digit (b - 48)
   unfolding digit
@@ -39,14 +39,22 @@ module _ (b : ℕ) where
 
   -- the mark of a digit
   pub marked : 48 ≤ b → b ≤ 57 → mark b ≡ is.Digit (b - 48)
-  marked h k = other (λ p. omega arith) (λ p. omega arith) (λ p. omega arith) (λ p. omega arith) ∙ inside h k
+  marked h k = other (λ p. omega arith) (λ p. omega arith) (λ p. omega arith) (λ p. omega arith) (λ p. omega arith) ∙ inside h k
 
 -- ---- the byte by its mark
 
-abbrev byte : Sign → ℕ
+abbrev pub byte : Sign → ℕ
 byte Plus = 43
 byte Times = 42
-byte Letter = 118
+byte Variable = 118
+byte Fixed = 99
+
+sign_mark : (s : Sign) → mark (byte s) ≡ is.Sign s
+unfolding mark
+sign_mark Plus = refl
+sign_mark Times = refl
+sign_mark Variable = refl
+sign_mark Fixed = refl
 
 -- what a mark tells of the byte
 abbrev pub Tells : ℕ → Mark → Type 0
@@ -71,7 +79,8 @@ mark_tells b =
     at P 43 b refl
     (λ p. at P 42 b refl
     (λ q. at P 118 b refl
-    (λ r. at P 32 b refl (λ s. subst (Tells b) (sym (other b p q r s)) (digit_tells b)))))
+    (λ r. at P 99 b refl
+    (λ t. at P 32 b refl (λ s. subst (Tells b) (sym (other b p q r t s)) (digit_tells b))))))
   where
     P : ℕ → Type 0
     P x = Tells x (mark x)

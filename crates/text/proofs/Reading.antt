@@ -1,5 +1,5 @@
 -- Items of a term: one byte by what it is, a letter by its number.
-use Prim.Native.Nat.{ℕ, zero, suc, ◌≤◌, ◌<◌, ◌-◌}
+use Prim.Native.Nat.{ℕ, zero, suc, ◌+◌, ◌≤◌, ◌<◌, ◌-◌}
 use Rattle.std.specs.Option.{MatchOption}
 use Rattle.std.specs.declared.option.Option as answered
 use Rattle.std.specs.declared.option.Option.TheVariants.{Some, None}
@@ -8,7 +8,7 @@ use native.Mathlib.Omega.{arith}
 use mathlib.Core.Logic.{⊎_elim}
 use mathlib.Core.Option.{Option, none, some}
 use mathlib.Core.List.{List, [], ◌∷◌}
-use mathlib.Core.Path.{◌≡◌, refl, ap, sym, ◌∙◌}
+use mathlib.Core.Path.{◌≡◌, refl, ap, sym, subst, ◌∙◌}
 use lib.ListN.{length, get_or, drop}
 use borrow.Author.Tests.{eq-eqb, ne_eqb, le-leb, lt-leb, lt-ltb}
 use Rattle.terms.specs.Theory.Order.{below?}
@@ -16,12 +16,12 @@ use Rattle.terms.specs.Term as term
 use Rattle.terms.specs.Term.{letter}
 use Rattle.terms.specs.Build.{Token, atom, plus, times}
 use Rattle.terms.specs.Numbers as numbers
-use Rattle.text.specs.declared.job.Sign.TheVariants.{Plus, Times, Letter}
+use Rattle.text.specs.declared.job.Sign.TheVariants.{Plus, Times, Variable, Fixed}
 use Rattle.text.specs.declared.job.Mark.{Mark}
 use Rattle.text.specs.declared.job.Mark.TheVariants as is
 use Rattle.text.specs.Bytes.{read_number}
 use Rattle.text.specs.Marks.{digit, mark}
-use Rattle.text.specs.TermText.{letter_of, sign, token}
+use Rattle.text.specs.TermText.{letter_of, v_letter, c_letter, sign, token}
 use Rattle.text.specs.Reading.{Numbered, limited}
 use Rattle.text.proofs.Marking.{at, other, inside, below, above}
 use Rattle.text.proofs.Numbers.{allowed, too_large, malformed}
@@ -30,7 +30,8 @@ use Rattle.text.proofs.Numbers.{allowed, too_large, malformed}
 abbrev pub told : Mark → Option Token
 told (is.Sign Plus) = some plus
 told (is.Sign Times) = some times
-told (is.Sign Letter) = none
+told (is.Sign Variable) = none
+told (is.Sign Fixed) = none
 told (is.Digit zero) = some (atom term.zero)
 told (is.Digit (suc zero)) = some (atom term.one)
 told (is.Digit (suc (suc d))) = none
@@ -66,7 +67,8 @@ signs b =
     (λ q. at P 48 b refl
     (λ t. at P 49 b refl
     (λ u. at P 118 b refl
-    (λ r. at P 32 b refl (λ s. no_sign b p q t u ∙ sym (ap told (other b p q r s) ∙ no_digit b t u)))))))
+    (λ r. at P 99 b refl
+    (λ w. at P 32 b refl (λ s. no_sign b p q t u ∙ sym (ap told (other b p q r w s) ∙ no_digit b t u))))))))
   where
     P : ℕ → Type 0
     P x = sign x ≡ told (mark x)
@@ -75,46 +77,56 @@ pub one_byte : (b : ℕ) (m : Mark) → mark b ≡ m → token (b ∷ []) ≡ to
 unfolding token
 one_byte b m e = signs b ∙ ap told e
 
--- what a number behind `v` says of the letter
-letters : (o : Option ℕ) → MatchOption (result_ok (limited 999 o)) (letter_of o ≡ none) (λ n. (n ≤ 999) × (letter_of o ≡ some (atom (letter n))))
-unfolding letter_of
-letters none = rw (malformed 999)
-letters (some n) =
-    ⊎_elim
-    (λ l. rw (too_large 999 n l) (rw (lt-leb n 999 l, letter_of)))
-    (λ h. rw (allowed 999 n h) (h, rw (le-leb n 999 h, letter_of)))
-    (below? 999 n)
-
-number_letter : (n : ℕ) → n ≤ 999 → numbers.token n ≡ some (atom (letter n))
+number_letter : (n : ℕ) → n < 4096 → numbers.token n ≡ some (atom (letter n))
 unfolding numbers.token
-number_letter n h = let l : n < 4096 = omega arith in rw (lt-ltb n 4096 l, numbers.token)
+number_letter n h = rw (lt-ltb n 4096 h, numbers.token)
 
--- the item of a letter is its number
-lettered : (bs : List ℕ) (o : Option ℕ) → token bs ≡ letter_of o → (r : answered.Option ℕ)
-    → MatchOption r (letter_of o ≡ none) (λ n. (n ≤ 999) × (letter_of o ≡ some (atom (letter n))))
-    → MatchOption r (token bs ≡ none) (λ x. Numbered bs x)
-lettered bs o e (Some n) l = record { small = omega (arith, l.0); same = e ∙ l.1 ∙ sym (number_letter n l.0) }
-lettered bs o e None l = e ∙ l
+-- what a number behind a letter's sign says of the letter
+module _ (first most : ℕ) where
+  abbrev Letters : Option ℕ → answered.Option ℕ → Type 0
+  Letters o r = MatchOption r (letter_of first most o ≡ none) (λ n. (n ≤ most) × (letter_of first most o ≡ some (atom (letter (first + n)))))
+
+  letters : (o : Option ℕ) → Letters o (result_ok (limited most o))
+  unfolding letter_of
+  letters none = rw (malformed most)
+  letters (some n) =
+      ⊎_elim
+      (λ l. rw (too_large most n l) (rw (lt-leb n most l, letter_of)))
+      (λ h. rw (allowed most n h) (h, rw (le-leb n most h, letter_of)))
+      (below? most n)
+
+  pub letter_most : (o : Option ℕ) {n : ℕ} → result_ok (limited most o) ≡ Some n → n ≤ most
+  letter_most o e = (subst (Letters o) e (letters o)).0
+
+  pub letter_missing : (o : Option ℕ) → result_ok (limited most o) ≡ None → letter_of first most o ≡ none
+  letter_missing o e = subst (Letters o) e (letters o)
+
+  pub letter_read : first + most < 4096 → (o : Option ℕ) (n : ℕ) → result_ok (limited most o) ≡ Some n → Numbered (letter_of first most o) (first + n)
+  letter_read h o n e =
+      let (k, l) = subst (Letters o) e (letters o) in
+      record { small = omega arith; same = l ∙ sym (number_letter (first + n) (omega arith)) }
 
 pub no_item : (bs : List ℕ) → length bs ≤ 0 → token bs ≡ none
 unfolding token
 no_item [] h = refl
 no_item (b ∷ bs) h = absurd (omega (arith, h))
 
--- several bytes are a letter, if the first is `v`
+-- several bytes are a letter, if the first is `v` or `c`
 
-pub no_letter : (bs : List ℕ) → 1 < length bs → (get_or bs 0 0 ≡ 118 → ⊥) → token bs ≡ none
+pub no_letter : (bs : List ℕ) → 2 ≤ length bs → (get_or bs 0 0 ≡ 118 → ⊥) → (get_or bs 0 0 ≡ 99 → ⊥) → token bs ≡ none
 unfolding token
-no_letter [] l n = refl
-no_letter (b ∷ []) l n = absurd (omega (arith, l))
-no_letter (b ∷ c ∷ cs) l n = rw (ne_eqb b 118 n, token)
+no_letter [] l v c = refl
+no_letter (b ∷ []) l v c = absurd (omega (arith, l))
+no_letter (b ∷ d ∷ ds) l v c = rw (ne_eqb b 118 v, token) (rw (ne_eqb b 99 c))
 
-behind : (bs : List ℕ) → 1 < length bs → get_or bs 0 0 ≡ 118 → token bs ≡ letter_of (read_number (drop 1 bs))
+pub v_item : (bs : List ℕ) → 2 ≤ length bs → get_or bs 0 0 ≡ 118 → token bs ≡ v_letter (read_number (drop 1 bs))
 unfolding token
-behind [] l e = absurd (omega (arith, l))
-behind (b ∷ []) l e = absurd (omega (arith, l))
-behind (b ∷ c ∷ cs) l e = rw (eq-eqb b 118 e, token)
+v_item [] l e = absurd (omega (arith, l))
+v_item (b ∷ []) l e = absurd (omega (arith, l))
+v_item (b ∷ d ∷ ds) l e = rw (eq-eqb b 118 e, token)
 
-pub letter_item : (bs : List ℕ) → 1 < length bs → get_or bs 0 0 ≡ 118 → (r : answered.Option ℕ) → r ≡ result_ok (limited 999 (read_number (drop 1 bs)))
-    → MatchOption r (token bs ≡ none) (λ x. Numbered bs x)
-letter_item bs l e r f = lettered bs (read_number (drop 1 bs)) (behind bs l e) r (rw f (letters (read_number (drop 1 bs))))
+pub c_item : (bs : List ℕ) → 2 ≤ length bs → get_or bs 0 0 ≡ 99 → token bs ≡ c_letter (read_number (drop 1 bs))
+unfolding token
+c_item [] l e = absurd (omega (arith, l))
+c_item (b ∷ []) l e = absurd (omega (arith, l))
+c_item (b ∷ d ∷ ds) l e = rw e

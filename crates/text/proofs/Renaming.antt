@@ -1,25 +1,25 @@
--- RENAME's lines, and that the renamed terms have small letters.
+-- RENAME's lines, and that the renamed terms have letters that a run may have.
 use Prim.Native.Nat.{ℕ, ◌≤◌, ◌<◌}
-use mathlib.Core.Path.{◌≡◌, refl, sym, ◌∙◌}
+use mathlib.Core.Path.{◌≡◌, sym, ◌∙◌}
+use mathlib.Core.Logic.{⊎_elim}
 use mathlib.Core.Bool.{Bool, true, false}
 use mathlib.Core.List.{List, [], ◌∷◌, ◌++◌}
 use native.Mathlib.Omega.{arith}
 use lib.Dec.{compare_is_eq}
 use lib.ListN.{length}
-use Rattle.terms.specs.Lists.{◌∈◌, here, in_left, in_right}
-use Rattle.terms.specs.Equation.{Equation, orient}
-use Rattle.terms.specs.Term.{Term, letter, zero, one, add, mul, subst, order, size}
-use Rattle.terms.specs.Letters.{letters, rising}
+use Rattle.terms.specs.Lists.{◌∈◌, append_cases, in_left, in_right}
+use Rattle.terms.specs.Equation.{Equation}
+use Rattle.terms.specs.Term.{Term, size}
+use Rattle.terms.specs.Letters.{letters, rising, variables}
 use Rattle.terms.specs.Run.{ZERO}
 use Rattle.terms.specs.Held.{Fine, IsRun}
-use Rattle.terms.specs.Theory.Letters.{rising_members}
-use Rattle.terms.specs.Theory.Equation.{orient_either}
+use Rattle.terms.specs.Theory.Held.{fine_letters, letters_fine}
 use Rattle.words.specs.Words.{Word, words, order_lists}
 use Rattle.words.specs.Spelled.{spelled}
-use Rattle.words.specs.Rename.{rename_term, canonical_terms, canonical_words}
+use Rattle.words.specs.Rename.{canonical_terms, canonical_words}
 use Rattle.words.specs.WordLists.{CanonicalWords}
 use Rattle.words.specs.Candidate.{CanonicalTerms}
-use Rattle.words.specs.Theory.Renaming.{canonical_terms_least}
+use Rattle.words.specs.Theory.Shared.{renamed_letters}
 use Rattle.text.specs.Bytes.{ascii}
 use Rattle.text.specs.TermText.{write_term}
 use Rattle.text.specs.Answer.{field}
@@ -33,45 +33,25 @@ use Rattle.text.proofs.Writing.{then, put_as}
 
 -- ---- the renamed terms
 
-fine_renamed : (f : ℕ → ℕ) (t : Term) → ((n : ℕ) → n ∈ letters t → f n < ZERO) → Fine (rename_term f t)
-unfolding rename_term subst letters Fine
-fine_renamed f (letter n) h = h n (here refl)
-fine_renamed f zero h = tt
-fine_renamed f one h = tt
-fine_renamed f (add s t) h = (fine_renamed f s (λ n m. h n (in_left (letters t) m)), fine_renamed f t (λ n m. h n (in_right (letters s) m)))
-fine_renamed f (mul s t) h = (fine_renamed f s (λ n m. h n (in_left (letters t) m)), fine_renamed f t (λ n m. h n (in_right (letters s) m)))
-
-abbrev BothFine : Equation Term → Type 0
-BothFine e = Fine e.left × Fine e.right
-
-canonical_fine : (s t : Term) → length (rising (letters s ++ letters t)) ≤ 6 → BothFine (canonical_terms s t)
-canonical_fine s t few = rw e (orient_either (λ u v. Fine u × Fine v) order (rename_term f s) (rename_term f t) (left, right) (right, left))
+canonical_fine : (s t : Term) → Fine s → Fine t → length (rising (variables (letters s ++ letters t))) ≤ 6
+    → Fine (canonical_terms s t).left × Fine (canonical_terms s t).right
+canonical_fine s t f g few = (
+  letters_fine (canonical_terms s t).left (λ n i. low n (in_left (letters (canonical_terms s t).right) i)),
+  letters_fine (canonical_terms s t).right (λ n i. low n (in_right (letters (canonical_terms s t).left) i)),
+)
   where
-    names : List ℕ
-    names = letters s ++ letters t
-
-    f : ℕ → ℕ
-    f = (canonical_terms_least s t).attained.0
-
-    e : canonical_terms s t ≡ orient order (rename_term f s) (rename_term f t)
-    e = (canonical_terms_least s t).attained.2
-
-    small : (n : ℕ) → n ∈ names → f n < ZERO
-    small n m = omega (arith, (canonical_terms_least s t).attained.1.below n ((rising_members names n).1 m), few)
-
-    left : Fine (rename_term f s)
-    left = fine_renamed f s (λ n m. small n (in_left (letters t) m))
-
-    right : Fine (rename_term f t)
-    right = fine_renamed f t (λ n m. small n (in_right (letters s) m))
+    low : (n : ℕ) → n ∈ letters (canonical_terms s t).left ++ letters (canonical_terms s t).right → n < ZERO
+    low n i =
+        ⊎_elim (λ h. omega (arith, few)) (λ j. ⊎_elim (fine_letters s f n) (fine_letters t g n) (append_cases (letters s) j))
+        (renamed_letters s t n i)
 
 -- the runs of the canonical equation
 pub canonical_runs : {xs ys : List ℕ} {e : Equation (List ℕ)} {us vs : List ℕ} → CanonicalTerms xs ys 31 e → us ≡ e.left → vs ≡ e.right
-    → (s t : Term) → IsRun xs s → IsRun ys t → size s ≤ 31 → size t ≤ 31 → length (rising (letters s ++ letters t)) ≤ 6
+    → (s t : Term) → IsRun xs s → IsRun ys t → size s ≤ 31 → size t ≤ 31 → length (rising (variables (letters s ++ letters t))) ≤ 6
     → IsRun us (canonical_terms s t).left × IsRun vs (canonical_terms s t).right
 canonical_runs c u v s t p q small-s small-t few =
     let (l, r) = c.exact s t p q small-s small-t few (omega arith) in
-    let (f, g) = canonical_fine s t few in
+    let (f, g) = canonical_fine s t p.fine q.fine few in
     (record { fine = f; whole = u ∙ l }, record { fine = g; whole = v ∙ r })
 
 -- ---- the renamed lists
@@ -80,11 +60,11 @@ canonical_runs c u v s t p q small-s small-t few =
 module _ {xs ys : List ℕ} {same : Bool}
     (test : (s t : Term) → IsRun xs s → IsRun ys t → size s ≤ 31 → size t ≤ 31 → same ≡ compare_is_eq (order_lists (words s) (words t))) where
   pub no_lists : same ≡ true
-      → (s t : Term) → IsRun xs s → IsRun ys t → size s ≤ 31 → size t ≤ 31 → length (rising (letters s ++ letters t)) ≤ 6 → Renamed (words s) (words t) None
+      → (s t : Term) → IsRun xs s → IsRun ys t → size s ≤ 31 → size t ≤ 31 → length (rising (variables (letters s ++ letters t))) ≤ 6 → Renamed (words s) (words t) None
   no_lists e s t p q small-s small-t few = sym (test s t p q small-s small-t) ∙ e
 
   pub canonical_lists : {room : ℕ} {e : Equation (List ℕ)} {us vs : List ℕ} → same ≡ false → CanonicalWords xs ys room e → us ≡ e.left → vs ≡ e.right
-      → (s t : Term) → IsRun xs s → IsRun ys t → size s ≤ 31 → size t ≤ 31 → length (rising (letters s ++ letters t)) ≤ 6 → 5508 ≤ room
+      → (s t : Term) → IsRun xs s → IsRun ys t → size s ≤ 31 → size t ≤ 31 → length (rising (variables (letters s ++ letters t))) ≤ 6 → 5508 ≤ room
       → (compare_is_eq (order_lists (words s) (words t)) ≡ false)
       × (us ≡ spelled (canonical_words (words s) (words t)).left) × (vs ≡ spelled (canonical_words (words s) (words t)).right)
   canonical_lists differ c u v s t p q small-s small-t few room =

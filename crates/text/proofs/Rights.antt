@@ -11,9 +11,9 @@ use lib.ListN.{length, take, length-append}
 use lib.Seq.{length-take-le}
 use borrow.Author.Tests.{le-leb, lt-leb}
 use Rattle.terms.specs.Term.{Term, size}
-use Rattle.terms.specs.Letters.{letters, rising}
+use Rattle.terms.specs.Letters.{letters, rising, variables}
 use Rattle.terms.specs.Held.{IsRun}
-use Rattle.terms.specs.Promises.{Lists}
+use Rattle.terms.specs.Promises.{ListsVariables}
 use Rattle.terms.specs.Theory.Held.{size_of}
 use Rattle.std.specs.Prelude as code
 use Rattle.std.specs.Prelude.{Some, None, Result, Ok, Err}
@@ -33,24 +33,24 @@ use Rattle.text.specs.Answer.{refused, ◌>>=◌, require, or_refuse}
 use Rattle.text.specs.Reading.{Valued, Unkeyed}
 use Rattle.text.specs.RightLines.{rights_in}
 use Rattle.text.specs.Theory.Keyed.{some_then}
-use Rattle.text.specs.Accepting.{FewLetters, AllPass, small_terms, RightsRead}
+use Rattle.text.specs.Accepting.{FewVariables, AllPass, small_terms, RightsRead}
 use Rattle.text.proofs.RightLines.{stops, goes_on}
 
--- the letters
+-- the v letters
 
 module _ {xs ys names names' : List ℕ} (e : length names ≡ 6) where
-  pub few_letters : (l : code.Option ℕ) → Lists xs ys names l names' → FewLetters xs ys (is_some l)
-  few_letters (Some k) h =
+  pub few_variables : (l : code.Option ℕ) → ListsVariables xs ys names l names' → FewVariables xs ys (is_some l)
+  few_variables (Some k) h =
       record {
         exact = λ s t u v.
             let fills = h.terms s t u v in
-            sym (le-leb (length (rising (letters s ++ letters t))) 6 (omega (arith, fills.0, fills.1)));
+            sym (le-leb (length (rising (variables (letters s ++ letters t)))) 6 (omega (arith, fills.0, fills.1)));
       }
-  few_letters None h =
+  few_variables None h =
       record {
         exact = λ s t u v.
             let fills = h.terms s t u v in
-            sym (lt-leb (length (rising (letters s ++ letters t))) 6 (omega (arith, fills.0)));
+            sym (lt-leb (length (rising (variables (letters s ++ letters t)))) 6 (omega (arith, fills.0)));
       }
 
 -- the right sides one after the other

@@ -69,7 +69,7 @@ module _ (bs rest run : List ℕ) (n : ℕ) (r : Reached bs rest run n) (p : Lis
   foul f = ap single (r.same ∙ ap (onto (take n run)) (built_first rest p ps e ∙ ap (λ k. next k (build token ps)) f) ∙ onto_none (take n run))
 
   -- its number behind the others
-  number_more : (x : ℕ) → Numbered p x → n < length run → built bs ≡ onto (take (n + 1) (set run n x)) (build token ps)
+  number_more : (x : ℕ) → Numbered (token p) x → n < length run → built bs ≡ onto (take (n + 1) (set run n x)) (build token ps)
   number_more x t room =
       r.same
       ∙ ap (onto (take n run)) (built_first rest p ps e ∙ ap (λ k. next k (build token ps)) t.same)
@@ -84,7 +84,7 @@ module _ (bs rest run : List ℕ) (n : ℕ) (r : Reached bs rest run n) (p more 
   pub foul_item : token p ≡ none → read_term bs ≡ none
   foul_item = foul bs rest run n r p (pieces (code " ") more) cut
 
-  pub next_item : (x : ℕ) → Numbered p x → n < length run → Reached bs more (set run n x) (n + 1)
+  pub next_item : (x : ℕ) → Numbered (token p) x → n < length run → Reached bs more (set run n x) (n + 1)
   next_item x t room = record { few = omega (arith, r.few, h.shorter); same = number_more bs rest run n r p (pieces (code " ") more) cut x t room }
 
 -- it is the last
@@ -95,7 +95,7 @@ module _ (bs rest run : List ℕ) (n : ℕ) (r : Reached bs rest run n) (h : up_
   pub foul_last : token rest ≡ none → read_term bs ≡ none
   foul_last = foul bs rest run n r rest [] whole
 
-  pub last_item : (x : ℕ) → Numbered rest x → n < length run → ItemsRead bs (set run n x) (n + 1)
+  pub last_item : (x : ℕ) → Numbered (token rest) x → n < length run → ItemsRead bs (set run n x) (n + 1)
   unfolding read_term read_run read build
   last_item x t room =
       record {

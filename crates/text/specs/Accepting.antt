@@ -41,8 +41,8 @@ Answers answer (Ok j) rights = Takes answer j rights
 abbrev pub jobs_in : Layouts → Answer (List Job)
 jobs_in w = ◌>>=◌ (or_refuse 2 (read_term w.left)) λ s. ◌>>=◌ (or_refuse 2 (read_terms w.rights)) λ ts. accept_each s ts w.limits
 
--- of `few_letters`
-pub record FewLetters (xs ys : List ℕ) (r : Bool) : Type 0 where
+-- of `few_variables`
+pub record FewVariables (xs ys : List ℕ) (r : Bool) : Type 0 where
   pub exact : (s t : Term) → IsRun xs s → IsRun ys t → r ≡ few (letters s ++ letters t)
 
 -- of `all_pass`: each right side passes the test of terms that the code makes of their runs

@@ -4,7 +4,7 @@ use Prim.Native.String.{String}
 use Rattle.std.proofs.Math.Option.{Option, none, some, bind as ◌then◌}
 use Rattle.terms.specs.Compare.{lt, eq, gt}
 use Rattle.terms.specs.Term.{Term, size, order, same}
-use Rattle.terms.specs.Letters.{letters, rising}
+use Rattle.terms.specs.Letters.{letters, rising, those_below}
 use Rattle.search.specs.Line.{Limits}
 use Rattle.text.specs.TermText.{read_term}
 use Rattle.text.specs.Layout.{keyed, limit_lines}
@@ -79,9 +79,9 @@ in_place s ts = elim (several ts) [ true ↦ every (λ t. not (comes_before t s)
 abbrev pub all_small : List Term → Bool
 all_small = every (λ t. leb (size t) 31)
 
--- refusals 3 to 6 and 10; letters are counted for each equation by itself
+-- refusals 3 to 6 and 10; v letters are counted for each equation by itself
 unfoldable pub accept_each : Term → List Term → Limits → Answer (List Job)
-unfolding ◌>>=◌ require size rising letters in_range same oriented every in_place
+unfolding ◌>>=◌ require size rising those_below letters in_range same oriented every in_place
 accept_each s ts m = do
   _ ← require 3 (leb (size s) 31 && all_small ts)
   _ ← require 4 (every (λ t. few (letters s ++ letters t)) ts)

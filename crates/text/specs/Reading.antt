@@ -5,6 +5,7 @@ use Rattle.std.specs.Borrow.{Bor}
 use Prim.Native.String.{String}
 use Rattle.std.proofs.Math.Option.{Option, none, some}
 use Rattle.terms.specs.Run.{MUL}
+use Rattle.terms.specs.Build.{Token}
 use Rattle.terms.specs.Numbers as numbers
 use Rattle.text.specs.declared.job.NumberError.{NumberError}
 use Rattle.text.specs.declared.job.NumberError.TheVariants.{TooLarge, Malformed}
@@ -39,11 +40,15 @@ Unkeyed s key = (k : String) → ascii k ≡ key → keyed k s ≡ none
 abbrev pub Values : (s key : List ℕ) → answered.Option (Bor (List ℕ) × Bor (List ℕ)) → Type 0
 Values s key o = MatchOption o (Unkeyed s key) (λ v. Valued s key v.0.now v.1.now)
 
--- an item of a term stands for what a number of a run stands for
-pub record Numbered (bs : List ℕ) (x : ℕ) : Type 0 where
+-- what an item stands for is what a number of a run stands for
+pub record Numbered (t : Option Token) (x : ℕ) : Type 0 where
   pub small : x ≤ MUL
-  pub same : token bs ≡ numbers.token x
+  pub same : t ≡ numbers.token x
 
--- the number for an item, if it stands for anything
+-- the number that stands for the same as an item, if the item stands for anything
+abbrev pub Stands : Option Token → answered.Option ℕ → Type 0
+Stands t o = MatchOption o (t ≡ none) (λ x. Numbered t x)
+
+-- the number for an item of a term
 abbrev pub Items : List ℕ → answered.Option ℕ → Type 0
-Items bs o = MatchOption o (token bs ≡ none) (λ x. Numbered bs x)
+Items bs = Stands (token bs)

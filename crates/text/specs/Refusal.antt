@@ -8,7 +8,7 @@ abbrev pub number_of : Refusal → ℕ
 number_of is.Malformed = 1
 number_of is.NoTerm = 2
 number_of is.TooLarge = 3
-number_of is.TooManyLetters = 4
+number_of is.TooManyVariables = 4
 number_of is.LimitOver = 5
 number_of is.SameSides = 6
 number_of is.OutOfSlots = 7

@@ -55,7 +55,7 @@ EveryCall = (job out : List ℕ) (r : ℕ) (out' : List ℕ) → Call (rename_en
 abbrev pub Share : (key key' : String) (a b : List ℕ) → Type 0
 Share key key' a b = (values key a ≡ values key b) × (values key' a ≡ values key' b)
 
--- equations get the same `left` and `right` exactly when a one-to-one renaming of letters, with or without exchanging sides, turns one
+-- equations get the same `left` and `right` exactly when a one-to-one renaming of v letters, with or without exchanging sides, turns one
 -- into the other
 abbrev pub SharedName : Type 0
 SharedName = (s t u v : Term) (a b : List ℕ) → Named s t a → Named u v b → Share "left=" "right=" a b ↔ Alike s t u v

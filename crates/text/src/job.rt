@@ -1,10 +1,11 @@
 // The job's text: the bytes, numbers, lines and items that begin it.
-ghost use Rattle.std.specs.Prelude.{◌≡◌, ◌≤◌, ◌==◌, [], ◌∷◌, position};
+ghost use Rattle.std.specs.Prelude.{◌≡◌, ◌+◌, ◌≤◌, ◌<◌, ◌==◌, [], ◌∷◌, position};
 ghost use Rattle.text.specs.Bytes.{digits, read_number};
 ghost use Rattle.text.specs.Marks.{mark};
-ghost use Rattle.text.specs.Reading.{Cuts, Items, Values, limited};
+ghost use Rattle.text.specs.TermText.{letter_of};
+ghost use Rattle.text.specs.Reading.{Cuts, Stands, Items, Values, limited};
 
-use terms::term::{ADD, MUL, ONE, ZERO};
+use terms::term::{ADD, FIXED, MUL, ONE, ZERO};
 
 // A job accepted or refused.
 pub mod accept;
@@ -21,15 +22,18 @@ pub mod side;
 // It as it is written.
 pub mod written;
 
-// The largest number of a letter.
-const LETTER: u32 = 999;
+// The largest number of a v letter, and of a c letter.
+const LARGEST_VARIABLE: u32 = 999;
+
+const LARGEST_FIXED: u32 = 99;
 
 // The signs of a term.
 #[derive(Clone, Copy, PartialEq, Eq)]
 pub enum Sign {
     Plus,
     Times,
-    Letter,
+    Variable,
+    Fixed,
 }
 
 // A byte of a term. No Option of three kinds: the scope document has four, of which foul is one.
@@ -56,7 +60,8 @@ pub fn mark_of(b: u8) -> Mark
     match b {
         b'+' => Mark::Sign(Sign::Plus),
         b'*' => Mark::Sign(Sign::Times),
-        b'v' => Mark::Sign(Sign::Letter),
+        b'v' => Mark::Sign(Sign::Variable),
+        b'c' => Mark::Sign(Sign::Fixed),
         b'0'..=b'9' => Mark::Digit(b - b'0'),
         b' ' => Mark::Space,
         _ => Mark::Foul,
@@ -128,13 +133,22 @@ fn sign_item(b: u8) -> Option<u32>
     match mark_of(b) {
         Mark::Sign(Sign::Plus) => Some(ADD),
         Mark::Sign(Sign::Times) => Some(MUL),
-        Mark::Sign(Sign::Letter) => None,
+        Mark::Sign(Sign::Variable) => None,
+        Mark::Sign(Sign::Fixed) => None,
         Mark::Digit(0) => Some(ZERO),
         Mark::Digit(1) => Some(ONE),
         Mark::Digit(_) => None,
         Mark::Space => None,
         Mark::Foul => None,
     }
+}
+
+// The letter of a kind whose number a text is: `first` is the kind's letter 0, `most` its largest number.
+fn letter(text: &[u8], first: u32, most: u32) -> Option<u32>
+    requires { first + most < 4096 }
+    ensures { Stands (letter_of first most (read_number text.now)) result }
+{
+    Some(first + number(text, most).ok()?)
 }
 
 // An item of a term, as a number of a run.
@@ -144,9 +158,12 @@ pub fn item(text: &[u8]) -> Option<u32>
     match text {
         [] => None,
         [b] => sign_item(*b),
-        [b, letter @ ..] => {
-            if mark_of(*b) == Mark::Sign(Sign::Letter) {
-                number(letter, LETTER).ok()
+        [b, name @ ..] => {
+            let kind = mark_of(*b);
+            if kind == Mark::Sign(Sign::Variable) {
+                letter(name, 0, LARGEST_VARIABLE)
+            } else if kind == Mark::Sign(Sign::Fixed) {
+                letter(name, FIXED, LARGEST_FIXED)
             } else {
                 None
             }

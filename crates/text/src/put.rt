@@ -13,7 +13,7 @@ ghost use Rattle.text.specs.Put.{Put};
 ghost use Rattle.text.specs.Writer.{Writes, SameOutput};
 
 use crate::writer::{Writer, store_three};
-use terms::term::{ADD, ONE, ZERO};
+use terms::term::{ADD, FIXED, ONE, ZERO};
 
 // A value that is put as text.
 pub trait Text {
@@ -97,15 +97,28 @@ pub fn put_in_front<T: Text>(text: &T, out: &mut [u8]) -> usize
     w.at
 }
 
-// A letter by its number. Most have one digit, which is put without the number's recursion.
+// A letter by its number.
+fn put_any_letter(w: &mut Writer<'_>, n: u32)
+    ensures { Writes (write_letter n) w.old w.new }
+{
+    if n < FIXED {
+        w.put_byte(b'v');
+        w.put_number(n as usize);
+    } else {
+        w.put_byte(b'c');
+        w.put_number((n - FIXED) as usize);
+    }
+}
+
+// The same: most are v letters of one digit, which is put without the number's recursion.
 fn put_letter(w: &mut Writer<'_>, n: u32)
     ensures { Writes (write_letter n) w.old w.new }
 {
-    w.put_byte(b'v');
     if n < 10 {
+        w.put_byte(b'v');
         w.put_byte(b'0' + n as u8);
     } else {
-        w.put_number(n as usize);
+        put_any_letter(w, n);
     }
 }
 

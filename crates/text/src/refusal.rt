@@ -11,8 +11,8 @@ pub enum Refusal {
     NoTerm = 2,
     // a side or such a result has over 31 nodes
     TooLarge = 3,
-    // over six different letters
-    TooManyLetters = 4,
+    // over six different v letters
+    TooManyVariables = 4,
     // a limit is over its bound
     LimitOver = 5,
     // a right side is the same term as left

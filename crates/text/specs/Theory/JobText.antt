@@ -5,7 +5,7 @@ use Prim.Native.String.{String}
 use Rattle.std.proofs.Common.{arith, sym, ◌∙◌, ap, ap₂, append-nil, length-append, leb→le, le-leb}
 use Rattle.std.proofs.Math.Option.{some, bind}
 use Rattle.terms.specs.Term.{Term, size, same}
-use Rattle.terms.specs.Letters.{letters, rising}
+use Rattle.terms.specs.Letters.{letters, rising, variables}
 use Rattle.terms.specs.Theory.Reflects.{both}
 use Rattle.terms.specs.Theory.TermOrder.{told_apart, apart}
 use Rattle.search.specs.Line.{Limits}
@@ -124,7 +124,7 @@ text_read s t m fit range differ =
       read_write t fit.readable_right,
       le-leb (size s) 31 fit.small_left,
       le-leb (size t) 31 fit.small_right,
-      le-leb (length (rising (letters s ++ letters t))) 6 fit.few,
+      le-leb (length (rising (variables (letters s ++ letters t)))) 6 fit.few,
       le-leb m.steps 16 range.steps,
       le-leb m.size 31 range.size,
       le-leb m.depth 15 range.depth,

@@ -1,14 +1,15 @@
 -- How long texts are at most.
-use Rattle.std.specs.Prelude.{ℕ, zero, suc, ◌+◌, ◌*◌, ◌^◌, ◌/◌, ◌%◌, ◌≤◌, ◌<◌, ◌≡◌, refl, Bool, true, false, List, [], ◌∷◌, ◌++◌, length, ltb}
+use Rattle.std.specs.Prelude.{ℕ, zero, suc, ◌+◌, ◌-◌, ◌*◌, ◌^◌, ◌/◌, ◌%◌, ◌≤◌, ◌<◌, ◌≡◌, refl, Bool, true, false, List, [], ◌∷◌, ◌++◌, length, ltb}
 use Prim.Native.Char.{code}
 use Rattle.std.proofs.Common.{arith, length-append}
 use Rattle.terms.specs.Lists.{here, in_left, in_right}
 use Rattle.terms.specs.Term as term
 use Rattle.terms.specs.Term.{Term, letter, one, add, mul, size}
-use Rattle.terms.specs.Letters.{letters}
+use Rattle.terms.specs.Letters.{letters, FIXED}
 use Rattle.terms.specs.Theory.Reflects.{Reflects, leb_reflects}
 use Rattle.text.specs.Bytes.{ascii, decimal, number, parted}
 use Rattle.text.specs.TermText.{Readable, write_letter, items, write_term}
+use Rattle.text.specs.Theory.TermText.{letter_cases}
 
 -- a number below 10, 100, 1000 has at most 1, 2, 3 digits, and so on
 decimal_length : (j k n : ℕ) → n < 10 ^ suc j → length (decimal k n) ≤ suc j
@@ -32,9 +33,9 @@ number_digits j n = decimal_length j n n
 pub number_length : (n : ℕ) → n ≤ 999 → length (number n) ≤ 3
 number_length n h = number_digits 2 n (omega arith)
 
-letter_length : (n : ℕ) → n ≤ 999 → length (write_letter n) ≤ 4
-unfolding write_letter ascii
-letter_length n h = omega (arith, number_length n h)
+letter_length : (n : ℕ) → n ≤ 1099 → length (write_letter n) ≤ 4
+letter_length n h =
+    letter_cases n (λ low e. rw e (omega (arith, number_length n (omega arith)))) (λ _ e. rw e (omega (arith, number_length (n - FIXED) (omega arith))))
 
 -- the bytes of pieces, one more for each
 abbrev weight : List (List ℕ) → ℕ

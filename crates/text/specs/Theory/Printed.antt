@@ -1,5 +1,5 @@
 -- Printed lines tell what was printed: two lines with their keys, the text of a term, and that of a list of words.
-use Rattle.std.specs.Prelude.{ℕ, ◌≤◌, ◌<◌, ◌≡◌, refl}
+use Rattle.std.specs.Prelude.{ℕ, ◌-◌, ◌≤◌, ◌<◌, ◌≡◌, refl}
 use Prim.Native.Char.{code}
 use Prim.Native.String.{String}
 use Rattle.std.proofs.Common.{arith, sym, ap, ap₂, ◌∙◌, ⊎_elim}
@@ -8,6 +8,7 @@ use mathlib.Core.List.{List, [], ◌∷◌, ◌++◌, map, cons-ne-nil}
 use Rattle.terms.specs.Lists.{◌∈◌, here, there, not-in-nil, only_one, cons-cases, append_cases, of_map}
 use Rattle.terms.specs.Equation.{Equation}
 use Rattle.terms.specs.Term.{Term}
+use Rattle.terms.specs.Letters.{FIXED}
 use Rattle.words.specs.Words.{Word}
 use Rattle.text.specs.Bytes.{ascii, number, read_number, Split, parted, pieces}
 use Rattle.text.specs.TermText.{Readable, write_letter, write_term, read_term}
@@ -18,7 +19,7 @@ use Rattle.text.specs.Rename.{term_lines, word_lines}
 use Rattle.text.specs.Theory.AtLeast.{Printable, higher, free, tested, parted_least}
 use Rattle.text.specs.Theory.Numbers.{number_most, read_number_number}
 use Rattle.text.specs.Theory.Pieces.{pieces_parted}
-use Rattle.text.specs.Theory.TermText.{write_letter_bytes, letter_least, read_write, write_term_least}
+use Rattle.text.specs.Theory.TermText.{letter_cases, letter_least, read_write, write_term_least}
 use Rattle.text.specs.Theory.Keyed.{keyed_field}
 
 -- two lines tell their values
@@ -63,19 +64,31 @@ term_lines_apart d e dl dr el er p =
 
 -- letters: none has a space or the byte that parts words
 
+number_apart : (m n : ℕ) → number m ≡ number n → m ≡ n
+number_apart m n e = let r = sym (read_number_number m) ∙ ap read_number e ∙ read_number_number n in cc
+
+signs_apart : {a b : ℕ} {p q : List ℕ} → (a ≡ b → ⊥) → a ∷ p ≡ b ∷ q → ⊥
+signs_apart {a} {b} h e = let z : a ≡ b = cc in h z
+
+behind_sign : {a : ℕ} (m n : ℕ) → a ∷ number m ≡ a ∷ number n → m ≡ n
+behind_sign m n e = let p : number m ≡ number n = cc in number_apart m n p
+
 letter_apart : (m n : ℕ) → write_letter m ≡ write_letter n → m ≡ n
 letter_apart m n e =
-    let q = sym (write_letter_bytes m) ∙ e ∙ write_letter_bytes n in
-    let p : number m ≡ number n = cc in
-    let r = sym (read_number_number m) ∙ ap read_number p ∙ read_number_number n in
-    cc
+    letter_cases m
+    (λ _ p. letter_cases n (λ _ q. behind_sign m n (sym p ∙ e ∙ q)) (λ _ q. absurd (signs_apart (λ z. omega arith) (sym p ∙ e ∙ q))))
+    (λ h p. letter_cases n (λ _ q. absurd (signs_apart (λ z. omega arith) (sym p ∙ e ∙ q)))
+    (λ k q. omega (arith, behind_sign (m - FIXED) (n - FIXED) (sym p ∙ e ∙ q))))
 
 -- no byte of a text is the one that parts words
 abbrev Unmarked : List ℕ → Type 0
 Unmarked p = (b : ℕ) → b ∈ p → b ≡ code ";" → ⊥
 
 letter_unmarked : (n : ℕ) → Unmarked (write_letter n)
-letter_unmarked n b i e = ⊎_elim (λ p. omega arith) (λ j. omega (arith, number_most n b j)) (cons-cases (rw (write_letter_bytes n) at i))
+letter_unmarked n b i e =
+    letter_cases n
+    (λ _ d. ⊎_elim (λ p. omega arith) (λ j. omega (arith, number_most n b j)) (cons-cases (rw d at i)))
+    (λ _ d. ⊎_elim (λ p. omega arith) (λ j. omega (arith, number_most (n - FIXED) b j)) (cons-cases (rw d at i)))
 
 -- lists of texts
 
@@ -107,25 +120,28 @@ word_pieces n ns =
     pieces_parted (code " ") (write_letter n) (map write_letter ns)
     (each_mapped (λ q. code " " ∈ q → ⊥) write_letter (λ m. free (omega arith) (letter_least m)) (n ∷ ns))
 
--- the first byte of a word's text, above `0`
-word_first : (w : Word) → (b : ℕ) × (bs : List ℕ) × (word w ≡ b ∷ bs) × (code "0" < b)
-unfolding word parted write_letter ascii
-word_first [] = (code "1", [], refl, omega arith)
-word_first (n ∷ []) = (code "v", number n, refl, omega arith)
-word_first (n ∷ m ∷ ns) = (code "v", _, refl, omega arith)
+-- the first byte of a letter, and of a word's text with one, is above `1`
+letter_first : (n : ℕ) → (b : ℕ) × (bs : List ℕ) × (write_letter n ≡ b ∷ bs) × (code "1" < b)
+letter_first n =
+    letter_cases n (λ _ e. (code "v", number n, e, omega arith)) (λ _ e. (code "c", number (n - FIXED), e, omega arith))
 
-letter_first : (n : ℕ) (ns : Word) → (bs : List ℕ) × (word (n ∷ ns) ≡ code "v" ∷ bs)
-unfolding word parted write_letter ascii
-letter_first n [] = (_, refl)
-letter_first n (m ∷ ns) = (_, refl)
+letters_first : (n : ℕ) (ns : Word) → (b : ℕ) × (bs : List ℕ) × (word (n ∷ ns) ≡ b ∷ bs) × (code "1" < b)
+unfolding word parted
+letters_first n [] = letter_first n
+letters_first n (m ∷ ns) =
+    let (b, bs, e, h) = letter_first n in
+    let more = code " " ∷ parted (code " ") (write_letter m ∷ map write_letter ns) in
+    (b, bs ++ more, ap (λ l. l ++ more) e, h)
+
+-- and of any word above `0`
+word_first : (w : Word) → (b : ℕ) × (bs : List ℕ) × (word w ≡ b ∷ bs) × (code "0" < b)
+unfolding word ascii
+word_first [] = (code "1", [], refl, omega arith)
+word_first (n ∷ ns) = let (b, bs, e, h) = letters_first n ns in (b, bs, e, omega arith)
 
 one_apart : (n : ℕ) (ns : Word) → word [] ≡ word (n ∷ ns) → ⊥
 unfolding word ascii
-one_apart n ns e =
-    let (bs, f) = letter_first n ns in
-    let g = e ∙ f in
-    let z : code "1" ≡ code "v" = cc in
-    omega arith
+one_apart n ns e = let (b, bs, f, h) = letters_first n ns in signs_apart (λ z. omega arith) (e ∙ f)
 
 word_apart : (u v : Word) → word u ≡ word v → u ≡ v
 word_apart [] [] e = refl

@@ -1,18 +1,19 @@
 -- A term that was read has letters that a job may have, so that it reads back as it is printed, and was written as it is printed.
-use Rattle.std.specs.Prelude.{ℕ, ◌≤◌, ◌≡◌, refl, Bool, true, false, eqb, leb}
+use Rattle.std.specs.Prelude.{ℕ, ◌+◌, ◌-◌, ◌≤◌, ◌≡◌, refl, Bool, true, false, eqb, leb}
 use Prim.Native.Char.{code}
 use Rattle.std.proofs.Common.{arith, sym, ◌∙◌, ap, ⊎_elim}
 use Rattle.std.proofs.Math.Option.{Option, none, some}
 use mathlib.Core.List.{List, [], ◌∷◌, ◌++◌, flat_map, append_assoc, append-nil}
 use Rattle.terms.specs.Lists.{◌∈◌, here, there, not-in-nil, only_one, cons-cases}
 use Rattle.terms.specs.Term.{Term, letter, zero, one, add, mul}
-use Rattle.terms.specs.Letters.{letters}
+use Rattle.terms.specs.Letters.{letters, FIXED}
 use Rattle.terms.specs.Build.{Token, atom, plus, times, operate, push, next, build, single, read}
 use Rattle.terms.specs.Theory.Reflects.{Reflects, eqb_reflects, leb_reflects}
 use Rattle.search.specs.Theory.Binary.{Binary, add_binary, mul_binary}
-use Rattle.text.specs.Bytes.{ascii, read_number, parted, pieces}
-use Rattle.text.specs.TermText.{Readable, write_letter, items, write_term, letter_of, sign, token, read_term}
+use Rattle.text.specs.Bytes.{ascii, number, read_number, parted, pieces}
+use Rattle.text.specs.TermText.{Readable, write_letter, items, write_term, letter_of, v_letter, c_letter, sign, token, read_term}
 use Rattle.text.specs.Theory.Numbers.{read_number_only}
+use Rattle.text.specs.Theory.TermText.{write_v, write_c}
 use Rattle.text.specs.Theory.Pieces.{parted_pieces}
 
 abbrev pub If_some : {A : Type 0} → (A → Type 0) → Option A → Type 0
@@ -25,18 +26,30 @@ Item p (atom t) = Readable t × (items t ≡ p ∷ [])
 Item p plus = p ≡ ascii "+"
 Item p times = p ≡ ascii "*"
 
-letter_item : (bs : List ℕ) → If_some (Item (code "v" ∷ bs)) (letter_of (read_number bs))
-unfolding letter_of letters items write_letter
-letter_item bs = go (read_number bs) refl
+-- a letter is written with its sign and its number
+letter_item : (sign first most : ℕ) → ((n : ℕ) → n ≤ most → (first + n ≤ 1099) × (write_letter (first + n) ≡ sign ∷ number n)) → (bs : List ℕ)
+    → If_some (Item (sign ∷ bs)) (letter_of first most (read_number bs))
+unfolding letter_of letters items
+letter_item sign first most write bs = go (read_number bs) refl
   where
-    small : (n : ℕ) → read_number bs ≡ some n → (b : Bool) → Reflects (n ≤ 999) b
-        → If_some (Item (code "v" ∷ bs)) (elim b [ true ↦ some (atom (letter n)) | false ↦ none ])
-    small n e true h = (λ m i. omega (arith, only_one i), ap (λ l. (code "v" ∷ l) ∷ []) (sym (read_number_only bs e)))
+    small : (n : ℕ) → read_number bs ≡ some n → (b : Bool) → Reflects (n ≤ most) b
+        → If_some (Item (sign ∷ bs)) (elim b [ true ↦ some (atom (letter (first + n))) | false ↦ none ])
+    small n e true h =
+        let (low, w) = write n h in
+        (λ m i. omega (arith, only_one i), ap (λ l. l ∷ []) (w ∙ ap (λ l. sign ∷ l) (sym (read_number_only bs e))))
     small n e false h = tt
 
-    go : (o : Option ℕ) → read_number bs ≡ o → If_some (Item (code "v" ∷ bs)) (letter_of o)
+    go : (o : Option ℕ) → read_number bs ≡ o → If_some (Item (sign ∷ bs)) (letter_of first most o)
     go none e = tt
-    go (some n) e = small n e (leb n 999) (leb_reflects n 999)
+    go (some n) e = small n e (leb n most) (leb_reflects n most)
+
+v_item : (bs : List ℕ) → If_some (Item (code "v" ∷ bs)) (v_letter (read_number bs))
+v_item = letter_item (code "v") 0 999 (λ n h. let same : 0 + n ≡ n = omega arith in (omega arith, ap write_letter same ∙ write_v n (omega arith)))
+
+c_item : (bs : List ℕ) → If_some (Item (code "c" ∷ bs)) (c_letter (read_number bs))
+c_item =
+    letter_item (code "c") FIXED 99
+    (λ n h. let back : FIXED + n - FIXED ≡ n = omega arith in (omega arith, write_c (FIXED + n) (omega arith) ∙ ap (λ m. code "c" ∷ number m) back))
 
 sign_item : (b : ℕ) → If_some (Item (b ∷ [])) (sign b)
 unfolding sign letters items ascii
@@ -57,11 +70,16 @@ token_item : (p : List ℕ) → If_some (Item p) (token p)
 unfolding token
 token_item [] = tt
 token_item (b ∷ []) = sign_item b
-token_item (b ∷ c ∷ cs) = go (eqb b (code "v")) (eqb_reflects b (code "v"))
+token_item (b ∷ c ∷ cs) = go (eqb b (code "v")) (eqb_reflects b (code "v")) (eqb b (code "c")) (eqb_reflects b (code "c"))
   where
-    go : (v : Bool) → Reflects (b ≡ code "v") v → If_some (Item (b ∷ c ∷ cs)) (elim v [ true ↦ letter_of (read_number (c ∷ cs)) | false ↦ none ])
-    go true e = rw e (letter_item (c ∷ cs))
-    go false e = tt
+    go : (p : Bool) → Reflects (b ≡ code "v") p → (q : Bool) → Reflects (b ≡ code "c") q
+        → If_some (Item (b ∷ c ∷ cs)) (elim p [
+          | true ↦ v_letter (read_number (c ∷ cs))
+          | false ↦ elim q [ true ↦ c_letter (read_number (c ∷ cs)) | false ↦ none ]
+        ])
+    go true e q f = rw e (v_item (c ∷ cs))
+    go false e true f = rw f (c_item (c ∷ cs))
+    go false e false f = tt
 
 -- the items are those of the terms, one after the other
 record Spelled (ps : List (List ℕ)) (ts : List Term) : Type 0 where

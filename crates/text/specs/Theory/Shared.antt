@@ -1,8 +1,8 @@
 -- What RENAME's lines say of equations that pass 1 to 6: which share `left` and `right`, which `wleft` and `wright`, and that its own lines
 -- are renamed to themselves.
 use Rattle.std.specs.Prelude.{ℕ, ◌+◌, ◌-◌, ◌≤◌, ◌<◌, ◌≡◌, refl, ◌↔◌, Bool, true, false, List, [], ◌∷◌, ◌++◌, length, take}
-use Rattle.std.proofs.Common.{arith, sym, ◌∙◌, ap, ap₂, subst, inl, inr}
-use Rattle.terms.specs.Lists.{in_left, in_right}
+use Rattle.std.proofs.Common.{arith, sym, ◌∙◌, ap, ap₂, subst, inl, inr, ⊎_elim}
+use Rattle.terms.specs.Lists.{◌∈◌, in_left, in_right, append_cases}
 use Rattle.terms.specs.Equation.{Equation}
 use Rattle.terms.specs.Term.{Term, order}
 use Rattle.terms.specs.Letters.{letters}
@@ -46,6 +46,24 @@ alike_text s t u v h =
     ∙ ap₂ (λ b (e : Equation (List Word)). word_lines (word_value b e.left) (word_value b e.right))
     (tests_agree (agree s t) (agree u v) (agree_reflects s t) (agree_reflects u v) (alike_agree w) (agree_back s t u v w)) ((shared_words s t u v).1 w)
     ∙ sym (words_lines (words u) (words v)))
+
+-- the renamed equation passes 2 to 4 where the equation does
+pub renamed_fit : {s t : Term} → Fit s t → Fit (canonical_terms s t).left (canonical_terms s t).right
+renamed_fit {s} {t} fit =
+    let e = canonical_terms s t in
+    let (small, small') = alike_sizes (renamed_alike s t) 31 fit.small_left fit.small_right in
+    record {
+      small_left = small;
+      small_right = small';
+      few = rw (← renamed_as_many s t) fit.few;
+      readable_left = λ n i. readable n (in_left (letters e.right) i);
+      readable_right = λ n i. readable n (in_right (letters e.left) i);
+    }
+  where
+    readable : (n : ℕ) → n ∈ letters (canonical_terms s t).left ++ letters (canonical_terms s t).right → n ≤ 1099
+    readable n i =
+        ⊎_elim (λ h. omega (arith, fit.few)) (λ j. ⊎_elim (fit.readable_left n) (fit.readable_right n) (append_cases (letters s) j))
+        (renamed_letters s t n i)
 
 -- sides as they are stated, or in order
 oriented_alike : (s t : Term) (m : Limits) → Alike s t (oriented s t m).left (oriented s t m).right
@@ -109,19 +127,8 @@ module _ {s t : Term} {a : List ℕ} (N : Named s t a) where
   pub named_lines : FourLines a (left_value s t) (right_value s t) (wleft_value s t) (wright_value s t)
   named_lines = rw named_text (text_lines s t)
 
-  -- the renamed equation passes 2 to 4 where the equation does
   named_fit : Fit (canonical_terms s t).left (canonical_terms s t).right
-  named_fit =
-      let e = canonical_terms s t in
-      let fit = N.passes.sides in
-      let (small, small') = alike_sizes (renamed_alike s t) 31 fit.small_left fit.small_right in
-      record {
-        small_left = small;
-        small_right = small';
-        few = rw (← renamed_as_many s t) fit.few;
-        readable_left = λ n i. omega (arith, fit.few, renamed_letters s t n (in_left (letters e.right) i));
-        readable_right = λ n i. omega (arith, fit.few, renamed_letters s t n (in_right (letters e.left) i));
-      }
+  named_fit = renamed_fit N.passes.sides
 
 -- values that stand alone agree where they do
 one_value : {xs ys : List (List ℕ)} {x y : List ℕ} → xs ≡ x ∷ [] → ys ≡ y ∷ [] → (xs ≡ ys) ↔ (x ≡ y)

@@ -1,8 +1,8 @@
-// RENAME: the equation and its lists of words, each with the letters renamed so that it is the least.
+// RENAME: the equation and its lists of words, each with the v letters renamed so that it is the least.
 ghost use Rattle.std.specs.Prelude.{◌≡◌, List, ◌++◌, ◌≤◌, length};
 ghost use Rattle.std.proofs.Math.Dec.{compare_is_eq};
 ghost use Rattle.terms.specs.Term.{Term, size};
-ghost use Rattle.terms.specs.Letters.{letters, rising};
+ghost use Rattle.terms.specs.Letters.{letters, rising, variables};
 ghost use Rattle.terms.specs.Equation.{Equation};
 ghost use Rattle.terms.specs.Held.{IsRun};
 ghost use Rattle.words.specs.Words.{Word, words, order_lists};
@@ -63,7 +63,7 @@ pub fn same_words(sides: Sides<'_>) -> bool
 
 // The lists of words renamed, where they differ.
 fn renamed_lists<'a>(sides: Sides<'_>, lists: &'a mut candidate::Equation<'_>) -> Option<Sides<'a>>
-    ensures { (s t : Term) → IsRun sides.entry.left.now s → IsRun sides.entry.right.now t → size s ≤ 31 → size t ≤ 31 → length (rising (letters s ++ letters t)) ≤ 6 → 5508 ≤ lists.old.room → renamed.Renamed (words s) (words t) result }
+    ensures { (s t : Term) → IsRun sides.entry.left.now s → IsRun sides.entry.right.now t → size s ≤ 31 → size t ≤ 31 → length (rising (variables (letters s ++ letters t))) ≤ 6 → 5508 ≤ lists.old.room → renamed.Renamed (words s) (words t) result }
 {
     if same_words(sides) {
         return None;
@@ -75,9 +75,9 @@ fn renamed_lists<'a>(sides: Sides<'_>, lists: &'a mut candidate::Equation<'_>) -
     })
 }
 
-// The answer to an equation of two terms of at most 31 nodes with at most six letters.
+// The answer to an equation of two terms of at most 31 nodes with at most six v letters.
 pub fn answer_rename(sides: Sides<'_>, out: &mut [u8]) -> Result<usize, Refusal>
-    ensures { (s t : Term) → IsRun sides.entry.left.now s → IsRun sides.entry.right.now t → size s ≤ 31 → size t ≤ 31 → length (rising (letters s ++ letters t)) ≤ 6 → Gives (fitting (length out.old) (term_lines (canonical_terms s t) ++ renamed_words (words s) (words t))) out.old result out.new }
+    ensures { (s t : Term) → IsRun sides.entry.left.now s → IsRun sides.entry.right.now t → size s ≤ 31 → size t ≤ 31 → length (rising (variables (letters s ++ letters t))) ≤ 6 → Gives (fitting (length out.old) (term_lines (canonical_terms s t) ++ renamed_words (words s) (words t))) out.old result out.new }
 {
     let (mut a, mut b) = ([0u32; LARGEST], [0u32; LARGEST]);
     let mut terms = candidate::Equation::new(&mut a, &mut b);

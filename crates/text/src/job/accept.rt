@@ -8,7 +8,7 @@ ghost use Rattle.text.specs.Refusal.{number_of};
 ghost use Rattle.text.specs.Accepting.{Orients, AcceptsSides, ReadsSides, Answers, read_within, ReadsFind, ReadsJob};
 
 use super::lines::layout_of;
-use super::rights::{all_pass, few_letters, read_rights};
+use super::rights::{all_pass, few_variables, read_rights};
 use super::side::{Run, read_term};
 use super::written::Written;
 use crate::refusal::Refusal;
@@ -79,8 +79,8 @@ fn accept_sides(left: Run, n: usize, limits: Limits, rights: &mut [u32]) -> Resu
     ensures { AcceptsSides left n limits rights.old result rights.new }
 {
     let a = left.numbers();
-    if !all_pass(rights, n, |b| few_letters(a, b)) {
-        return Err(Refusal::TooManyLetters);
+    if !all_pass(rights, n, |b| few_variables(a, b)) {
+        return Err(Refusal::TooManyVariables);
     }
     if !in_range(limits) {
         return Err(Refusal::LimitOver);

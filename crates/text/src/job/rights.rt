@@ -2,7 +2,7 @@
 ghost use Rattle.std.specs.Prelude.{◌*◌, ◌≤◌, length};
 ghost use Rattle.std.specs.Fn.{FnReturnsAt};
 ghost use Rattle.search.specs.Index.{SLOT};
-ghost use Rattle.text.specs.Accepting.{FewLetters, AllPass, ReadsRights};
+ghost use Rattle.text.specs.Accepting.{FewVariables, AllPass, ReadsRights};
 
 use super::keyed;
 use super::side::read_term;
@@ -11,14 +11,14 @@ use crate::refusal::Refusal;
 use search::slots;
 use search::slots::SlotRun;
 use terms::term;
-use words::candidate::LETTERS;
+use words::candidate::MOST_VARIABLES;
 
-// Whether two runs together have at most six different letters.
-pub fn few_letters(a: &[u32], b: &[u32]) -> bool
-    ensures { FewLetters a.now b.now result }
+// Whether two runs together have at most six different v letters.
+pub fn few_variables(a: &[u32], b: &[u32]) -> bool
+    ensures { FewVariables a.now b.now result }
 {
-    let mut names = [0u32; LETTERS];
-    term::letters(a, b, &mut names).is_some()
+    let mut names = [0u32; MOST_VARIABLES];
+    term::variables(a, b, &mut names).is_some()
 }
 
 // Whether each of the first `n` right sides passes a test. They are a part of any length beside their number: `Runs` would ask more of a
