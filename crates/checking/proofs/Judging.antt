@@ -20,7 +20,7 @@ use Rattle.text.specs.declared.refusal.Refusal.TheVariants as refusal
 use Rattle.checking.specs.declared.lines.Written.{Written}
 use Rattle.checking.specs.Layout.{StepLayout, CheckLayout, check_layout, read_results}
 use Rattle.checking.specs.Check.{Derivation, terms_of, accept_terms, derivation_in, read_check, good, judge, check_with, check}
-use Rattle.checking.specs.LinesRead.{ReadsTerm, LaidOut, results, ReadsResults, FewLetters}
+use Rattle.checking.specs.LinesRead.{ReadsTerm, LaidOut, results, ReadsResults, FewVariables}
 use Rattle.checking.specs.Judged.{LinesAt, Small, Leads, Gives, judge_letters, JudgesTerms, JudgesLines, Judges}
 use Rattle.checking.proofs.Leading.{none_there, some_there}
 
@@ -159,12 +159,12 @@ module _ {left right first second : List ℕ} (a : ReadsTerm left first) (b : Re
 
 -- terms and lines that are small
 
-module _ {s left right : List ℕ} {b : Bool} (F : FewLetters left right s b) where
+module _ {s left right : List ℕ} {b : Bool} (F : FewVariables left right s b) where
   module _ (t u : Term) (ys : List Line) (ht : IsRun left t) (hu : IsRun right u) (L : LinesAt s ys) where
     counted : few (flat_map letters (t ∷ u ∷ results ys)) ≡ b
     counted = sym (F.exact L.layouts ys t u L.lines L.results ht hu)
 
-  pub many_letters : b ≡ false → JudgesTerms left right s (Err refusal.TooManyLetters)
+  pub many_letters : b ≡ false → JudgesTerms left right s (Err refusal.TooManyVariables)
   unfolding ◌>>=◌ require
   many_letters h = record { exact = λ t u ys ht hu L small room. let e = counted t u ys ht hu L ∙ h in rw e }
 

@@ -88,10 +88,16 @@ check_cases =
     ∷ (case "left=v0\nright=+ v0 0\nstep=add_zero_right forward at=. to=+ v0 0\nstep=add_comm back at=. to=+ + + + + + + + + + + + + + + + v0 v0 v0 v0 v0 v0 v0 v0 v0 v0 v0 v0 v0 v0 v0 v0 v0\n" 12 (refused 3))
     -- 3 before 4 and 11
     ∷ (case "left=+ + + + + + + + + + + + + + + + v0 v0 v0 v0 v0 v0 v0 v0 v0 v0 v0 v0 v0 v0 v0 v0 v0\nright=+ + + + + + v0 v1 v2 v3 v4 v5 v6\n" 12 (refused 3))
-    -- 4: a seventh letter in a result
+    -- 4: a seventh v letter in a result
     ∷ (case "left=+ 0 + + + + + v0 v1 v2 v3 v4 v5\nright=+ 0 + + + + + v0 v1 v2 v3 v4 v5\nstep=zero_mul forward at=l to=+ * 0 v6 + + + + + v0 v1 v2 v3 v4 v5\nstep=zero_mul back at=l to=+ 0 + + + + + v0 v1 v2 v3 v4 v5\n" 12 (refused 4))
-    -- six letters
+    -- six v letters
     ∷ (case "left=+ 0 + + + + + v0 v1 v2 v3 v4 v5\nright=+ 0 + + + + + v0 v1 v2 v3 v4 v5\nstep=zero_mul forward at=l to=+ * 0 v5 + + + + + v0 v1 v2 v3 v4 v5\nstep=zero_mul back at=l to=+ 0 + + + + + v0 v1 v2 v3 v4 v5\n" 12 (says "answer=good\n"))
+    -- six v letters and a c letter
+    ∷ (case "left=+ 0 + + + + + v0 v1 v2 v3 v4 v5\nright=+ 0 + + + + + v0 v1 v2 v3 v4 v5\nstep=zero_mul forward at=l to=+ * 0 c6 + + + + + v0 v1 v2 v3 v4 v5\nstep=zero_mul back at=l to=+ 0 + + + + + v0 v1 v2 v3 v4 v5\n" 12 (says "answer=good\n"))
+    -- 2: no such c letter
+    ∷ (case "left=c99\nright=+ c100 0\nstep=add_zero_right forward at=. to=+ c99 0\n" 12 (refused 2))
+    -- 12: another c letter
+    ∷ (case "left=c0\nright=+ c1 0\nstep=add_zero_right forward at=. to=+ c1 0\n" 12 (refused 12))
     -- 4 before 11
     ∷ (case "left=+ + + + + v0 v1 v2 v3 v4 v5\nright=v6\n" 12 (refused 4))
     -- 4 before 12

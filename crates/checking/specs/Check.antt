@@ -4,7 +4,7 @@ use Prim.Native.String.{String}
 use mathlib.Core.List.{List, [], ◌∷◌, ◌++◌, map, flat_map}
 use Rattle.terms.specs.Lists.{◌∈◌}
 use Rattle.terms.specs.Term.{Term, size}
-use Rattle.terms.specs.Letters.{letters, rising}
+use Rattle.terms.specs.Letters.{letters, rising, those_below, variables}
 use Rattle.search.specs.Law.{Law, semiring}
 use Rattle.search.specs.Line.{Line}
 use Rattle.search.specs.Path.{IsLine, Path}
@@ -27,9 +27,9 @@ pub record Derivation : Type 0 where
 abbrev pub terms_of : Derivation → List Term
 terms_of d = d.left ∷ d.right ∷ map (λ x. x.result) d.path
 
--- refusals 3 and 4; letters are counted over all terms together
+-- refusals 3 and 4; v letters are counted over all terms together
 unfoldable pub accept_terms : Derivation → Answer Derivation
-unfolding ◌>>=◌ require every size rising letters flat_map
+unfolding ◌>>=◌ require every size rising those_below letters flat_map
 accept_terms d = do
   _ ← require 3 (all_small (terms_of d))
   _ ← require 4 (few (flat_map letters (terms_of d)))
@@ -91,7 +91,7 @@ pub record Derives (ws : List Law) (bs : List ℕ) (d : Derivation) : Type 0 whe
   pub named : (x : Line) → x ∈ d.path → x.law ∈ names ws
   pub readable : (t : Term) → t ∈ terms_of d → Readable t
   pub small : (t : Term) → t ∈ terms_of d → size t ≤ 31
-  pub few : length (rising (flat_map letters (terms_of d))) ≤ 6
+  pub few : length (rising (variables (flat_map letters (terms_of d)))) ≤ 6
 
 -- a nonempty chain from left to right
 pub record Chains (ws : List Law) (d : Derivation) : Type 0 where

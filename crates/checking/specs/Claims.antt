@@ -29,7 +29,7 @@ Good out r out' = (r ≡ 112) × (out' ≡ good ++ drop 12 out)
 pub record CheckClaims (text out : List ℕ) (r : ℕ) (out' : List ℕ) : Type 0 where
   pub call : CallClaims check_numbers (check text (length out)) out r out'
   pub answer : 100 ≤ r → Good out r out'
-  -- it is given exactly if the text is a nonempty chain in the form that FIND prints, with small terms and few letters, and has room
+  -- it is given exactly if the text is a nonempty chain in the form that FIND prints, with small terms and few v letters, and has room
   pub exact : (100 ≤ r) ↔ ((d : Derivation) × Derives semiring text d × Chains semiring d × (12 ≤ length out))
   -- past 1 to 4, with any room: 11 exactly if there is no line, 12 exactly if the lines are no such chain
   pub none : (r ≡ 11) ↔ NoLine semiring text

@@ -2,6 +2,7 @@
 pub mod Layout
 pub mod Check
 pub mod Claims
+pub mod Former
 pub mod Cases
 -- what the code's contracts speak of
 pub mod LineRead

@@ -6,7 +6,7 @@ use Rattle.std.proofs.Math.Option.{none, some}
 use mathlib.Core.List.{List, ◌∷◌, map, flat_map}
 use Rattle.terms.specs.Term.{Term}
 use Rattle.terms.specs.Held.{IsRun}
-use Rattle.terms.specs.Letters.{letters, rising}
+use Rattle.terms.specs.Letters.{letters, rising, variables}
 use Rattle.search.specs.Law.{semiring}
 use Rattle.search.specs.Line.{Line}
 use Rattle.text.specs.declared.refusal.Refusal.{Refusal}
@@ -49,12 +49,12 @@ ResultsRead xs (Ok u) = (ys : List Line) × (read_results xs ≡ some ys) × (al
 pub record ReadsResults (s : List ℕ) (r : Result (Unit {0}) Refusal) : Type 0 where
   pub exact : (xs : List StepLayout) → lines_from s ≡ some xs → ResultsRead xs r
 
--- of `letters`: there is room for them in so many numbers, or there is not
-pub record Letters (left right s : List ℕ) (room : ℕ) (r : answered.Option ℕ) : Type 0 where
+-- of `variables`: there is room for the v letters in so many numbers, or there is not
+pub record Variables (left right s : List ℕ) (room : ℕ) (r : answered.Option ℕ) : Type 0 where
   pub exact : (xs : List StepLayout) (ys : List Line) (t u : Term) → lines_from s ≡ some xs → read_results xs ≡ some ys
-      → IsRun left t → IsRun right u → answered-option.is_some r ≡ leb (length (rising (flat_map letters (t ∷ u ∷ results ys)))) room
+      → IsRun left t → IsRun right u → answered-option.is_some r ≡ leb (length (rising (variables (flat_map letters (t ∷ u ∷ results ys))))) room
 
--- of `few_letters`
-pub record FewLetters (left right s : List ℕ) (r : Bool) : Type 0 where
+-- of `few_variables`
+pub record FewVariables (left right s : List ℕ) (r : Bool) : Type 0 where
   pub exact : (xs : List StepLayout) (ys : List Line) (t u : Term) → lines_from s ≡ some xs → read_results xs ≡ some ys
       → IsRun left t → IsRun right u → r ≡ few (flat_map letters (t ∷ u ∷ results ys))

@@ -5,3 +5,4 @@ pub mod Check
 pub mod Lengths
 pub mod Blocks
 pub mod Entry
+pub mod Former

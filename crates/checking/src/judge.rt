@@ -3,7 +3,7 @@ ghost use Rattle.std.specs.Prelude.{◌<◌, length};
 ghost use Rattle.checking.specs.Judged.{JudgesTerms, JudgesLines, Judges};
 
 use super::chain::leads;
-use super::lines::{few_letters, layout_of, read_results};
+use super::lines::{few_variables, layout_of, read_results};
 use super::reader::Reader;
 use super::steps::StepLines;
 use text::answer::Sides;
@@ -26,8 +26,8 @@ fn judge_terms(
         left: left.numbers(),
         right: right.numbers(),
     };
-    if !few_letters(sides, steps, reader) {
-        return Err(Refusal::TooManyLetters);
+    if !few_variables(sides, steps, reader) {
+        return Err(Refusal::TooManyVariables);
     }
     if steps.text.is_empty() {
         return Err(Refusal::NoSteps);

@@ -6,7 +6,7 @@ ghost use Rattle.terms.specs.Numbers.{is_some};
 ghost use Rattle.search.specs.Law.{semiring};
 ghost use Rattle.checking.specs.Layout.{check_layout};
 ghost use Rattle.checking.specs.LineRead.{lines_from};
-ghost use Rattle.checking.specs.LinesRead.{LaidOut, ReadsResults, Letters, FewLetters};
+ghost use Rattle.checking.specs.LinesRead.{LaidOut, ReadsResults, Variables, FewVariables};
 
 use super::line::step_line;
 use super::reader::Reader;
@@ -16,7 +16,7 @@ use terms::term;
 use text::answer::Sides;
 use text::job::keyed;
 use text::refusal::Refusal;
-use words::candidate::LETTERS;
+use words::candidate::MOST_VARIABLES;
 
 // The sides, and the text that the step lines are.
 #[derive(Clone, Copy)]
@@ -69,30 +69,30 @@ pub fn read_results<const BYTES: usize>(
     read
 }
 
-// The different letters of both sides and all results, in the front of `names`: how many there are, if there is room for all.
-fn letters<const BYTES: usize>(
+// The different v letters of both sides and all results, in the front of `names`: how many there are, if there is room for all.
+fn variables<const BYTES: usize>(
     sides: Sides<'_>,
     steps: StepLines<'_, BYTES>,
     reader: &mut Reader<'_, BYTES>,
     names: &mut [u32],
 ) -> Option<usize>
-    ensures { Letters sides.entry.left.now sides.entry.right.now steps.entry.text.now (length names.old) result }
+    ensures { Variables sides.entry.left.now sides.entry.right.now steps.entry.text.now (length names.old) result }
 {
-    let mut count = term::letters(sides.left, sides.right, names)?;
+    let mut count = term::variables(sides.left, sides.right, names)?;
     for step in steps {
-        count = term::gather(reader.read(step.result)?, names, count)?;
+        count = term::gather(reader.read(step.result)?, names, count, term::FIXED)?;
     }
     Some(count)
 }
 
-// Whether both sides and all results together have at most six different letters, where all lines are well formed and all results terms.
-pub fn few_letters<const BYTES: usize>(
+// Whether both sides and all results together have at most six different v letters, where all lines are well formed and all results terms.
+pub fn few_variables<const BYTES: usize>(
     sides: Sides<'_>,
     steps: StepLines<'_, BYTES>,
     reader: &mut Reader<'_, BYTES>,
 ) -> bool
-    ensures { FewLetters sides.entry.left.now sides.entry.right.now steps.entry.text.now result }
+    ensures { FewVariables sides.entry.left.now sides.entry.right.now steps.entry.text.now result }
 {
-    let mut names = [0u32; LETTERS];
-    letters(sides, steps, reader, &mut names).is_some()
+    let mut names = [0u32; MOST_VARIABLES];
+    variables(sides, steps, reader, &mut names).is_some()
 }

@@ -6,9 +6,8 @@ use Rattle.std.proofs.Math.Path.{ap}
 use mathlib.Core.List.{List, [], ◌∷◌, ◌++◌, map, flat_map, filter_map, append-nil}
 use Rattle.terms.specs.Lists.{◌∈◌, here, there, not-in-nil, append_cases, in_left, in_right}
 use Rattle.terms.specs.Term.{Term, size}
-use Rattle.terms.specs.Letters.{letters, rising}
-use Rattle.terms.specs.Theory.Distinct.{distinct_length}
-use Rattle.terms.specs.Theory.Letters.{rising_distinct, rising_members}
+use Rattle.terms.specs.Letters.{letters, rising, FIXED, variables}
+use Rattle.terms.specs.Theory.Letters.{below_fewer}
 use Rattle.terms.specs.Theory.Order.{irreflexive}
 use Rattle.terms.specs.Theory.TermOrder.{term_order}
 use Rattle.search.specs.Law.{semiring}
@@ -49,7 +48,7 @@ one_line : (key : String) (t v : List ℕ) → values key t ≡ v ∷ [] → lin
 unfolding flat_map
 one_line key t v e = lines_text key t (v ∷ []) e ∙ append-nil (field key v)
 
-flatMap_of : {A B : Type 0} (f : A → List B) (xs : List A) {y : B} → y ∈ flat_map f xs → (x : A) × x ∈ xs × y ∈ f x
+pub flatMap_of : {A B : Type 0} (f : A → List B) (xs : List A) {y : B} → y ∈ flat_map f xs → (x : A) × x ∈ xs × y ∈ f x
 unfolding flat_map
 flatMap_of f [] i = absurd (not-in-nil i)
 flatMap_of f (x ∷ xs) i = ⊎_elim (λ j. (x, here refl, j)) (λ j. let (z, m, k) = flatMap_of f xs j in (z, there m, k)) (append_cases (f x) i)
@@ -80,14 +79,13 @@ module _ {j : Job} {slots : ℕ} {t : List ℕ} (known : Accepted j) (a : Answer
       ⊎_elim (λ covers. in_left (letters j.right) (covers m k)) (λ (h : x.result ≡ j.right). in_right (letters j.left) (rw h at k))
       (proved_letters semiring j.limits j.left j.right differ xs e n found x i)
 
-  few_letters : length (rising (flat_map letters (terms_of d))) ≤ 6
-  few_letters =
+  few_variables : length (rising (variables (flat_map letters (terms_of d)))) ≤ 6
+  few_variables =
       omega (
         arith,
         known.sides.few,
-        distinct_length (rising_distinct (flat_map letters (terms_of d))) (rising (letters j.left ++ letters j.right))
-            (λ m i. let (u, h, k) = flatMap_of letters (terms_of d) ((rising_members (flat_map letters (terms_of d)) m).0 i) in
-            (rising_members (letters j.left ++ letters j.right) m).1 (no_other m u h k)),
+        below_fewer FIXED (flat_map letters (terms_of d)) (letters j.left ++ letters j.right)
+            (λ m i. let (u, h, k) = flatMap_of letters (terms_of d) i in no_other m u h k),
       )
 
   derives : Derives semiring (derivation_text d) d
@@ -101,7 +99,7 @@ module _ {j : Job} {slots : ℕ} {t : List ℕ} (known : Accepted j) (a : Answer
         named = path_named path;
         readable = all_readable;
         small = each_small;
-        few = few_letters;
+        few = few_variables;
       }
 
   kinds : three_kinds t ≡ derivation_text d

@@ -1,4 +1,4 @@
--- A text passes refusals 1 to 4 exactly if it is a derivation in the form that FIND prints, short, small and with few letters.
+-- A text passes refusals 1 to 4 exactly if it is a derivation in the form that FIND prints, short, small and with few v letters.
 use Rattle.std.specs.Prelude.{ℕ, ◌≤◌, ◌≡◌, ◌↔◌, Bool, true, false, length, T, leb}
 use Prim.Native.Char.{code}
 use Rattle.std.proofs.Math.Path.{refl, ap}
@@ -9,7 +9,7 @@ use mathlib.Core.List.{List, [], ◌∷◌, ◌++◌, flat_map, append_assoc}
 use Rattle.std.proofs.Math.Dec.{leb→le}
 use Rattle.terms.specs.Lists.{◌∈◌, here, there, not-in-nil, cons-cases, in_map, of_map}
 use Rattle.terms.specs.Term.{Term, size}
-use Rattle.terms.specs.Letters.{letters, rising}
+use Rattle.terms.specs.Letters.{letters, rising, variables}
 use Rattle.terms.specs.Theory.Reflects.{both}
 use Rattle.search.specs.Law.{Law, Name}
 use Rattle.search.specs.Line.{Line}
@@ -180,14 +180,14 @@ module _ (ws : List Law) where
   unfolding accept_terms
   terms_accepted bs d short p =
       required_then (Derives ws bs) 3 (all_small (terms_of d)) _ λ small.
-      required_then (Derives ws bs) 4 (leb (length (rising (flat_map letters (terms_of d)))) 6) _ λ few.
+      required_then (Derives ws bs) 4 (leb (length (rising (variables (flat_map letters (terms_of d))))) 6) _ λ few.
       record {
         written = p.written;
         short = short;
         named = p.named;
         readable = p.readable;
         small = all_small_each (terms_of d) small;
-        few = leb→le (length (rising (flat_map letters (terms_of d)))) 6 few;
+        few = leb→le (length (rising (variables (flat_map letters (terms_of d))))) 6 few;
       }
 
   or_then : {A B : Type 0} (P : B → Type 0) (n : ℕ) (o : Option A) (f : A → Answer B) → ((x : A) → o ≡ some x → If_accepted P (f x))
@@ -265,7 +265,7 @@ module _ (ws : List Law) (told : Told ws) where
         read_write d.right (h.readable d.right (there (here refl))),
         l.results,
         all_small_true (terms_of d) h.small,
-        test_true (leb (length (rising (flat_map letters (terms_of d)))) 6) (le→leb _ 6 h.few),
+        test_true (leb (length (rising (variables (flat_map letters (terms_of d))))) 6) (le→leb _ 6 h.few),
       )
 
   -- 1 to 4 are passed exactly by the texts that derive something

@@ -1,6 +1,6 @@
 use Rattle.std.proofs.Common.{arith}
 use Rattle.checking.proofs.Lettering.{sides_too_many, sides_few, all_gathered, foul_result, no_room, gathered_on}
-use Rattle.checking.proofs.lines.letters.Goals as goal
+use Rattle.checking.proofs.lines.variables.Goals as goal
 
 pub returns-in_err-count : goal.returns-in_err-count
 returns-in_err-count g c = rw c.from_residual.ensures (sides_too_many c.in_err-count.ensures)
