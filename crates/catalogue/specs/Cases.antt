@@ -71,6 +71,27 @@ pub faults_hold : numbers faults empty ≡ 101 ∷ 1 ∷ 2 ∷ 3 ∷ 4 ∷ 5 ∷
 unfolding faults ascii empty sent
 faults_hold = refl
 
+-- entries whose lines differ in a c letter, or have a v letter in its place, are of different kinds by either key; those whose words agree have
+-- the same lines by `key=words`, whatever their c letters are
+unfoldable pub fixed : List Text
+unfolding ascii
+fixed =
+    put_text (ascii "number=1\nkey=raw\nleft=+ v0 c0\nright=c0\nsteps=3\nsize=7\ndepth=3\nnodes=1000\n")
+    ∷ put_text (ascii "number=2\nkey=raw\nleft=c0\nright=+ v7 c0\nsteps=3\nsize=7\ndepth=3\nnodes=1000\n")
+    ∷ put_text (ascii "number=3\nkey=raw\nleft=+ v0 c1\nright=c1\nsteps=3\nsize=7\ndepth=3\nnodes=1000\n")
+    ∷ put_text (ascii "number=4\nkey=raw\nleft=+ v0 v1\nright=v1\nsteps=3\nsize=7\ndepth=3\nnodes=1000\n")
+    ∷ put_text (ascii "number=5\nkey=words\nleft=* v0 c0\nright=* c0 v0\nsteps=3\nsize=7\ndepth=3\nnodes=1000\n")
+    ∷ put_text (ascii "number=6\nkey=words\nleft=* c0 v9\nright=* v9 c0\nsteps=3\nsize=7\ndepth=3\nnodes=1000\n")
+    ∷ put_text (ascii "number=7\nkey=words\nleft=* v0 c1\nright=* c1 v0\nsteps=3\nsize=7\ndepth=3\nnodes=1000\n")
+    ∷ put_text (ascii "number=8\nkey=words\nleft=* v0 v1\nright=* v1 v0\nsteps=3\nsize=7\ndepth=3\nnodes=1000\n")
+    ∷ put_text (ascii "number=9\nkey=words\nleft=c0\nright=+ c0 0\nsteps=3\nsize=7\ndepth=3\nnodes=1000\n")
+    ∷ put_text (ascii "number=10\nkey=words\nleft=c1\nright=+ c1 0\nsteps=3\nsize=7\ndepth=3\nnodes=1000\n")
+    ∷ []
+
+pub fixed_hold : numbers fixed empty ≡ 101 ∷ 101 ∷ 102 ∷ 103 ∷ 104 ∷ 104 ∷ 105 ∷ 106 ∷ 107 ∷ 107 ∷ []
+unfolding fixed ascii empty sent
+fixed_hold = refl
+
 -- one equation, put under a number
 unfoldable pub put_under : ℕ → Text
 unfolding ascii number

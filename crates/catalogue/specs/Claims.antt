@@ -1,9 +1,11 @@
 -- What is claimed of every list of calls of PUT and WITHDRAW on one buffer, and of kinds and RENAME's lines.
 use Rattle.std.specs.Prelude.{◌≡◌, ℕ, ◌+◌, ◌<◌, ◌≤◌, true, false, ◌⊎◌, ◌↔◌, List, [], ◌∷◌, ◌++◌, length, ◌≢◌, nat_le, slice_index, slice_index_or}
+use mathlib.Core.List.{flatten}
 use Rattle.terms.specs.Lists.{◌∈◌}
 use Rattle.terms.specs.Term.{Term}
+use Rattle.terms.specs.Letters.{letters}
 use Rattle.words.specs.Words.{words}
-use Rattle.words.specs.Shared.{Alike, AlikeWords}
+use Rattle.words.specs.Shared.{SameFixed, Alike, AlikeWords}
 use Rattle.search.specs.Line.{Limits}
 use Rattle.text.specs.Bytes.{number}
 use Rattle.text.specs.Answer.{Answer, refused, accepted, field, values}
@@ -93,7 +95,7 @@ pub record PutFor (bs : List ℕ) (e : Entry Kind) (s t : Term) : Type 0 where
   pub text : bs ≡ field "number=" (number e.number) ++ (field "key=" (key_name e.kind.key) ++ job)
   pub read : read_put bs ≡ accepted e
 
--- by `key=raw`, a one-to-one renaming of letters, with or without exchanging sides, turns one equation into the other; by `key=words`, the
+-- by `key=raw`, a one-to-one renaming of v letters, with or without exchanging sides, turns one equation into the other; by `key=words`, the
 -- words of the sides agree in each, or such a renaming turns the lists of words of the one into those of the other
 abbrev pub AlikeBy : Key → (s t u v : Term) → Type 0
 AlikeBy raw s t u v = Alike s t u v
@@ -104,3 +106,14 @@ AlikeBy worded s t u v =
 abbrev pub SharedKind : Type 0
 SharedKind = (bs cs : List ℕ) (e f : Entry Kind) (s t u v : Term) → PutFor bs e s t → PutFor cs f u v
     → (e.kind ≡ f.kind) ↔ ((e.kind.key ≡ f.kind.key) × AlikeBy e.kind.key s t u v)
+
+-- the same c letters: by `key=raw` in the sides; by `key=words` in the words, or the words of the sides agree in each
+abbrev pub SameFixedBy : Key → (s t u v : Term) → Type 0
+SameFixedBy raw s t u v = SameFixed (letters s ++ letters t) (letters u ++ letters v)
+SameFixedBy worded s t u v =
+    ((words s ≡ words t) × (words u ≡ words v)) ⊎ SameFixed (flatten (words s) ++ flatten (words t)) (flatten (words u) ++ flatten (words v))
+
+-- entries of one kind have the same c letters; that they stand at the same places is part of `SharedKind`
+abbrev pub FixedKind : Type 0
+FixedKind = (bs cs : List ℕ) (e f : Entry Kind) (s t u v : Term) → PutFor bs e s t → PutFor cs f u v
+    → e.kind ≡ f.kind → SameFixedBy e.kind.key s t u v

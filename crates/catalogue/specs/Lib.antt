@@ -5,5 +5,6 @@ pub mod Texts
 pub mod Stored
 pub mod Promises
 pub mod Claims
+pub mod Former
 pub mod Cases
 pub mod Theory

@@ -15,3 +15,4 @@ pub mod Steps
 pub mod Written
 pub mod Renamed
 pub mod Shared
+pub mod Former

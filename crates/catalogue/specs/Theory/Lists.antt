@@ -1,65 +1,30 @@
 -- The lists of numbers that stand for the lines of an entry: the runs of the canonical sides, or the canonical lists of words spelled. They
 -- fit into a place.
-use Rattle.std.specs.Prelude.{◌≡◌, ℕ, ◌≤◌, true, false, List, [], ◌∷◌, ◌++◌, map, length, ◌≢◌}
+use Rattle.std.specs.Prelude.{◌≡◌, ℕ, ◌≤◌, true, false, List, [], ◌∷◌, map, length, ◌≢◌, refl}
 use Rattle.std.proofs.Common.{arith, sym, ap₂, ◌∙◌}
-use Rattle.std.proofs.Math.Path.{refl}
-use Rattle.std.proofs.Math.Logic.{⊎_elim}
 use Rattle.std.proofs.Math.Dec.{compare_is_eq}
-use Rattle.terms.specs.Lists.{◌∈◌, here, not-in-nil, only_one, append_cases, in_left, in_right}
+use Rattle.terms.specs.Lists.{here, not-in-nil}
 use Rattle.terms.specs.Sort.{kept}
 use Rattle.terms.specs.Compare.{lexicographic}
-use Rattle.terms.specs.Equation.{orient}
-use Rattle.terms.specs.Term.{Term, letter, zero, one, add, mul, subst, size, order}
-use Rattle.terms.specs.Letters.{letters, EachLetter}
+use Rattle.terms.specs.Term.{Term, size}
 use Rattle.terms.specs.Run.{run}
 use Rattle.terms.specs.Held.{Fine}
-use Rattle.terms.specs.Theory.Letters.{rising_members}
 use Rattle.terms.specs.Theory.SortMembers.{sort_members}
 use Rattle.terms.specs.Theory.Equation.{orient_either}
-use Rattle.terms.specs.Theory.Held.{length_run}
+use Rattle.terms.specs.Theory.Held.{length_run, letters_fine}
 use Rattle.words.specs.Words.{Word, order_lists, words}
 use Rattle.words.specs.Spelled.{spelled}
-use Rattle.words.specs.Rename.{rename_term, rename_words, canonical_terms, canonical_words}
+use Rattle.words.specs.Rename.{rename_words, canonical_terms, canonical_words}
 use Rattle.words.specs.Theory.Order.{word_order}
-use Rattle.words.specs.Theory.Renaming.{canonical_terms_least, canonical_words_least}
+use Rattle.words.specs.Theory.Renaming.{canonical_words_least}
 use Rattle.words.specs.Theory.Letters.{spelled_bound, renamed_bound}
 use Rattle.text.specs.TermText.{Readable}
 use Rattle.text.specs.Job.{Fit}
 use Rattle.text.specs.Rename.{term_lines, renamed_words}
+use Rattle.text.specs.Theory.Shared.{renamed_fit}
 use Rattle.catalogue.specs.Stored.{ROOM, RawLines, AgreedLines, DifferentLines}
 
 -- ---- the canonical sides
-
--- a term is renamed letter by letter
-module _ (f : ℕ → ℕ) where
-  renamed_size : (t : Term) → size (rename_term f t) ≡ size t
-  unfolding rename_term subst size
-  renamed_size (letter n) = refl
-  renamed_size zero = refl
-  renamed_size one = refl
-  renamed_size (add s t) = omega (arith, renamed_size s, renamed_size t)
-  renamed_size (mul s t) = omega (arith, renamed_size s, renamed_size t)
-
-  module _ (P : ℕ → Type 0) where
-    renamed_letters : (t : Term) → EachLetter (λ n. P (f n)) t → EachLetter P (rename_term f t)
-    unfolding rename_term subst letters
-    renamed_letters (letter n) h m i = rw (only_one i) (h n (here refl))
-    renamed_letters zero h m i = absurd (not-in-nil i)
-    renamed_letters one h m i = absurd (not-in-nil i)
-    renamed_letters (add s t) h m i =
-        ⊎_elim (renamed_letters s (λ n j. h n (in_left (letters t) j)) m) (renamed_letters t (λ n j. h n (in_right (letters s) j)) m)
-        (append_cases (letters (rename_term f s)) i)
-    renamed_letters (mul s t) h m i =
-        ⊎_elim (renamed_letters s (λ n j. h n (in_left (letters t) j)) m) (renamed_letters t (λ n j. h n (in_right (letters s) j)) m)
-        (append_cases (letters (rename_term f s)) i)
-
-readable_fine : (t : Term) → Readable t → Fine t
-unfolding Fine letters
-readable_fine (letter n) h = omega (arith, h n (here refl))
-readable_fine zero h = tt
-readable_fine one h = tt
-readable_fine (add s t) h = (readable_fine s (λ n i. h n (in_left (letters t) i)), readable_fine t (λ n i. h n (in_right (letters s) i)))
-readable_fine (mul s t) h = (readable_fine s (λ n i. h n (in_left (letters t) i)), readable_fine t (λ n i. h n (in_right (letters s) i)))
 
 -- a side of the canonical equation
 pub record Side (t : Term) : Type 0 where
@@ -67,29 +32,15 @@ pub record Side (t : Term) : Type 0 where
   pub fine : Fine t
   pub small : size t ≤ 31
 
+side : (t : Term) → Readable t → size t ≤ 31 → Side t
+side t readable small = record { readable = readable; fine = letters_fine t (λ n i. omega (arith, readable n i)); small = small }
+
 module _ {s t : Term} (F : Fit s t) where
   pub canonical_sides : Side (canonical_terms s t).left × Side (canonical_terms s t).right
-  canonical_sides = rw e (orient_either (λ u v. Side u × Side v) order (rename_term f s) (rename_term f t) (left, right) (right, left))
-    where
-      f : ℕ → ℕ
-      f = (canonical_terms_least s t).attained.0
-
-      e : canonical_terms s t ≡ orient order (rename_term f s) (rename_term f t)
-      e = (canonical_terms_least s t).attained.2
-
-      low : (n : ℕ) → n ∈ letters s ++ letters t → f n ≤ 999
-      low n i = omega (arith, (canonical_terms_least s t).attained.1.below n ((rising_members (letters s ++ letters t) n).1 i), F.few)
-
-      side : (u : Term) → size u ≤ 31 → EachLetter (λ n. f n ≤ 999) u → Side (rename_term f u)
-      side u small h =
-          let readable = renamed_letters f (λ n. n ≤ 999) u h in
-          record { readable = readable; fine = readable_fine (rename_term f u) readable; small = omega (arith, renamed_size f u) }
-
-      left : Side (rename_term f s)
-      left = side s F.small_left (λ n i. low n (in_left (letters t) i))
-
-      right : Side (rename_term f t)
-      right = side t F.small_right (λ n i. low n (in_right (letters s) i))
+  canonical_sides =
+      let e = canonical_terms s t in
+      let fit = renamed_fit F in
+      (side e.left fit.readable_left fit.small_left, side e.right fit.readable_right fit.small_right)
 
   -- a raw key: the runs of both sides
   pub raw_lists : RawLines (run (canonical_terms s t).left) (run (canonical_terms s t).right) (term_lines (canonical_terms s t))
@@ -145,7 +96,7 @@ module _ (us vs : List Word) where
 
       some : (canonical_words us vs).left ≡ [] → (canonical_words us vs).right ≢ []
       some =
-          rw (canonical_words_least us vs).attained.2
+          rw (canonical_words_least us vs).attained.3
           (orient_either (λ u v. u ≡ [] → v ≢ []) order_lists (rename_words f us) (rename_words f vs)
           (λ p q. differ (none_renamed f us p) (none_renamed f vs q)) (λ q p. differ (none_renamed f us p) (none_renamed f vs q)))
 
@@ -153,7 +104,7 @@ module _ (us vs : List Word) where
 pub words_room : {s t : Term} → Fit s t
     → (length (spelled (canonical_words (words s) (words t)).left) ≤ ROOM) × (length (spelled (canonical_words (words s) (words t)).right) ≤ ROOM)
 words_room {s} {t} F =
-    let (f, _, e) = (canonical_words_least (words s) (words t)).attained in
+    let (f, _, _, e) = (canonical_words_least (words s) (words t)).attained in
     let left : length (spelled (rename_words f (words s))) ≤ ROOM = omega (arith, renamed_bound f (words s), spelled_bound kept s F.small_left) in
     let right : length (spelled (rename_words f (words t))) ≤ ROOM = omega (arith, renamed_bound f (words t), spelled_bound kept t F.small_right) in
     rw e

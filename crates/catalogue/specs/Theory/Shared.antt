@@ -1,10 +1,10 @@
--- Two entries are of one kind exactly when, by their key, a renaming of letters turns one into the other.
+-- Two entries are of one kind exactly when, by their key, a renaming of v letters turns one into the other; so they have the same c letters.
 use Rattle.std.specs.Prelude.{◌≡◌, ℕ, Bool, true, false, ◌↔◌, List, [], ◌∷◌, ◌++◌}
 use Rattle.std.proofs.Common.{sym, ap₂, ◌∙◌, inl, inr, ⊎_elim}
 use Rattle.terms.specs.Term.{Term}
 use Rattle.terms.specs.Theory.Reflects.{Reflects}
 use Rattle.words.specs.Words.{words}
-use Rattle.words.specs.Theory.Shared.{alike_agree}
+use Rattle.words.specs.Theory.Shared.{alike_agree, alike_fixed, alike_words_fixed}
 use Rattle.text.specs.Answer.{accepted}
 use Rattle.text.specs.Shared.{Named, FourLines, Share}
 use Rattle.text.specs.Theory.JobText.{job_exact}
@@ -12,7 +12,7 @@ use Rattle.text.specs.Theory.RenameText.{agree, left_value, right_value, wleft_v
 use Rattle.text.specs.Theory.Shared.{agree_reflects, passes_named, named_lines, names_exactly, words_exactly, dashes_exactly}
 use Rattle.catalogue.specs.Catalogue.{Entry}
 use Rattle.catalogue.specs.Texts.{Key, raw, worded, Kind, read_put}
-use Rattle.catalogue.specs.Claims.{lines_under, PutOf, PutFor, AlikeBy, SharedKind}
+use Rattle.catalogue.specs.Claims.{lines_under, PutOf, PutFor, AlikeBy, SharedKind, SameFixedBy, FixedKind}
 use Rattle.catalogue.specs.Theory.Written.{put_read}
 use Rattle.catalogue.specs.Theory.Renamed.{one_kind}
 
@@ -75,6 +75,14 @@ kinds_exactly bs cs e f s t u v P Q =
   where
     by_key : {a b : List ℕ} → Named s t a → Named u v b → {k l : Key} → k ≡ l → (lines_under k a ≡ lines_under l b) ↔ AlikeBy k s t u v
     by_key {a} {b} N M {k} e = rw (← e) (lines_shared N M k)
+
+same_fixed : (k : Key) (s t u v : Term) → AlikeBy k s t u v → SameFixedBy k s t u v
+same_fixed raw s t u v h = alike_fixed h
+same_fixed worded s t u v (inl h) = inl h
+same_fixed worded s t u v (inr h) = inr (alike_words_fixed s t u v h)
+
+pub fixed_kind : FixedKind
+fixed_kind bs cs e f s t u v P Q same = same_fixed e.kind.key s t u v ((kinds_exactly bs cs e f s t u v P Q).0 same).1
 
 -- every put that is read is one for an equation
 pub put_for : {bs : List ℕ} {e : Entry Kind} → read_put bs ≡ accepted e → (s : Term) × (t : Term) × PutFor bs e s t
