@@ -2,6 +2,7 @@
 
 pub mod catalogue;
 mod check;
+mod fixed;
 mod many;
 
 use crate::plain::job;
@@ -114,7 +115,7 @@ macro_rules! none {
 use none;
 
 /// The cases about these, or about all if none is said: those of document 01 with the examples of its table of
-/// refusals, those for several right sides, and those for CHECK.
+/// refusals, those for several right sides, those for CHECK, and those with c letters.
 pub fn cases(about: &[About]) -> Vec<Case> {
     let is_meant = |one: About| one.is_among(about);
     let mut all = Vec::new();
@@ -129,6 +130,9 @@ pub fn cases(about: &[About]) -> Vec<Case> {
     }
     if is_meant(About::Check) {
         all.extend(check::cases());
+    }
+    if is_meant(About::Fixed) {
+        all.extend(fixed::cases());
     }
     all
 }

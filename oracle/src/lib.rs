@@ -33,13 +33,14 @@ impl Entry {
     }
 }
 
-/// What a call is about: a job of one right side or of several, some of which may be wrong, or a
-/// derivation for CHECK.
+/// What a call is about: a job of one right side or of several, some of which may be wrong, a
+/// derivation for CHECK, or any of these with c letters.
 #[derive(Clone, Copy, Debug, Eq, PartialEq)]
 pub enum About {
     One,
     Many,
     Check,
+    Fixed,
 }
 
 impl About {

@@ -14,7 +14,7 @@ pub fn take(plan: &mut Plan, option: &str, rest: &mut Iter<&str>) -> Result<bool
         "--seed" => plan.seed = value(option, rest)?,
         "--count" => plan.count = value(option, rest)?,
         "--light" => plan.light = true,
-        "--one" | "--many" | "--check" => plan.about.extend(about(option)),
+        "--one" | "--many" | "--check" | "--fixed" => plan.about.extend(about(option)),
         "--max-job" => plan.most_bytes = value(option, rest)?,
         "--max-slots" => plan.most_slots = value(option, rest)?,
         "--max-room" => plan.most_room = value(option, rest)?,
@@ -36,6 +36,7 @@ pub fn take_plays(plays: &mut Plays, option: &str, rest: &mut Iter<&str>) -> Res
         "--plays" => plays.count = value(option, rest)?,
         "--calls" => plays.calls = value(option, rest)?,
         "--short" => plays.is_short = true,
+        "--fixed" => plays.has_c = true,
         _ => return Ok(false),
     }
     Ok(true)
@@ -47,17 +48,19 @@ pub fn take_names(names: &mut Names, option: &str, rest: &mut Iter<&str>) -> Res
         "--seed" => names.seed = value(option, rest)?,
         "--first" => names.first = value(option, rest)?,
         "--count" => names.count = value(option, rest)?,
+        "--fixed" => names.has_c = true,
         _ => return Ok(false),
     }
     Ok(true)
 }
 
-/// Which calls `--one`, `--many` or `--check` asks for.
+/// Which calls `--one`, `--many`, `--check` or `--fixed` asks for.
 pub fn about(option: &str) -> Option<About> {
     match option {
         "--one" => Some(About::One),
         "--many" => Some(About::Many),
         "--check" => Some(About::Check),
+        "--fixed" => Some(About::Fixed),
         _ => None,
     }
 }

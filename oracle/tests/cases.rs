@@ -14,7 +14,10 @@ fn cases_hold() {
 
 #[test]
 fn cases_of_the_catalogue_hold_and_leave_it_empty() {
-    for play in catalogue::plays() {
+    for play in catalogue::plays()
+        .into_iter()
+        .chain(catalogue::fixed_plays())
+    {
         if let Some(fault) = play.faults().first() {
             panic!("case {}\n{fault}", play.name);
         }

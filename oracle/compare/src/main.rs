@@ -22,16 +22,16 @@ const HELP: &str = "\
 compare OPTIONS
     Makes the documents' cases and then generated calls, and holds the static library to the oracle.
 
-compare catalogue [--seed S] [--first N] [--plays N] [--calls N] [--short] [--threads N] [--plain]
+compare catalogue [--seed S] [--first N] [--plays N] [--calls N] [--short] [--fixed] [--threads N] [--plain]
     Makes the cases of the catalogue and then plays, as `oracle catalogue` takes them.
 
-compare names [--seed S] [--first N] [--count N] [--threads N] [--plain]
+compare names [--seed S] [--first N] [--count N] [--fixed] [--threads N] [--plain]
     Makes pairs of equations as `oracle names` does, three calls of RENAME each.
 
 OPTIONS: --seed S (default 1), --count N (default 1000), --first N (default 0, the first call's
-    index), --kind K, --one, --many, --check, --light, --max-job N, --max-slots N, --max-room N as
-    `oracle check` takes them, --threads N (default 1), --plain (what is due comes from plain
-    alone, without the Rust).
+    index), --kind K, --one, --many, --check, --fixed, --light, --max-job N, --max-slots N,
+    --max-room N as `oracle check` takes them, --threads N (default 1), --plain (what is due comes
+    from plain alone, without the Rust).
 ";
 
 fn main() -> ExitCode {

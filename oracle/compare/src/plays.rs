@@ -36,7 +36,10 @@ fn run_cases() -> Result<usize, String> {
     let mut random = Random::new(0, 0);
     let mut catalogues = Catalogues::default();
     let mut calls = 0;
-    for case in catalogue::plays() {
+    for case in catalogue::plays()
+        .into_iter()
+        .chain(catalogue::fixed_plays())
+    {
         catalogues.begin(&mut random);
         let mut judged = Judged::new(true);
         for (sent, due) in &case.calls {

@@ -1,6 +1,7 @@
 //! Cases for the catalogue: lists of calls from an empty one, each with the number that is due. Each list leaves
 //! it empty again, so that any other may follow.
 
+mod fixed;
 mod refused;
 
 use super::{LIMITS, sum_of};
@@ -31,6 +32,12 @@ impl Play {
     }
 }
 
+/// The lists with c letters.
+pub fn fixed_plays() -> Vec<Play> {
+    fixed::plays()
+}
+
+/// The others.
 pub fn plays() -> Vec<Play> {
     let mut all = vec![calls(), raw_kinds(), word_kinds(), full()];
     all.extend(refused::plays());

@@ -37,7 +37,7 @@ fn text(name: &'static str, text: &str, due: Due) -> Case {
 }
 
 /// CHECK of two sides and step lines.
-fn steps(name: &'static str, [left, right]: [&str; 2], steps: &[&str], due: Due) -> Case {
+pub fn steps(name: &'static str, [left, right]: [&str; 2], steps: &[&str], due: Due) -> Case {
     let steps = steps.iter().map(|step| format!("step={step}\n"));
     let steps: String = steps.collect();
     text(name, &format!("left={left}\nright={right}\n{steps}"), due)

@@ -28,7 +28,7 @@ pub fn cases() -> Vec<Case> {
 }
 
 /// FIND of left with several right sides.
-fn several(left: &str, rights: &[&str], limits: Limits) -> Call {
+pub fn several(left: &str, rights: &[&str], limits: Limits) -> Call {
     let values = [&[left], rights, &limits].concat();
     Call {
         job: job::write(&values),
@@ -37,7 +37,7 @@ fn several(left: &str, rights: &[&str], limits: Limits) -> Call {
 }
 
 /// A case whose answer is these blocks.
-fn blocks(name: &'static str, call: Call, due: &[Due]) -> Case {
+pub fn blocks(name: &'static str, call: Call, due: &[Due]) -> Case {
     let texts = due.iter().map(|block| block.expect("a block is a text"));
     let due = Ok(texts.collect());
     Case { name, call, due }

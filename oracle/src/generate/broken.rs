@@ -127,6 +127,14 @@ fn exchange_digit(random: &mut Random, text: &mut [u8]) {
     }
 }
 
+/// A byte that texts have.
+fn usual(random: &mut Random) -> u8 {
+    match random.has_c() {
+        true => random.pick(b"+*vc01 29\n"),
+        false => random.pick(b"+*v01 29\n"),
+    }
+}
+
 fn damage(random: &mut Random, text: &mut Vec<u8>) {
     if text.is_empty() {
         return;
@@ -136,12 +144,12 @@ fn damage(random: &mut Random, text: &mut Vec<u8>) {
     match random.below(9) {
         0 => text[at] ^= 1 << random.below(8),
         1 => text[at] = random.byte(),
-        2 => text[at] = random.pick(b"+*v01 29\n"),
+        2 => text[at] = usual(random),
         3 => {
             text.remove(at);
         }
         4 => text.insert(at, random.byte()),
-        5 => text.insert(at, random.pick(b"+*v01 29\n")),
+        5 => text.insert(at, usual(random)),
         6 => {
             let stretch = text[at..end].to_vec();
             text.splice(at..at, stretch);

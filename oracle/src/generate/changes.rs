@@ -2,9 +2,9 @@
 
 use super::random::Random;
 use super::searched::{LARGEST, rewritten};
-use super::terms::letters;
+use super::terms::{letters, v_letters};
 use crate::plain::job::MOST_LETTERS;
-use crate::plain::term::{Term, is_letter, letters_of};
+use crate::plain::term::{Term, is_letter, letters_of, v_letters_of};
 
 /// Left and right.
 pub type Sides = [Term; 2];
@@ -12,10 +12,10 @@ pub type Sides = [Term; 2];
 /// Changes an equation; what comes out may have equal sides.
 pub type Change = fn(&mut Random, &Sides) -> Sides;
 
-/// The sides with each letter exchanged for another one, no two for the same.
+/// The sides with each v letter exchanged for another one, no two for the same.
 pub fn with_other_letters(random: &mut Random, sides: &Sides) -> Sides {
-    let old = all_letters(sides);
-    let new = letters(random, old.len());
+    let old = v_letters_of(&sides[0], &sides[1]);
+    let new = v_letters(random, old.len());
     sides.each_ref().map(|side| with_letters(side, &old, &new))
 }
 

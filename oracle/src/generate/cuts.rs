@@ -8,7 +8,7 @@ use super::terms::{letters, term, term_up_to};
 use crate::plain::{
     job::{BOUNDS, Job, Limits, MOST_NODES},
     search::{Outcome, search},
-    term::{LAST_LETTER, Term},
+    term::{C_LETTERS, FIRST_C, Term},
 };
 use crate::{Call, Entry};
 
@@ -90,7 +90,7 @@ fn fruitless(left: &Term, limits: &Limits, steps: usize, nodes: usize) -> Outcom
         nodes,
         ..*limits
     };
-    let stranger = Term::of(vec![LAST_LETTER as u16 + 1]);
+    let stranger = Term::of(vec![FIRST_C + C_LETTERS as u16]);
     search(left, &stranger, &limits, usize::MAX).expect("slots enough")
 }
 

@@ -3,9 +3,9 @@
 use super::changes::{Sides, led_on, with_letters};
 use super::listed::{many_letters, product_of_sums};
 use super::random::Random;
-use super::terms::{joined, letters, some_letters, term, term_up_to};
+use super::terms::{joined, letters, mixed, replaced_or_mixed, some_letters, term, term_up_to};
 use crate::plain::job::{MOST_LETTERS, MOST_NODES};
-use crate::plain::term::{PRODUCT, SUM, Term, letters_of};
+use crate::plain::term::{PRODUCT, SUM, Term, is_c, letters_of};
 
 /// Mostly random terms, up to six letters and 31 nodes a side.
 pub fn any(random: &mut Random) -> Sides {
@@ -13,7 +13,7 @@ pub fn any(random: &mut Random) -> Sides {
         0 => agreed(random),
         1 => symmetric(random),
         2 | 3 => {
-            let pool = letters(random, MOST_LETTERS);
+            let pool = mixed(random, MOST_LETTERS, MOST_LETTERS + 2);
             [(); 2].map(|()| many_letters(random, &pool))
         }
         _ => {
@@ -31,6 +31,16 @@ pub fn lettered(random: &mut Random) -> Sides {
     match letters_of(left, right).len() {
         0 | 1 => lettered(random),
         _ => sides,
+    }
+}
+
+/// Likewise, with a c letter or more.
+pub fn tabled(random: &mut Random) -> Sides {
+    let sides = lettered(random);
+    let [left, right] = &sides;
+    match letters_of(left, right).into_iter().any(is_c) {
+        true => sides,
+        false => tabled(random),
     }
 }
 
@@ -103,15 +113,15 @@ fn power(random: &mut Random, pool: &[u16]) -> Term {
     Term::of(joined(random, sums, &[PRODUCT]))
 }
 
-/// 31 nodes a side over six letters.
+/// 31 nodes a side over six v letters.
 pub fn large(random: &mut Random) -> Sides {
-    let pool = letters(random, MOST_LETTERS);
+    let pool = mixed(random, MOST_LETTERS, 3 * MOST_LETTERS);
     [(); 2].map(|()| term(random, MOST_NODES, &pool))
 }
 
 /// Up to 324 words a side.
 pub fn most_words(random: &mut Random) -> Sides {
     let count = random.between(3, MOST_LETTERS);
-    let pool = letters(random, count);
+    let pool = replaced_or_mixed(random, count);
     [(); 2].map(|()| product_of_sums(random, &pool))
 }

@@ -2,7 +2,8 @@
 
 use super::draft::{Draft, call};
 use super::random::Random;
-use super::terms::{holding, joined, letters, term};
+use super::terms::{holding, joined, mixed, replaced_or_mixed, term};
+use crate::plain::job::MOST_LETTERS;
 use crate::plain::term::{ONE, PRODUCT, SUM, Term, ZERO};
 use crate::{Call, Entry};
 
@@ -14,10 +15,10 @@ fn listed(random: &mut Random, left: &Term, right: &Term) -> Call {
     call(random, entry, job)
 }
 
-/// Products of sums, up to 324 words a side.
+/// Products of sums, up to 324 words a side; where c letters are drawn, in place of some v letters or beside them.
 pub fn words(random: &mut Random) -> Call {
     let count = random.between(1, 6);
-    let pool = letters(random, count);
+    let pool = replaced_or_mixed(random, count);
     let left = product_of_sums(random, &pool);
     let right = match random.below(3) {
         0 => term(random, 31, &pool),
@@ -53,10 +54,10 @@ fn word_atom(random: &mut Random, pool: &[u16]) -> u16 {
     }
 }
 
-/// Up to six letters in both sides, some lost where 0 multiplies.
+/// Up to six v letters in both sides, and c letters, some lost where 0 multiplies.
 pub fn renames(random: &mut Random) -> Call {
     let count = random.pick(&[0, 1, 2, 3, 4, 5, 6, 6, 6, 6]);
-    let pool = letters(random, count);
+    let pool = mixed(random, count, MOST_LETTERS + 2);
     let [left, right] = [(); 2].map(|()| many_letters(random, &pool));
     if left == right {
         return renames(random);

@@ -4,9 +4,9 @@ use super::bent::{bend, tear};
 use super::chains::{chain, stated};
 use super::derived::{Derived, StepDraft, call};
 use super::random::Random;
-use super::refused::spoil_term;
+use super::refused::{MOST_HELD, spoil_term};
 use super::spoilt::of_length;
-use super::terms::{holding, letters, shown, term, term_up_to};
+use super::terms::{holding, letters, mixed, shown, term, term_up_to};
 use super::unread::spoil_field;
 use crate::Call;
 use crate::plain::check::{Derivation, GOOD, MOST_CHECK_BYTES};
@@ -37,14 +37,14 @@ fn grown(random: &mut Random, pool: &[u16]) -> Call {
     Derived::new(&derivation).call(random)
 }
 
-/// Five to eight letters in all terms together, few in each.
+/// Five to eight v letters in all terms together, few in each, and c letters.
 pub fn names(random: &mut Random) -> Call {
     let count = random.between(MOST_LETTERS - 1, MOST_LETTERS + 2);
-    let pool = letters(random, count);
+    let pool = mixed(random, count, 2 * MOST_HELD);
     let mut steps = Vec::new();
     let mut at = 0;
-    while at < count {
-        let width = random.between(1, 3).min(count - at);
+    while at < pool.len() {
+        let width = random.between(1, 3).min(pool.len() - at);
         steps.extend(there_and_back(random, &pool[at..at + width]));
         at += width;
     }
@@ -139,7 +139,7 @@ fn add_reason(random: &mut Random, draft: &mut Derived) {
             *draft.any_term(random) = shown(&term(random, MOST_NODES + 2, &pool));
         }
         3 => {
-            let pool = letters(random, MOST_LETTERS + 1);
+            let pool = mixed(random, MOST_LETTERS + 1, MOST_HELD);
             *draft.any_term(random) = shown(&holding(random, &pool));
         }
         4 => draft.steps.clear(),

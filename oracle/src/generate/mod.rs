@@ -10,6 +10,7 @@ mod draft;
 mod equations;
 mod listed;
 mod measured;
+mod most;
 mod names;
 mod plans;
 mod plays;
@@ -18,6 +19,7 @@ mod random;
 mod refused;
 mod searched;
 mod spoilt;
+mod tables;
 mod terms;
 mod unfit;
 mod unread;
@@ -72,10 +74,18 @@ const fn check(name: &'static str, share: usize, what: &'static str, make: Make)
     }
 }
 
-/// The kinds; the shares of those with one right side make a thousand, of those with several and of those for
-/// CHECK five hundred each.
+/// A kind that draws c letters, with one right side, with several or for CHECK.
+const fn fixed(name: &'static str, share: usize, what: &'static str, make: Make) -> Kind {
+    Kind {
+        about: About::Fixed,
+        ..one(name, share, what, make)
+    }
+}
+
+/// The kinds; the shares of those with one right side make a thousand, of those with several, of those for CHECK and
+/// of those with c letters five hundred each.
 #[rustfmt::skip]
-pub const KINDS: [Kind; 47] = [
+pub const KINDS: [Kind; 72] = [
     one("lines", 60, "malformed lines, keys, digits and lengths", broken::lines),
     one("sides", 80, "a side that is no term", refused::sides),
     one("nodes", 40, "sides of 29 nodes and more", refused::nodes),
@@ -123,6 +133,31 @@ pub const KINDS: [Kind; 47] = [
     check("step-faults", 20, "several reasons to refuse", measured::faults),
     check("step-bytes", 5, "texts of about 8,192 bytes", measured::bytes),
     check("step-damage", 10, "good texts with damaged bytes", unread::damaged),
+    fixed("c-laws", 15, "both sides of one law", searched::laws),
+    fixed("c-paths", 45, "ends of a chain of 1 to 4 lines", searched::paths),
+    fixed("c-pairs", 15, "two random terms", searched::pairs),
+    fixed("c-cuts", 15, "nodes about the number of terms at a distance below steps", cuts::one),
+    fixed("c-edges", 10, "a limit about what the search takes", searched::edges),
+    fixed("c-slots", 10, "slots about the number needed", searched::slots),
+    fixed("c-room", 10, "room about the answer's length", searched::room),
+    fixed("c-words", 20, "up to 324 words a side", listed::words),
+    fixed("c-renames", 50, "up to six v letters to rename beside c letters", listed::renames),
+    fixed("c-letters", 20, "five to eight v letters, up to 32 letters", refused::many_letters),
+    fixed("c-most", 30, "eleven to 32 letters, some sides some lines apart", most::letters),
+    fixed("c-sides", 25, "a side that is no term, mostly by a c letter that is none", refused::sides),
+    fixed("c-several", 5, "several reasons to refuse", refused::several),
+    fixed("c-damaged", 15, "good texts with damaged bytes", broken::damaged),
+    fixed("c-plans", 30, "2 to 16 right sides, near and far", plans::plans),
+    fixed("c-few-slots", 10, "slots about what one right side needs", plans::slots),
+    fixed("c-each-six", 15, "six v letters, or seven, in each equation", spoilt::each_six),
+    fixed("c-one-wrong", 10, "one right side that refuses the job", spoilt::one_wrong),
+    fixed("c-found", 15, "lines of a proved answer of FIND", chains::found),
+    fixed("c-walks", 45, "chains of 1 to 40 lines", chains::walks),
+    fixed("c-bent", 40, "one field of one line changed", bent::bent),
+    fixed("c-torn", 10, "lines or sides dropped, exchanged or changed", bent::torn),
+    fixed("c-twofold", 10, "a letter of a law that meets two terms", bent::twofold),
+    fixed("c-terms", 15, "a side or a result that is no term", unread::terms),
+    fixed("c-names", 15, "five to eight v letters in all terms, and c letters", measured::names),
 ];
 
 /// Which calls to make.
@@ -166,7 +201,9 @@ impl Plan {
     pub fn call(&self, index: u64) -> (usize, Call) {
         let mut random = Random::new(self.seed, index);
         let kind = self.kind.unwrap_or_else(|| self.by_share(&mut random));
-        let mut call = (KINDS[kind].make)(&mut random);
+        let Kind { about, make, .. } = KINDS[kind];
+        random = random.with_c(about == About::Fixed);
+        let mut call = make(&mut random);
         call.job.truncate(self.most_bytes);
         call.slots = call.slots.min(self.most_slots);
         call.room = call.room.min(self.most_room);

@@ -6,9 +6,10 @@ use super::changes::{self, Change, Sides};
 use super::draft::{Draft, any_limits};
 use super::equations;
 use super::random::Random;
+use super::tables;
 use crate::plain::{
     job::{self, MOST_LETTERS, MOST_NODES},
-    term::letters_of,
+    term::v_letters_of,
 };
 
 /// Which pairs to make.
@@ -18,6 +19,8 @@ pub struct Names {
     /// The index of the first one.
     pub first: u64,
     pub count: u64,
+    /// Whether c letters are among the letters.
+    pub has_c: bool,
 }
 
 impl Default for Names {
@@ -26,6 +29,7 @@ impl Default for Names {
             seed: 1,
             first: 0,
             count: 1_000,
+            has_c: false,
         }
     }
 }
@@ -37,8 +41,9 @@ impl Names {
 
     /// The pair of this index, whatever the others are.
     pub fn pair(&self, index: u64) -> Pair {
-        let mut random = Random::new(self.seed, index);
-        let kind = random.by_share(&PAIR_KINDS.each_ref().map(|kind| kind.share));
+        let mut random = Random::new(self.seed, index).with_c(self.has_c);
+        let share = |kind: &PairKind| kind.shares[usize::from(self.has_c)];
+        let kind = random.by_share(&PAIR_KINDS.each_ref().map(share));
         let mut sides = PAIR_KINDS[kind].good(&mut random);
         random.shuffle(&mut sides);
         Pair {
@@ -72,10 +77,10 @@ impl Pair {
     }
 }
 
-/// A kind of pair, its share, and what it is.
+/// A kind of pair, its share among those without and among those with c letters, and what it is.
 pub struct PairKind {
     pub name: &'static str,
-    pub share: usize,
+    pub shares: [usize; 2],
     pub what: &'static str,
     first: fn(&mut Random) -> Sides,
     other: Change,
@@ -98,41 +103,44 @@ impl PairKind {
 fn is_good([left, right]: &Sides) -> bool {
     left != right
         && left.size().max(right.size()) <= MOST_NODES
-        && letters_of(left, right).len() <= MOST_LETTERS
+        && v_letters_of(left, right).len() <= MOST_LETTERS
 }
 
 const fn kind(
     name: &'static str,
-    share: usize,
+    shares: [usize; 2],
     what: &'static str,
     first: fn(&mut Random) -> Sides,
     other: Change,
 ) -> PairKind {
     PairKind {
         name,
-        share,
+        shares,
         what,
         first,
         other,
     }
 }
 
-/// The kinds; their shares make a thousand.
+/// The kinds; the shares without and with c letters make a thousand each.
 #[rustfmt::skip]
-pub const PAIR_KINDS: [PairKind; 15] = [
-    kind("renamed", 90, "letters renamed one to one", equations::any, changes::with_other_letters),
-    kind("exchanged", 50, "sides exchanged", equations::any, changes::exchanged),
-    kind("turned", 90, "both", equations::any, changes::turned),
-    kind("merged", 80, "two letters made one", equations::lettered, changes::merged),
-    kind("one-place", 90, "another letter in one place", equations::lettered, changes::one_place),
-    kind("crossed", 80, "two letters exchanged on one side only", equations::lettered, changes::crossed),
-    kind("half", 70, "letters renamed on one side only", equations::lettered, changes::half_renamed),
-    kind("rewritten", 80, "one side rewritten by a law", equations::any, changes::one_rewritten),
-    kind("led-on", 80, "both sides rewritten, by up to four lines each", equations::any, changes::both_rewritten),
-    kind("agreed", 50, "two by themselves whose words agree", equations::agreed, |random, _| equations::agreed(random)),
-    kind("unrelated", 50, "two by themselves", equations::any, |random, _| equations::any(random)),
-    kind("small", 90, "two small ones over few letters", equations::small, |random, _| equations::small(random)),
-    kind("symmetric", 70, "one that renamings keep, changed in any way", equations::symmetric, changes::in_any_way),
-    kind("large", 20, "31 nodes a side, six letters, changed likewise", equations::large, changes::in_any_way),
-    kind("most-words", 10, "up to 324 words a side, changed likewise", equations::most_words, changes::in_any_way),
+pub const PAIR_KINDS: [PairKind; 18] = [
+    kind("renamed", [90, 80], "v letters renamed one to one", equations::any, changes::with_other_letters),
+    kind("exchanged", [50, 40], "sides exchanged", equations::any, changes::exchanged),
+    kind("turned", [90, 80], "both", equations::any, changes::turned),
+    kind("merged", [80, 70], "two letters made one", equations::lettered, changes::merged),
+    kind("one-place", [90, 80], "another letter in one place", equations::lettered, changes::one_place),
+    kind("crossed", [80, 70], "two letters exchanged on one side only", equations::lettered, changes::crossed),
+    kind("half", [70, 60], "letters renamed on one side only", equations::lettered, changes::half_renamed),
+    kind("rewritten", [80, 60], "one side rewritten by a law", equations::any, changes::one_rewritten),
+    kind("led-on", [80, 60], "both sides rewritten, by up to four lines each", equations::any, changes::both_rewritten),
+    kind("agreed", [50, 40], "two by themselves whose words agree", equations::agreed, |random, _| equations::agreed(random)),
+    kind("unrelated", [50, 40], "two by themselves", equations::any, |random, _| equations::any(random)),
+    kind("small", [90, 80], "two small ones over few letters", equations::small, |random, _| equations::small(random)),
+    kind("symmetric", [70, 60], "one that renamings keep, changed in any way", equations::symmetric, changes::in_any_way),
+    kind("large", [20, 20], "31 nodes a side, six v letters, changed likewise", equations::large, changes::in_any_way),
+    kind("most-words", [10, 10], "up to 324 words a side, changed likewise", equations::most_words, changes::in_any_way),
+    kind("other-table", [0, 60], "one c letter exchanged for a new one", equations::tabled, tables::other_table),
+    kind("swapped", [0, 50], "two c letters exchanged", equations::tabled, tables::swapped),
+    kind("freed", [0, 40], "a c letter made a v letter, or the other way", equations::tabled, tables::freed),
 ];

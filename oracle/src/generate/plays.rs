@@ -17,6 +17,8 @@ pub struct Plays {
     pub calls: usize,
     /// Short texts and no other buffers, for a program that replays them.
     pub is_short: bool,
+    /// Whether c letters are among the letters.
+    pub has_c: bool,
 }
 
 impl Default for Plays {
@@ -27,6 +29,7 @@ impl Default for Plays {
             count: 10,
             calls: 500,
             is_short: false,
+            has_c: false,
         }
     }
 }
@@ -34,7 +37,7 @@ impl Default for Plays {
 impl Plays {
     /// The play of this index, whatever the others are.
     pub fn player(&self, index: u64) -> Player {
-        let mut random = Random::new(self.seed, index);
+        let mut random = Random::new(self.seed, index).with_c(self.has_c);
         let (phase, left) = Phase::Drain.next(&mut random);
         let is_varied = random.percent(30);
         Player {

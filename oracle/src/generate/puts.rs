@@ -7,7 +7,8 @@ use super::listed::product_of_sums;
 use super::plays::Player;
 use super::random::Random;
 use super::searched::{LARGEST, rewritten};
-use super::terms::{letters, some_letters, term_up_to};
+use super::tables::with_new_c;
+use super::terms::{replaced_or_mixed, some_letters, term_up_to};
 use crate::plain::{
     catalogue::{Catalogue, Key, MOST_NUMBER},
     job::MOST_LETTERS,
@@ -99,10 +100,15 @@ pub fn agreed(player: &mut Player, catalogue: &Catalogue) -> Sent {
 }
 
 /// With one item changed, so that lists differ in few places, or with one side rewritten by a law, which keeps its
-/// words.
+/// words; where c letters are drawn, in one of three with another c letter everywhere.
 pub fn alike(player: &mut Player, catalogue: &Catalogue) -> Sent {
     let mut known = any_known(player);
     let random = &mut player.random;
+    if random.has_c() && random.below(3) == 0 {
+        known.sides = with_new_c(random, &known.sides);
+        remember(player, &known);
+        return put(player, catalogue, &known);
+    }
     let side = &mut known.sides[random.below(2)];
     *side = match random.below(2) {
         0 => item_changed(random, side),
@@ -119,7 +125,7 @@ pub fn alike(player: &mut Player, catalogue: &Catalogue) -> Sent {
 pub fn large(player: &mut Player, catalogue: &Catalogue) -> Sent {
     let random = &mut player.random;
     let count = random.pick(&[MOST_LETTERS - 1, MOST_LETTERS, MOST_LETTERS]);
-    let pool = letters(random, count);
+    let pool = replaced_or_mixed(random, count);
     let sides = [(); 2].map(|()| product_of_sums(random, &pool));
     if sides[0] == sides[1] {
         return large(player, catalogue);

@@ -1,19 +1,37 @@
 //! Numbers drawn from a seed (splitmix64), the same on every machine.
 
-pub struct Random(u64);
+pub struct Random {
+    state: u64,
+    /// Whether c letters are among the letters drawn.
+    has_c: bool,
+}
 
 const STEP: u64 = 0x9e37_79b9_7f4a_7c15;
 
 impl Random {
     /// The numbers for one call of a list, whatever the other calls draw.
     pub fn new(seed: u64, index: u64) -> Random {
-        let mut first = Random(seed);
-        Random(first.next() ^ index.wrapping_mul(STEP))
+        let mut first = Random::from(seed);
+        Random::from(first.next() ^ index.wrapping_mul(STEP))
+    }
+
+    fn from(state: u64) -> Random {
+        let has_c = false;
+        Random { state, has_c }
+    }
+
+    /// The same numbers, for makers that draw c letters too.
+    pub fn with_c(self, has_c: bool) -> Random {
+        Random { has_c, ..self }
+    }
+
+    pub fn has_c(&self) -> bool {
+        self.has_c
     }
 
     fn next(&mut self) -> u64 {
-        self.0 = self.0.wrapping_add(STEP);
-        let mut mixed = self.0;
+        self.state = self.state.wrapping_add(STEP);
+        let mut mixed = self.state;
         mixed = (mixed ^ (mixed >> 30)).wrapping_mul(0xbf58_476d_1ce4_e5b9);
         mixed = (mixed ^ (mixed >> 27)).wrapping_mul(0x94d0_49bb_1331_11eb);
         mixed ^ (mixed >> 31)

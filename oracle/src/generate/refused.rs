@@ -3,7 +3,7 @@
 use super::draft::Draft;
 use super::random::Random;
 use super::searched;
-use super::terms::{holding, letters, term};
+use super::terms::{holding, letters, mixed, term};
 use crate::Call;
 use crate::plain::job::{BOUNDS, MOST_LETTERS};
 
@@ -14,6 +14,13 @@ const NO_TERMS: [&[u8]; 36] = [
     b"v0x", b"V0", b"x0", b"2", b"10", b"00", b"01", b"+*", b"+v0 v1", b"+ v0", b"*", b"+",
     b"+ v0 v1 v2", b"v0 v1", b" v0", b"v0 ", b"+ v0  v1", b"+  v0 v1", b"- v0 v1", b"v0\r",
     b"v0\t", b"\xff", b"v0\0", b"v 0", b"+ 0 2", b"* v999 v9990",
+];
+
+/// What is no c letter, nor any other term.
+#[rustfmt::skip]
+const NO_C: [&[u8]; 20] = [
+    b"c", b"c00", b"c01", b"c07", b"c099", b"c100", b"c999", b"c1000", b"c65536", b"c4294967296", b"c-1", b"c1c",
+    b"C1", b"cv1", b"vc1", b"c 1", b"c1 ", b"v1000", b"v1099", b"1000",
 ];
 
 /// Items that are none.
@@ -54,10 +61,10 @@ pub fn spoil_term(random: &mut Random, value: &mut Vec<u8>) {
     let at = random.below(items.len());
     match random.below(6) {
         0 | 1 => {
-            *value = random.pick(&NO_TERMS).to_vec();
+            *value = no_term(random);
             return;
         }
-        2 => items[at] = random.pick(&NO_ITEMS).to_vec(),
+        2 => items[at] = no_item(random),
         3 => {
             items.remove(at);
         }
@@ -65,6 +72,20 @@ pub fn spoil_term(random: &mut Random, value: &mut Vec<u8>) {
         _ => items.insert(at, Vec::new()),
     }
     *value = items.join(&b' ');
+}
+
+fn no_term(random: &mut Random) -> Vec<u8> {
+    no_c(random).unwrap_or_else(|| random.pick(&NO_TERMS).to_vec())
+}
+
+fn no_item(random: &mut Random) -> Vec<u8> {
+    no_c(random).unwrap_or_else(|| random.pick(&NO_ITEMS).to_vec())
+}
+
+/// Where c letters are drawn, mostly what is none.
+fn no_c(random: &mut Random) -> Option<Vec<u8>> {
+    let is_meant = random.has_c() && random.percent(70);
+    is_meant.then(|| random.pick(&NO_C).to_vec())
 }
 
 /// Sides of 29 nodes and more, and runs of 30 to 34 items that are no term.
@@ -79,17 +100,21 @@ pub fn nodes(random: &mut Random) -> Call {
         draft.0[side] = match random.below(3) {
             0 => [&value[..], b" v0"].concat(),
             1 => [b"+ ", &value[..]].concat(),
-            _ => random.pick(&NO_TERMS).to_vec(),
+            _ => no_term(random),
         };
     }
     draft.any(random)
 }
 
-/// Five to eight letters, split over both sides.
+/// The most letters that a side of 31 nodes holds.
+pub const MOST_HELD: usize = 16;
+
+/// Five to eight v letters, split over both sides, and c letters as many as they hold.
 pub fn many_letters(random: &mut Random) -> Call {
     let count = random.between(MOST_LETTERS - 1, MOST_LETTERS + 2);
-    let pool = letters(random, count);
-    let cut = random.below(count + 1);
+    let pool = mixed(random, count, 2 * MOST_HELD);
+    let least = pool.len().saturating_sub(MOST_HELD);
+    let cut = random.between(least, pool.len().min(MOST_HELD));
     let overlap = random.below(cut + 1).min(random.below(3));
     let left = holding(random, &pool[..cut]);
     let right = holding(random, &pool[cut - overlap..]);
@@ -152,7 +177,7 @@ pub fn add_reason(random: &mut Random, draft: &mut Draft) {
             draft.0[side] = term(random, 33, &pool).show().into_bytes();
         }
         3 => {
-            let pool = letters(random, 7);
+            let pool = mixed(random, 7, MOST_HELD);
             draft.0[side] = holding(random, &pool).show().into_bytes();
         }
         4 => *draft.limit(random.below(4)) = random.pick(&TOO_LARGE).into(),

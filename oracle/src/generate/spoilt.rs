@@ -8,7 +8,7 @@ use super::refused::{add_reason, bound, spoil_side};
 use super::terms::{holding, letters, shown, term, term_up_to};
 use crate::Call;
 use crate::plain::job::{MOST_BYTES, MOST_FIND_BYTES, MOST_LETTERS, MOST_RIGHTS};
-use crate::plain::term::Term;
+use crate::plain::term::{Term, v_letters};
 
 /// About sixteen right lines, or many more, one of them perhaps no term.
 pub fn right_count(random: &mut Random) -> Call {
@@ -75,14 +75,14 @@ fn left_of(draft: &Draft) -> Term {
     Term::read(&draft.0[0]).expect("a term")
 }
 
-/// A term that makes so many letters together with left's, if left has no more.
+/// A term that makes so many v letters together with left's, if left has no more.
 fn beside(random: &mut Random, left: &Term, total: usize) -> Term {
     let mut both: Vec<u16> = left.letters().collect();
     both.sort_unstable();
     both.dedup();
     let held = random.below(both.len() + 1);
     let mut own = both[..held].to_vec();
-    while both.len() < total {
+    while v_letters(both.iter().copied()).len() < total {
         let letter = letters(random, 1)[0];
         if !both.contains(&letter) {
             both.push(letter);

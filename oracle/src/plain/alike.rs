@@ -1,7 +1,7 @@
-//! Whether one pair of terms, or of word lists, is another one with its letters renamed one to one. No least form is
+//! Whether one pair of terms, or of word lists, is another one with its v letters renamed one to one. No least form is
 //! made: terms are walked side by side, and of word lists every renaming is tried.
 
-use super::term::{Term, is_letter};
+use super::term::{Term, is_v};
 use super::words::Word;
 
 /// How a renaming makes the other pair: of the pair as it is, with its two parts exchanged, or both.
@@ -26,20 +26,20 @@ pub fn terms(one: &[Term; 2], other: &[Term; 2]) -> Alike {
     }
 }
 
-/// Walks both pairs side by side: where one has a letter the other has its partner, else both have the same item.
+/// Walks both pairs side by side: where one has a v letter the other has its partner, else both have the same item.
 fn is_renamed(one: &[Term; 2], other: [&Term; 2]) -> bool {
     let mut partners = Partners::default();
     one.iter().zip(other).all(|(one, other)| {
         let mut items = one.run().iter().zip(other.run());
         one.size() == other.size()
-            && items.all(|(&one, &other)| match is_letter(one) && is_letter(other) {
+            && items.all(|(&one, &other)| match is_v(one) && is_v(other) {
                 true => partners.met(one, other),
                 false => one == other,
             })
     })
 }
 
-/// Letters that were met in the same place, none of them in two pairs.
+/// V letters that were met in the same place, none of them in two pairs.
 #[derive(Default)]
 struct Partners(Vec<(u16, u16)>);
 
@@ -74,11 +74,11 @@ pub fn lists(one: &[Vec<Word>; 2], other: &[Vec<Word>; 2]) -> Alike {
     found
 }
 
-/// The different letters of both lists.
+/// The different v letters of both lists.
 fn letters(lists: &[Vec<Word>; 2]) -> Vec<u16> {
     let mut found = Vec::new();
     for &letter in lists.iter().flatten().flatten() {
-        if !found.contains(&letter) {
+        if is_v(letter) && !found.contains(&letter) {
             found.push(letter);
         }
     }
@@ -96,11 +96,11 @@ fn orders(letters: &[u16]) -> Vec<Vec<u16>> {
     })
 }
 
-/// The list with each old letter's image in its place, sorted anew.
+/// The list with each old letter's image in its place, all others kept, sorted anew.
 fn renamed(list: &[Word], old: &[u16], images: &[u16]) -> Vec<Word> {
-    let image = |letter: &u16| {
-        let at = old.iter().position(|known| known == letter);
-        images[at.expect("one of the letters")]
+    let image = |letter: &u16| match old.iter().position(|known| known == letter) {
+        Some(at) => images[at],
+        None => *letter,
     };
     let mut new: Vec<Word> = list
         .iter()

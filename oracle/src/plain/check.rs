@@ -3,7 +3,7 @@
 use super::job::{MOST_LETTERS, MOST_NODES, line};
 use super::law::{LAWS, fits};
 use super::line::direction;
-use super::term::{Term, arity, end, part};
+use super::term::{Term, arity, end, part, v_letters};
 
 pub const MOST_CHECK_BYTES: usize = 8192;
 
@@ -100,10 +100,8 @@ impl Derivation {
         if derivation.terms().any(|term| term.size() > MOST_NODES) {
             return Err(3);
         }
-        let mut letters: Vec<u16> = derivation.terms().flat_map(Term::letters).collect();
-        letters.sort_unstable();
-        letters.dedup();
-        if letters.len() > MOST_LETTERS {
+        let letters = derivation.terms().flat_map(Term::letters);
+        if v_letters(letters).len() > MOST_LETTERS {
             return Err(4);
         }
         Ok(derivation)

@@ -1,6 +1,6 @@
 //! The lines of a job, and the refusals that come before a search.
 
-use super::term::{Term, letters_of};
+use super::term::{Term, v_letters_of};
 use crate::Entry;
 
 /// The bytes of a job of WORDS or RENAME, and of one of FIND.
@@ -9,6 +9,7 @@ pub const MOST_FIND_BYTES: usize = 4096;
 /// The right sides of a job of FIND; the others have one.
 pub const MOST_RIGHTS: usize = 16;
 pub const MOST_NODES: usize = 31;
+/// The v letters of an equation, or of a derivation.
 pub const MOST_LETTERS: usize = 6;
 pub const KEYS: [&str; 6] = ["left=", "right=", "steps=", "size=", "depth=", "nodes="];
 pub const BOUNDS: [u32; 4] = [16, 31, 15, 4096];
@@ -77,7 +78,7 @@ impl Job {
 /// The first of refusals 3 to 6 and 10 that applies.
 fn refusal(left: &Term, rights: &[Term], limits: &[u32; 4]) -> Option<u8> {
     let is_large = |side: &Term| side.size() > MOST_NODES;
-    let has_many_letters = |right| letters_of(left, right).len() > MOST_LETTERS;
+    let has_many_letters = |right| v_letters_of(left, right).len() > MOST_LETTERS;
     if is_large(left) || rights.iter().any(is_large) {
         Some(3)
     } else if rights.iter().any(has_many_letters) {

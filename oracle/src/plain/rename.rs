@@ -1,7 +1,7 @@
-//! The least equation over all renamings, and the answer of RENAME.
+//! The least equation over all renamings of its v letters, and the answer of RENAME.
 
 use super::job::Equation;
-use super::term::{Term, is_letter, letters_of};
+use super::term::{Term, is_v, v_letters, v_letters_of};
 use super::words::{Word, oriented, show_words, word_lists};
 
 /// The answer of RENAME.
@@ -26,7 +26,7 @@ pub fn word_lines(lists: Option<&(Vec<Word>, Vec<Word>)>) -> String {
 
 /// Both sides renamed.
 pub fn least_sides(equation: &Equation) -> (Term, Term) {
-    let letters = letters_of(&equation.left, &equation.right);
+    let letters = v_letters_of(&equation.left, &equation.right);
     least(letters, |renaming| {
         (
             renamed_term(&equation.left, renaming),
@@ -41,9 +41,7 @@ pub fn least_lists(equation: &Equation) -> Option<(Vec<Word>, Vec<Word>)> {
     if left == right {
         return None;
     }
-    let mut letters: Vec<u16> = left.iter().chain(&right).flatten().copied().collect();
-    letters.sort_unstable();
-    letters.dedup();
+    let letters = v_letters(left.iter().chain(&right).flatten().copied());
     Some(least(letters, |renaming| {
         (
             renamed_list(&left, renaming),
@@ -52,7 +50,7 @@ pub fn least_lists(equation: &Equation) -> Option<(Vec<Word>, Vec<Word>)> {
     }))
 }
 
-/// The letter that takes the number 0, the one that takes 1, and so on.
+/// The v letter that takes the number 0, the one that takes 1, and so on.
 type Renaming = [u16];
 
 /// The least oriented pair over all renamings of these letters.
@@ -81,16 +79,17 @@ fn advance(order: &mut [u16]) -> bool {
     true
 }
 
-fn renamed(letter: u16, renaming: &Renaming) -> u16 {
-    let number = renaming.iter().position(|&old| old == letter);
-    number.expect("a renaming has every letter") as u16
+/// The number that a v letter takes; every other item is kept.
+fn renamed(code: u16, renaming: &Renaming) -> u16 {
+    if !is_v(code) {
+        return code;
+    }
+    let number = renaming.iter().position(|&old| old == code);
+    number.expect("a renaming has every v letter") as u16
 }
 
 fn renamed_term(term: &Term, renaming: &Renaming) -> Term {
-    let run = term.run().iter().map(|&code| match is_letter(code) {
-        true => renamed(code, renaming),
-        false => code,
-    });
+    let run = term.run().iter().map(|&code| renamed(code, renaming));
     Term::of(run.collect())
 }
 

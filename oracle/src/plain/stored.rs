@@ -36,7 +36,7 @@ pub fn lists(held: &Held) -> [Vec<u32>; 2] {
     }
 }
 
-/// A letter is its own number.
+/// A v letter is its own number, a c letter 1,000 more.
 fn run(term: &Term) -> Vec<u32> {
     let number = |&code: &u16| match code {
         ZERO => 4_096,

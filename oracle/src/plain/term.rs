@@ -2,13 +2,16 @@
 
 use super::job::number;
 
-/// Letters are their own numbers; these stand above all letters.
+/// A v letter is its own number; these stand above all letters.
 pub const ZERO: u16 = 0xfff0;
 pub const ONE: u16 = 0xfff1;
 pub const SUM: u16 = 0xfff2;
 pub const PRODUCT: u16 = 0xfff3;
 
-pub const LAST_LETTER: u32 = 999;
+/// The c letters come after all v letters.
+pub const FIRST_C: u16 = 1_000;
+pub const V_LETTERS: u32 = 1_000;
+pub const C_LETTERS: u32 = 100;
 
 #[derive(Clone, Debug, Eq, Hash, Ord, PartialEq, PartialOrd)]
 pub struct Term(Box<[u16]>);
@@ -66,6 +69,15 @@ pub fn is_letter(code: u16) -> bool {
     code < ZERO
 }
 
+/// Whether it is a letter that renamings move, and that refusal 4 counts.
+pub fn is_v(code: u16) -> bool {
+    code < FIRST_C
+}
+
+pub fn is_c(code: u16) -> bool {
+    is_letter(code) && !is_v(code)
+}
+
 /// How many parts a node has.
 pub fn arity(code: u16) -> usize {
     if code == SUM || code == PRODUCT { 2 } else { 0 }
@@ -89,7 +101,21 @@ pub fn part(run: &[u16], start: usize) -> &[u16] {
 
 /// The different letters of both terms, rising.
 pub fn letters_of(left: &Term, right: &Term) -> Vec<u16> {
-    let mut letters: Vec<u16> = left.letters().chain(right.letters()).collect();
+    different(left.letters().chain(right.letters()))
+}
+
+/// Their different v letters, rising.
+pub fn v_letters_of(left: &Term, right: &Term) -> Vec<u16> {
+    v_letters(left.letters().chain(right.letters()))
+}
+
+/// The different v letters among these, rising.
+pub fn v_letters(letters: impl Iterator<Item = u16>) -> Vec<u16> {
+    different(letters.filter(|&letter| is_v(letter)))
+}
+
+fn different(letters: impl Iterator<Item = u16>) -> Vec<u16> {
+    let mut letters: Vec<u16> = letters.collect();
     letters.sort_unstable();
     letters.dedup();
     letters
@@ -101,11 +127,16 @@ fn read_item(item: &[u8]) -> Option<u16> {
         b"*" => Some(PRODUCT),
         b"0" => Some(ZERO),
         b"1" => Some(ONE),
-        [b'v', digits @ ..] => number(digits)
-            .filter(|&letter| letter <= LAST_LETTER)
-            .map(|letter| letter as u16),
+        [b'v', digits @ ..] => below(V_LETTERS, digits),
+        [b'c', digits @ ..] => below(C_LETTERS, digits).map(|number| FIRST_C + number),
         _ => None,
     }
+}
+
+/// The number, if it is one of so many.
+fn below(count: u32, digits: &[u8]) -> Option<u16> {
+    let number = number(digits).filter(|&number| number < count)?;
+    Some(number as u16)
 }
 
 fn show_item(code: u16) -> String {
@@ -114,6 +145,13 @@ fn show_item(code: u16) -> String {
         PRODUCT => "*".to_owned(),
         ZERO => "0".to_owned(),
         ONE => "1".to_owned(),
-        letter => format!("v{letter}"),
+        letter => show_letter(letter),
+    }
+}
+
+pub fn show_letter(letter: u16) -> String {
+    match is_v(letter) {
+        true => format!("v{letter}"),
+        false => format!("c{}", letter - FIRST_C),
     }
 }

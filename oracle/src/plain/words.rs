@@ -1,7 +1,7 @@
 //! The words of a term, and the answer of WORDS.
 
 use super::job::Equation;
-use super::term::{ONE, PRODUCT, SUM, Term, ZERO, part};
+use super::term::{ONE, PRODUCT, SUM, Term, ZERO, part, show_letter};
 
 pub type Word = Vec<u16>;
 
@@ -58,7 +58,7 @@ fn show_word(word: &[u16]) -> String {
     if word.is_empty() {
         return "1".to_owned();
     }
-    let letters: Vec<String> = word.iter().map(|letter| format!("v{letter}")).collect();
+    let letters: Vec<String> = word.iter().map(|&letter| show_letter(letter)).collect();
     letters.join(" ")
 }
 

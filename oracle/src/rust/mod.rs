@@ -2,6 +2,7 @@
 //! derivations, and the kinds of a catalogue's entries.
 
 pub mod chain;
+mod kept;
 mod readback;
 
 use upstream::{
@@ -15,6 +16,9 @@ use crate::plain::{
     term::{ONE, PRODUCT, SUM, ZERO, part},
 };
 use crate::{Entry, Given};
+
+/// The Rust's variable for c0.
+const FIRST_C: u32 = 1_000;
 
 /// The Rust's answer in document 01's text, to each equation by itself. It has no slots, no room and no `cut`;
 /// the refusals are not its own.
@@ -39,10 +43,17 @@ pub fn block(entry: Entry, equation: &Equation, limits: &Limits) -> String {
 /// The lines of RENAME that make the kind of a catalogue's entry.
 pub fn kind_lines(key: Key, equation: &Equation) -> String {
     let equation = candidate(equation);
+    let is_kept = kept::has_c(&equation);
     match key {
-        Key::Raw => term_lines(&equation),
-        Key::Words => word_lines(&equation),
+        Key::Raw => term_lines(&equation, is_kept),
+        Key::Words => word_lines(&equation, is_kept),
     }
+}
+
+/// The answer of RENAME by renamings put into the Rust's terms, also where there is no c letter.
+pub fn kept_text(equation: &Equation) -> String {
+    let equation = candidate(equation);
+    term_lines(&equation, true) + &word_lines(&equation, true)
 }
 
 fn candidate(equation: &Equation) -> EquationCandidate {
@@ -98,21 +109,28 @@ fn words_text(equation: &EquationCandidate) -> String {
 }
 
 fn rename_text(equation: &EquationCandidate) -> String {
-    term_lines(equation) + &word_lines(equation)
+    let is_kept = kept::has_c(equation);
+    term_lines(equation, is_kept) + &word_lines(equation, is_kept)
 }
 
-/// The first two lines of RENAME.
-fn term_lines(equation: &EquationCandidate) -> String {
-    let least = equation.canonicalize_variables();
+/// The first two lines of RENAME, by the Rust's own renaming or with c letters kept.
+fn term_lines(equation: &EquationCandidate, is_kept: bool) -> String {
+    let least = match is_kept {
+        true => kept::least_sides(equation),
+        false => equation.canonicalize_variables(),
+    };
     let (left, right) = (show(least.lhs()), show(least.rhs()));
     format!("left={left}\nright={right}\n")
 }
 
 /// The last two.
-fn word_lines(equation: &EquationCandidate) -> String {
+fn word_lines(equation: &EquationCandidate, is_kept: bool) -> String {
     let (left, right) = match equation.semiring_normalize() {
         Some(lists) => {
-            let least = lists.canonicalize_variables();
+            let least = match is_kept {
+                true => kept::least_lists(equation),
+                false => lists.canonicalize_variables(),
+            };
             (show_words(least.lhs()), show_words(least.rhs()))
         }
         None => ("-".to_owned(), "-".to_owned()),
@@ -141,11 +159,19 @@ fn tree(run: &[u16]) -> Term {
 
 fn show(term: &Term) -> String {
     match term {
-        Term::Var(letter) => format!("v{letter}"),
+        Term::Var(letter) => show_letter(*letter),
         Term::Zero => "0".to_owned(),
         Term::One => "1".to_owned(),
         Term::Add(left, right) => format!("+ {} {}", show(left), show(right)),
         Term::Mul(left, right) => format!("* {} {}", show(left), show(right)),
+    }
+}
+
+/// cn is the Rust's variable 1000 + n.
+fn show_letter(letter: u32) -> String {
+    match letter.checked_sub(FIRST_C) {
+        Some(number) => format!("c{number}"),
+        None => format!("v{letter}"),
     }
 }
 
@@ -158,7 +184,7 @@ fn show_words(list: &SemiringNormalForm) -> String {
 }
 
 fn show_word(word: &Monomial) -> String {
-    let letters: Vec<String> = word.factors().iter().map(|l| format!("v{l}")).collect();
+    let letters: Vec<String> = word.factors().iter().map(|&l| show_letter(l)).collect();
     match letters.len() {
         0 => "1".to_owned(),
         _ => letters.join(" "),

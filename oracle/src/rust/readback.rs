@@ -4,7 +4,7 @@ use std::collections::BTreeSet;
 
 use upstream::{EquationCandidate, Term};
 
-use super::show;
+use super::{show, show_letter};
 
 /// A proof text as a tree: a reference applied to arguments, under lambdas, the outermost first.
 struct Proof<'a> {
@@ -59,7 +59,7 @@ impl Proof<'_> {
 }
 
 /// The equation's letters, rising.
-fn letters(equation: &EquationCandidate) -> Vec<u32> {
+pub fn letters(equation: &EquationCandidate) -> Vec<u32> {
     fn collect(term: &Term, letters: &mut BTreeSet<u32>) {
         match term {
             Term::Var(letter) => {
@@ -92,7 +92,7 @@ fn show_term(term: &Proof, letters: &[u32]) -> String {
             let Some(Ok(index)) = index else {
                 panic!("no term begins with {name}")
             };
-            format!("v{}", letters[index])
+            show_letter(letters[index])
         }
     }
 }

@@ -39,6 +39,15 @@ fn a_word_entry_holds_its_words_spelled() {
     assert_eq!(lists(&held), [vec![0, 0], vec![1, 0, 2, 1, 0]]);
 }
 
+/// cn is 1000 + n in a run, and one more in a word.
+#[test]
+fn c_letters_have_numbers_of_their_own() {
+    let raw = stored("raw", ["* c0 v5", "c99"]);
+    assert_eq!(lists(&raw), [vec![1_099], vec![4_099, 1_000, 0]]);
+    let words = stored("words", ["* c0 v5", "c99"]);
+    assert_eq!(lists(&words), [vec![1_001, 1, 0], vec![1_100, 0]]);
+}
+
 #[test]
 fn agreed_words_and_no_words_are_told_apart() {
     let agreed = stored("words", ["v0", "+ v0 0"]);

@@ -91,6 +91,35 @@ const RENAMED_LISTS: [Case; 10] = [
     (["0", "* 0 0"], ["* v1 0", "0"], BOTH),
 ];
 
+/// A c letter is its own partner, and no v letter's.
+#[rustfmt::skip]
+const C_TERMS: [Case; 10] = [
+    (["* c1 v0", "v0"], ["* c1 v7", "v7"], AS_IS),
+    (["* c1 v0", "v0"], ["v7", "* c1 v7"], EXCHANGED),
+    (["* c1 v0", "v0"], ["* c2 v0", "v0"], NOT),
+    (["* c1 v0", "v0"], ["* v1 v0", "v0"], NOT),
+    (["* c1 v0", "v0"], ["* v0 c1", "c1"], NOT),
+    (["c0", "c1"], ["c0", "c1"], AS_IS),
+    (["c0", "c1"], ["c1", "c0"], EXCHANGED),
+    (["c0", "c1"], ["c0", "c2"], NOT),
+    (["+ v0 c0", "+ c0 v1"], ["+ v1 c0", "+ c0 v0"], AS_IS),
+    (["+ v0 c0", "+ v1 c0"], ["+ v3 c0", "+ v9 c0"], BOTH),
+];
+
+#[rustfmt::skip]
+const C_LISTS: [Case; 9] = [
+    (["+ c0 * v1 c0", "v1"], ["+ * v4 c0 c0", "v4"], AS_IS),
+    (["+ c0 v1", "v1"], ["v2", "+ v2 c0"], EXCHANGED),
+    (["+ c0 v1", "v1"], ["+ c1 v1", "v1"], NOT),
+    (["+ c0 v1", "v1"], ["+ v0 v1", "v1"], NOT),
+    (["+ v0 v1", "v1"], ["+ c0 v1", "v1"], NOT),
+    (["+ c0 v1", "v1"], ["+ c0 v1", "c0"], NOT),
+    (["c0", "c1"], ["c1", "c0"], EXCHANGED),
+    // a c letter that is lost, and words that agree
+    (["+ v0 * 0 c1", "1"], ["v9", "+ 1 * c2 0"], AS_IS),
+    (["c0", "+ c0 0"], ["c0", "* 1 c0"], BOTH),
+];
+
 #[rustfmt::skip]
 const OTHER_LISTS: [Case; 7] = [
     (["+ v0 v0", "1"], ["v0", "1"], NOT),
@@ -123,4 +152,10 @@ fn lists_are_alike_by_a_renaming() {
 #[test]
 fn near_misses_of_lists() {
     hold_lists(&OTHER_LISTS);
+}
+
+#[test]
+fn c_letters_stay() {
+    hold_terms(&C_TERMS);
+    hold_lists(&C_LISTS);
 }

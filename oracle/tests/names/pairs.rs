@@ -24,9 +24,19 @@ fn related(names: &Names) -> Vec<(&'static str, Related)> {
 
 #[test]
 fn kinds_make_what_they_say() {
+    hold_kinds(false);
+}
+
+#[test]
+fn kinds_with_c_letters_make_what_they_say() {
+    hold_kinds(true);
+}
+
+fn hold_kinds(has_c: bool) {
     let all = related(&Names {
         seed: 31,
         count: 2_500,
+        has_c,
         ..Names::default()
     });
     let mut kinds = BTreeSet::new();
@@ -40,13 +50,16 @@ fn kinds_make_what_they_say() {
         assert!(match *name {
             "renamed" => sides.as_is,
             "exchanged" | "turned" => sides.exchanged,
-            "merged" => !sides.either(),
+            "merged" | "other-table" | "freed" => !sides.either(),
             "rewritten" | "led-on" => agree[0] == agree[1] && lists.either(),
             "agreed" => *agree == [true; 2],
             _ => true,
         });
     }
-    assert_eq!(kinds.len(), PAIR_KINDS.len());
+    let drawn = PAIR_KINDS
+        .iter()
+        .filter(|kind| kind.shares[usize::from(has_c)] > 0);
+    assert_eq!(kinds.len(), drawn.count());
     let has = |name: &str, is_meant: fn(&Related) -> bool| {
         let mut of_kind = all.iter().filter(|(other, _)| *other == name);
         assert!(of_kind.any(|(_, related)| is_meant(related)), "{name}");
@@ -67,8 +80,10 @@ fn kinds_make_what_they_say() {
 
 #[test]
 fn shares_make_a_thousand() {
-    let shares = PAIR_KINDS.iter().map(|kind| kind.share);
-    assert_eq!(shares.sum::<usize>(), 1_000);
+    for at in 0..2 {
+        let shares = PAIR_KINDS.iter().map(|kind| kind.shares[at]);
+        assert_eq!(shares.sum::<usize>(), 1_000);
+    }
 }
 
 #[test]

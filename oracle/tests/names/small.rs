@@ -1,50 +1,20 @@
 //! Every pair of equations between terms of at most three nodes over three letters, 0 and 1, by the Rust's lines.
 
-use std::collections::{BTreeMap, BTreeSet};
+use std::collections::BTreeMap;
 
 use oracle::plain::alike;
 use oracle::plain::catalogue::Key;
-use oracle::plain::job::Equation;
-use oracle::plain::term::{ONE, PRODUCT, SUM, Term, ZERO};
+use oracle::plain::term::{ONE, Term, ZERO};
 use oracle::plain::words::words;
 use oracle::rust;
 
+use crate::common::{equations, kinds};
+
 const ATOMS: [u16; 5] = [0, 1, 2, ZERO, ONE];
-
-fn equations() -> Vec<Equation> {
-    let larger = [SUM, PRODUCT].into_iter().flat_map(|node| {
-        let parts = ATOMS
-            .into_iter()
-            .flat_map(|left| ATOMS.map(|right| [left, right]));
-        parts.map(move |[left, right]| Term::of(vec![node, left, right]))
-    });
-    let atoms = ATOMS.map(|atom| Term::of(vec![atom]));
-    let terms: Vec<Term> = atoms.into_iter().chain(larger).collect();
-    let pairs = terms.iter().flat_map(|left| {
-        let others = terms.iter().filter(move |right| left != *right);
-        others.map(|right| Equation {
-            left: left.clone(),
-            right: right.clone(),
-        })
-    });
-    pairs.collect()
-}
-
-/// How many different lines there are. Two have the same exactly if the judge calls them alike.
-fn kinds<T>(named: &[(T, String)], is_alike: impl Fn(&T, &T) -> bool) -> usize {
-    for (at, (one, lines)) in named.iter().enumerate() {
-        for (other, other_lines) in &named[..at] {
-            let is_same = lines == other_lines;
-            assert_eq!(is_same, is_alike(one, other), "{lines}{other_lines}");
-        }
-    }
-    let lines: BTreeSet<&String> = named.iter().map(|(_, lines)| lines).collect();
-    lines.len()
-}
 
 #[test]
 fn terms() {
-    let equations = equations();
+    let equations = equations(&ATOMS);
     let named = equations.iter().map(|equation| {
         let sides = [&equation.left, &equation.right].map(Term::clone);
         (sides, rust::kind_lines(Key::Raw, equation))
@@ -58,7 +28,7 @@ fn terms() {
 #[test]
 fn lists() {
     let mut named = BTreeMap::new();
-    for equation in equations() {
+    for equation in equations(&ATOMS) {
         let lists = [&equation.left, &equation.right].map(words);
         let lines = rust::kind_lines(Key::Words, &equation);
         if lists[0] != lists[1] {

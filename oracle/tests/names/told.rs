@@ -3,14 +3,21 @@
 use oracle::Entry;
 use oracle::generate::Names;
 use oracle::names::hold;
-use oracle::plain::job::{Equation, Job};
+use oracle::plain::job::{Equation, Job, MOST_LETTERS};
 use oracle::plain::rename::{least_lists, least_sides, term_lines, word_lines};
+use oracle::plain::term::{Term, v_letters_of};
 use oracle::plain::words::{oriented, words};
 
 /// The complaints about a program that answers so, of 300 pairs.
 fn told(answer: impl Fn(&Equation) -> String) -> Vec<String> {
+    told_of(false, answer)
+}
+
+/// Likewise, of pairs with c letters or without.
+fn told_of(has_c: bool, answer: impl Fn(&Equation) -> String) -> Vec<String> {
     let names = Names {
         count: 300,
+        has_c,
         ..Names::default()
     };
     let complaint = |index| {
@@ -139,4 +146,24 @@ fn a_name_that_is_no_job() {
     is_found_out("the job is answered by four lines", |equation| {
         "left=v\nright=v\n".to_owned() + &lists(equation)
     });
+}
+
+/// C letters renamed as v letters are, where there are few: two tables are taken for each other.
+#[test]
+fn c_letters_renamed() {
+    let honest = |equation: &Equation| sides(equation) + &lists(equation);
+    let told = told_of(true, |equation| {
+        let [left, right] = [&equation.left, &equation.right].map(|side| {
+            let items = side.show().replace('c', "v1");
+            Term::read(items.as_bytes()).expect("a term")
+        });
+        match v_letters_of(&left, &right).len() > MOST_LETTERS {
+            true => honest(equation),
+            false => honest(&Equation { left, right }),
+        }
+    });
+    for sentence in [SAME_SIDES, SAME_LISTS] {
+        assert!(told.iter().any(|found| found.contains(sentence)));
+    }
+    assert_eq!(told_of(true, honest), Vec::<String>::new());
 }

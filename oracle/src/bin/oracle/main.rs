@@ -19,7 +19,7 @@ oracle answer ENTRY [--slots N] [--room N] [--number]
     Reads one job, or one derivation, on standard input and prints what the call gives, or the refusal.
     ENTRY is find, words, rename or check. 400 slots and 32768 bytes of room unless said.
     --number prints the number that the call returns instead.
-oracle cases [--one] [--many] [--check] [--catalogue] [--list]
+oracle cases [--one] [--many] [--check] [--fixed] [--catalogue] [--list]
     Runs the documents' cases; or writes them as `oracle list` does, of the catalogue those on its whole buffer.
 oracle generate OPTIONS
     Writes calls: a line `entry slots room job_length`, then the job's bytes.
@@ -28,23 +28,24 @@ oracle list OPTIONS
     `entry slots room job_length number answer_length`, then the job's and the answer's bytes.
 oracle check OPTIONS
     Makes the same calls, compares both implementations and prints counts.
-oracle catalogue [--seed S] [--first N] [--plays N] [--calls N] [--short] [--plain] [--list | --generate]
+oracle catalogue [--seed S] [--first N] [--plays N] [--calls N] [--short] [--fixed] [--plain] [--list | --generate]
     Makes plays (10), each of so many calls (500) on a catalogue that is empty at first, compares both
-    implementations and prints counts. --short makes short texts and no other buffers, --plain leaves the Rust out,
-    --first is the first play's index (0). --list and --generate write the calls on a whole buffer as `oracle list`
-    and `oracle generate` do.
-oracle names [--seed S] [--first N] [--count N] [--plain]
+    implementations and prints counts. --short makes short texts and no other buffers, --fixed draws c letters too,
+    --plain leaves the Rust out, --first is the first play's index (0). --list and --generate write the calls on a
+    whole buffer as `oracle list` and `oracle generate` do.
+oracle names [--seed S] [--first N] [--count N] [--fixed] [--plain]
     Makes pairs of equations (1000), puts each to RENAME and then the lines printed for the first, compares both
-    implementations, holds the lines to what a shared name means and prints counts.
+    implementations, holds the lines to what a shared name means and prints counts. --fixed draws c letters too.
 
 OPTIONS: --seed S (default 1), --count N (default 1000), --kind K (default all, mixed),
-    --one, --many, --check (only kinds for one right side, for several, for CHECK; or for two of them),
+    --one, --many, --check, --fixed (only kinds for one right side, for several, for CHECK, with c letters; or all
+    that are named),
     --light (no heavy calls), --max-slots N, --max-room N (larger buffers are drawn as this), --max-job N (longer texts are cut).
 Entries in records: 1 find, 2 words, 3 rename, 4 check, 5 put, 6 withdraw. Number: 0, or the refusal's; of put
     and withdraw what is returned.
 
-Kinds, with their share in 2,000; of plays with their shares in 1,000 while the catalogue fills, in the mixed phase
-and while it is drained; of pairs for names with their share in 1,000:
+Kinds, with their share in 2,500; of plays with their shares in 1,000 while the catalogue fills, in the mixed phase
+and while it is drained; of pairs for names with their share in 1,000, without and with c letters:
 ";
 
 fn main() -> ExitCode {
@@ -84,6 +85,7 @@ fn help() -> String {
             About::One => "one",
             About::Many => "many",
             About::Check => "check",
+            About::Fixed => "fixed",
         };
         format!(
             "    {about:5} {:11} {:4}  {}\n",
@@ -98,9 +100,10 @@ fn help() -> String {
         )
     });
     let of_pairs = PAIR_KINDS.iter().map(|kind| {
+        let [without, with] = kind.shares;
         format!(
-            "    pair  {:11} {:3}  {}\n",
-            kind.name, kind.share, kind.what
+            "    pair  {:11} {without:3} {with:3}  {}\n",
+            kind.name, kind.what
         )
     });
     HELP.to_owned() + &kinds.chain(of_plays).chain(of_pairs).collect::<String>()
@@ -155,10 +158,13 @@ fn cases_command(words: &[&str]) -> Result<bool, Failure> {
         true => cases(&about_these),
         false => Vec::new(),
     };
-    let plays = match is_all || is_catalogue {
-        true => catalogue::plays(),
-        false => Vec::new(),
-    };
+    let mut plays = Vec::new();
+    if is_all || is_catalogue {
+        plays.extend(catalogue::plays());
+    }
+    if is_all || about_these.contains(&About::Fixed) {
+        plays.extend(catalogue::fixed_plays());
+    }
     if is_list {
         list_cases(&all, &plays)
     } else {

@@ -1,0 +1,8 @@
+//! Points of the seventh wish of document 02, letters for fixed tables, that are left to be read.
+
+#[path = "../common/mod.rs"]
+mod common;
+mod generated;
+mod kept;
+mod read;
+mod small;
