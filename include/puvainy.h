@@ -18,7 +18,10 @@
  *     depth=NUMBER   at most 15
  *     nodes=NUMBER   at most 4096
  *
- * A TERM is written operator first, items parted by one space: +, *, 0, 1, or v and a number 0 to 999.
+ * A TERM is written operator first, items parted by one space: +, *, 0, 1, or a letter. A v letter is v and a
+ * number 0 to 999, a c letter c and a number 0 to 99, without a needless 0 in front. A v letter stands for any
+ * table, a c letter for one that is fixed: puvainy_rename, and with it the catalogue, renames v letters and
+ * keeps c letters, and refusal 4 counts v letters alone. In all else a c letter is a letter like any other.
  *
  * A job of puvainy_find may have up to 16 `right=` lines, one after the other between left and steps, and
  * at most 4,096 bytes in all. With one right side the smaller side is taken as left, whichever it is. With
@@ -57,7 +60,8 @@
  * The text of puvainy_withdraw is the one line number=NUMBER. NUMBER is written as the limits of a job are. Two
  * entries are of one kind if they have the same key, and puvainy_rename answers their jobs with the same lines:
  * the first two, `left` and `right`, under key=raw, the last two, `wleft` and `wright`, under key=words. So under
- * key=words all equations whose sides have the same words are one kind. The limits play no part, but 5 holds.
+ * key=words all equations whose sides have the same words are one kind. Entries for which these lines differ in a
+ * c letter are different kinds. The limits play no part, but 5 holds.
  *
  * An entry returns 100 plus the length of its answer, puvainy_put and puvainy_withdraw 100 plus the count of
  * kinds then held; or the number of a refusal. Of those that apply the one that stands first here is given:
@@ -69,10 +73,11 @@
  *         In puvainy_put and puvainy_withdraw also a number that is not 1 to 999, and a key that
  *         is neither raw nor words
  *     9   over 16 `right=` lines
- *     2   a side, or the result of a step line, is no term
+ *     2   a side, or the result of a step line, is no term; such is one with v1000, c100, c00 or c
  *     3   a side or such a result has over 31 nodes
- *     4   left and one right side have over six different letters together; in puvainy_check left,
- *         right and all results
+ *     4   left and one right side have over six different v letters together; in puvainy_check left,
+ *         right and all results. c letters are not counted: two sides may have up to 32 different
+ *         letters
  *     5   a limit is over its bound
  *     6   a right side is the same term as left
  *     10  there are several right sides, and one comes before left in the order of terms
@@ -93,8 +98,8 @@
  *     puvainy_put                    99, 1 to 6, 13, 15
  *     puvainy_withdraw               99, 1, 14
  *
- * The order of terms: letters by number, then 0, 1, sums, products; two sums or two products by their
- * left parts, then by their right parts.
+ * The order of terms: v letters by number, then c letters by number, then 0, 1, sums, products; two sums or
+ * two products by their left parts, then by their right parts.
  *
  * What is left in the buffers:
  *
@@ -131,9 +136,9 @@
  *     8        here the left list begins
  *     2,708    here the right list begins
  *
- * Under key=raw the lists are the terms of puvainy_rename's `left` and `right`, item by item: a letter is its
- * number, 0 is 4096, 1 is 4097, + is 4098 and * is 4099. Under key=words they are the words of `wleft` and
- * `wright`: each letter's number plus 1, and 0 behind each word; both are empty where the words agree.
+ * Under key=raw the lists are the terms of puvainy_rename's `left` and `right`, item by item: vN is N, cN is
+ * 1000 + N, 0 is 4096, 1 is 4097, + is 4098 and * is 4099. Under key=words they are the words of `wleft` and
+ * `wright`: vN is N + 1, cN is 1001 + N, and 0 stands behind each word; both are empty where the words agree.
  *
  * Stack: at most 120,000 bytes for puvainy_find, 100,000 for puvainy_words, 190,000 for puvainy_rename,
  * 40,000 for puvainy_check, 190,000 for puvainy_put and 20,000 for puvainy_withdraw on x86-64 (the macros
@@ -189,7 +194,8 @@ extern "C" {
  * is none within the limits; of several right sides this for each. A none ends with the line `cut=yes`
  * where nodes ran out with a term still to open: nothing is settled. More nodes lead on, with slots enough
  * for the terms that come up; with too few it is refused by 7. A none ends with `cut=no` where every term
- * that steps, size and depth allow was opened: more nodes change nothing. */
+ * that steps, size and depth allow was opened: more nodes change nothing. The proof text of a block names the
+ * letters of its two sides x0, x1 and so on: the v letters by number, then the c letters by number. */
 size_t puvainy_find(const uint8_t *job, size_t job_len,
                     uint8_t *output, size_t output_len,
                     uint32_t *workspace, size_t workspace_len);
@@ -198,11 +204,12 @@ size_t puvainy_find(const uint8_t *job, size_t job_len,
 size_t puvainy_words(const uint8_t *job, size_t job_len,
                      uint8_t *output, size_t output_len);
 
-/* The equation and its words under their least renamings. Jobs that are answered get the same first two
- * lines exactly when a one-to-one renaming of letters, with or without exchanging sides, turns one equation
- * into the other; these lines with limits are a job again, with the same answer. The last two are both `-`
- * exactly where a job's sides have the same words; where they have not, jobs get the same last two exactly
- * when such a renaming turns the word lists of the one into those of the other. */
+/* The equation and its words under their least renamings of v letters; every c letter is kept. Jobs that are
+ * answered get the same first two lines exactly when a one-to-one renaming of v letters to v letters turns one
+ * equation into the other, every c letter kept, with or without exchanging sides; these lines with limits are a
+ * job again, with the same answer. The last two are both `-` exactly where a job's sides have the same words;
+ * where they have not, jobs get the same last two exactly when such a renaming turns the word lists of the one
+ * into those of the other. */
 size_t puvainy_rename(const uint8_t *job, size_t job_len,
                       uint8_t *output, size_t output_len);
 

@@ -191,4 +191,26 @@ mod tests {
         assert_eq!(made("zero_mul", Forward, "0"), "any");
         assert_eq!(made("zero_mul", Forward, "1"), "nothing");
     }
+
+    /// A law has v letters for any parts; a c letter of a term is a part like any other, and equal to itself alone.
+    #[test]
+    fn a_c_letter_is_met_by_a_laws_letter_and_never_taken_for_one() {
+        let made = |law, direction, part| {
+            let part = Term::read(part).unwrap();
+            Law::named(law).unwrap().makes(direction, &part)
+        };
+        let one = |term| Made::One(Term::read(term).unwrap());
+        use Direction::{Back, Forward};
+        let left = "+ * c0 v1 * c0 c1";
+        assert_eq!(made("left_distrib", Forward, left), one("* c0 + v1 c1"));
+        let other = "+ * c0 v1 * c1 v1";
+        assert_eq!(made("left_distrib", Forward, other), Made::Nothing);
+        assert_eq!(made("right_distrib", Forward, other), one("* + c0 c1 v1"));
+        assert_eq!(made("zero_mul", Back, "* c0 v0"), Made::Nothing);
+        assert_eq!(made("mul_one_left", Forward, "c0"), one("* 1 c0"));
+        assert!(LAWS.iter().all(|law| {
+            let sides = [law.left, law.right].join(" ");
+            sides.split(' ').all(|item| !item.starts_with('c'))
+        }));
+    }
 }

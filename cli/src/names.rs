@@ -1,4 +1,4 @@
-//! What the letters stand for, by a file of lines `v0 Orders`. Names are shown to people and never stand in an answer.
+//! What the letters stand for, by a file of lines `v0 Orders` and `c0 Prices`. Names are shown to people and never stand in an answer.
 
 use std::collections::BTreeMap;
 use std::ffi::OsString;
@@ -43,7 +43,8 @@ impl Names {
         let (letter, name) = line.split_once([' ', '\t']).unwrap_or((line, ""));
         let name = name.split_whitespace().collect::<Vec<_>>().join(" ");
         if !is_letter(letter) {
-            return Err("a line begins with a letter, v0 to v999, as in `v0 Orders`".to_owned());
+            let letter = "a letter, v0 to v999 or c0 to c99, as in `v0 Orders`";
+            return Err(format!("a line begins with {letter}"));
         }
         if name.is_empty() {
             return Err(format!(
@@ -133,11 +134,14 @@ mod tests {
 
     #[test]
     fn names_stand_for_letters_in_a_spelled_term() {
-        let names = Names::read("v0 Orders\r\n\nv1\tNorth stock\n".as_bytes()).unwrap();
+        let names = Names::read("v0 Orders\r\n\nv1\tNorth stock\nc0 Prices\n".as_bytes()).unwrap();
         let term = Term::read("+ * v0 v1 * v0 + v2 0").unwrap();
         let spelled = "(Orders * North stock) + (Orders * (v2 + 0))";
         assert_eq!(names.spell(&term), spelled);
         assert_eq!(names.get("v2"), None);
+        let priced = Term::read("* + v0 v1 * c0 c1").unwrap();
+        let spelled = "(Orders + North stock) * (Prices * c1)";
+        assert_eq!(names.spell(&priced), spelled);
         let names = Names::read(b"v0 Orders (A + B)\n").unwrap();
         let spelled = "(\"Orders (A + B)\" * v1) + (\"Orders (A + B)\" * (v2 + 0))";
         assert_eq!(names.spell(&term), spelled);
@@ -146,7 +150,11 @@ mod tests {
     #[test]
     fn a_line_that_names_nothing_is_told() {
         let told = |bytes: &[u8]| Names::read(bytes).unwrap_err();
-        assert!(told(b"v0 Orders\nOrders v1\n").starts_with("line 2: a line begins with a letter"));
+        let letter =
+            "line 2: a line begins with a letter, v0 to v999 or c0 to c99, as in `v0 Orders`";
+        for line in ["Orders v1", "v1000 A", "c100 A", "c00 A", "c A", "C0 A"] {
+            assert_eq!(told(format!("v0 Orders\n{line}\n").as_bytes()), letter);
+        }
         assert!(told(b"v0 \n").starts_with("line 1: v0 has no name"));
         assert!(told(b"v0 A\nv0 B\n").starts_with("line 2: v0 is named A already"));
         assert!(told(b"v0 A\x1b[2J\n").starts_with("line 1: the name of v0 holds a character"));
@@ -156,7 +164,9 @@ mod tests {
         );
         assert!(told(b"v0 A  B\nv1 A B\n").starts_with("line 2: v0 is named A B too"));
         assert!(told(b"v0 A\nv1 A\n").starts_with("line 2: v0 is named A too"));
-        for item in ["0", "1", "v7", "+", "*"] {
+        assert!(told(b"v0 A\nc0 A\n").starts_with("line 2: v0 is named A too"));
+        assert!(told(b"c0 A\nc0 B\n").starts_with("line 2: c0 is named A already"));
+        for item in ["0", "1", "v7", "c7", "+", "*"] {
             let why = told(format!("v0 {item}\n").as_bytes());
             assert!(
                 why.starts_with(&format!("line 1: {item} is an item of terms")),

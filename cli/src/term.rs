@@ -3,8 +3,8 @@
 /// The most nodes of a side, and so of any term in a job or an answer.
 pub const MOST_NODES: usize = 31;
 
-/// The most different letters of two sides, or of all terms of a derivation.
-pub const MOST_LETTERS: usize = 6;
+/// The most different v letters of two sides, or of all terms of a derivation.
+pub const MOST_V_LETTERS: usize = 6;
 
 /// A term: a letter, `0` or `1`, or a sign over two parts.
 #[derive(Clone, Debug, Eq, PartialEq)]
@@ -96,23 +96,38 @@ pub fn is_atom(item: &str) -> bool {
     item == "0" || item == "1" || is_letter(item)
 }
 
-/// Whether the item is `v` and a number 0 to 999 without a needless 0 in front.
+/// Whether the item is a v letter or a c letter, which is `c` and a number 0 to 99.
 pub fn is_letter(item: &str) -> bool {
-    let Some(digits) = item.strip_prefix('v') else {
+    is_v_letter(item) || is_numbered(item, 'c', 2)
+}
+
+/// Whether the item is `v` and a number 0 to 999. Only such letters are counted by refusal 4 and renamed.
+pub fn is_v_letter(item: &str) -> bool {
+    is_numbered(item, 'v', 3)
+}
+
+/// Whether the item is the sign and a number of so many digits at most, without a needless 0 in front.
+fn is_numbered(item: &str, sign: char, most: usize) -> bool {
+    let Some(digits) = item.strip_prefix(sign) else {
         return false;
     };
     let plain = digits.bytes().all(|byte| byte.is_ascii_digit());
-    plain && matches!(digits.len(), 1..=3) && (digits == "0" || !digits.starts_with('0'))
+    let count = digits.len();
+    plain && (1..=most).contains(&count) && (digits == "0" || !digits.starts_with('0'))
 }
 
-/// The ranks of a term's items, by which terms are ordered: letters by number, then 0, 1, sums and products.
+/// The ranks of a term's items, by which terms are ordered: v letters by number, c letters likewise, then 0, 1, sums and products.
 pub fn ranks(term: &str) -> Vec<usize> {
+    let number = |digits: &str| digits.parse().unwrap_or(0);
     let rank = |item: &str| match item {
-        "0" => 1000,
-        "1" => 1001,
-        "+" => 1002,
-        "*" => 1003,
-        letter => letter.trim_start_matches('v').parse().unwrap_or(0),
+        "0" => 1100,
+        "1" => 1101,
+        "+" => 1102,
+        "*" => 1103,
+        letter => match letter.strip_prefix('c') {
+            Some(digits) => 1000 + number(digits),
+            None => number(letter.trim_start_matches('v')),
+        },
     };
     term.split(' ').map(rank).collect()
 }
@@ -128,10 +143,17 @@ mod tests {
             "v2",
             "v10",
             "v999",
+            "c0",
+            "c9",
+            "c10",
+            "c99",
             "0",
             "1",
             "+ v0 v1",
+            "+ v0 c0",
             "+ v0 * v0 v0",
+            "+ v999 c0",
+            "+ c0 v0",
             "+ 0 v0",
             "+ + v0 v0 v0",
             "* v0 v1",
@@ -142,13 +164,32 @@ mod tests {
 
     #[test]
     fn a_term_is_read_whole_or_not_at_all() {
-        let join = Term::Over("*", Box::new([Term::Atom("v0"), Term::Atom("1")]));
+        let join = Term::Over("*", Box::new([Term::Atom("v0"), Term::Atom("c99")]));
         let stack = Term::Over("+", Box::new([join, Term::Atom("v999")]));
-        assert_eq!(Term::read("+ * v0 1 v999"), Some(stack));
+        assert_eq!(Term::read("+ * v0 c99 v999"), Some(stack));
         for text in [
-            "", "+ v0", "v0 + 0", "v0 ", "+  v0 v1", "v1000", "v01", "v", "2", "\u{e9}",
+            "", "+ v0", "v0 + 0", "v0 ", "+  v0 v1", "v1000", "v01", "v", "2", "\u{e9}", "c100",
+            "c00", "c01", "c", "C0", "cv0", "vc0", "c0 c1", "+ c0",
         ] {
             assert_eq!(Term::read(text), None, "{text}");
+        }
+    }
+
+    #[test]
+    fn v_letters_and_c_letters_are_told_apart() {
+        for (item, letter, v_letter) in [
+            ("v0", true, true),
+            ("v999", true, true),
+            ("c0", true, false),
+            ("c99", true, false),
+            ("c100", false, false),
+            ("v1000", false, false),
+            ("c-1", false, false),
+            ("c+1", false, false),
+            ("0", false, false),
+            ("+", false, false),
+        ] {
+            assert_eq!((is_letter(item), is_v_letter(item)), (letter, v_letter));
         }
     }
 

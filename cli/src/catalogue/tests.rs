@@ -5,8 +5,8 @@ use puvainy::{Buffers, CATALOGUE, Entry, Room};
 
 use super::*;
 
-/// Equations of which some are of one kind, by both keys or by words alone.
-const SIDES: [&str; 8] = [
+/// Equations of which some are of one kind, by both keys or by words alone; some differ in a c letter alone.
+const SIDES: [&str; 14] = [
     "left=* v0 v1\nright=* v1 v0\n",
     "left=* v9 v3\nright=* v3 v9\n",
     "left=+ * v0 v1 0\nright=* v1 v0\n",
@@ -15,6 +15,12 @@ const SIDES: [&str; 8] = [
     "left=0\nright=+ v0 1\n",
     "left=0\nright=1\n",
     "left=* + v0 1 + v1 v2\nright=* + v1 v2 + v0 1\n",
+    "left=* v0 c0\nright=* c0 v0\n",
+    "left=* c0 v9\nright=* v9 c0\n",
+    "left=* v0 c1\nright=* c1 v0\n",
+    "left=* c0 c1\nright=* c1 c0\n",
+    "left=c99\nright=+ c99 0\n",
+    "left=0\nright=+ c99 1\n",
 ];
 const LIMITS: &str = "steps=3\nsize=9\ndepth=4\nnodes=10\n";
 
@@ -23,7 +29,14 @@ type Held = (u32, usize, [Vec<u32>; 2]);
 
 /// The numbers of a term's items, or of the words in a list.
 fn list(key: usize, line: &str) -> Vec<u32> {
-    let letter = |item: &str| item[1..].parse::<u32>().unwrap();
+    let letter = |item: &str| {
+        let number: u32 = item[1..].parse().unwrap();
+        if item.starts_with('c') {
+            1000 + number
+        } else {
+            number
+        }
+    };
     let item = |item: &str| match item {
         "0" => 4096,
         "1" => 4097,
@@ -108,7 +121,8 @@ fn lists_of_calls_give_what_a_plain_model_gives() {
             .wrapping_mul(6364136223846793005)
             .wrapping_add(1442695040888963407);
         let [number, key, sides, word] = [52, 40, 41, 44].map(|by| (draw >> by) as usize);
-        let (number, key, sides) = (1 + number as u32 % 90, key % 2, SIDES[sides % 8]);
+        let sides = SIDES[sides % SIDES.len()];
+        let (number, key) = (1 + number as u32 % 90, key % 2);
         let put = (word % 4 < 3).then_some((key, sides));
         let returned = match put {
             Some(_) => {
@@ -126,6 +140,29 @@ fn lists_of_calls_give_what_a_plain_model_gives() {
     }
     check_numbers(&numbers, &entries);
     assert!(counts.into_iter().all(|count| count > 100), "{counts:?}");
+}
+
+/// Those that differ in a c letter are two kinds by either key, those that differ in v letters one.
+#[test]
+fn entries_that_differ_in_a_c_letter_are_different_kinds() {
+    for key in ["raw", "words"] {
+        let mut numbers = vec![0; CATALOGUE];
+        let mut put = |number: usize, sides: &str| {
+            let text = format!("number={number}\nkey={key}\n{sides}{LIMITS}");
+            Change::Put.call(text.as_bytes(), &mut numbers)
+        };
+        assert_eq!(put(1, "left=* v0 c0\nright=v0\n"), 101);
+        assert_eq!(put(2, "left=v7\nright=* v7 c0\n"), 101);
+        assert_eq!(put(3, "left=* v0 c1\nright=v0\n"), 102);
+        assert_eq!(put(4, "left=* v0 v1\nright=v0\n"), 103);
+        let begin = match key {
+            "raw" => [vec![0], vec![4099, 0, 1000]],
+            _ => [vec![1, 0], vec![1, 1001, 0]],
+        };
+        for (list, from) in begin.iter().zip([8, 2708]) {
+            assert_eq!(numbers[from..from + list.len()], list[..]);
+        }
+    }
 }
 
 #[test]

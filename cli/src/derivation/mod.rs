@@ -10,7 +10,7 @@ use puvainy::Entry;
 use crate::law::Made;
 use crate::refusals::{Fault, Found};
 use crate::side;
-use crate::term::{MOST_LETTERS, Term, is_letter};
+use crate::term::{MOST_V_LETTERS, Term, is_v_letter};
 use crate::whole::{self, in_whole};
 use step::Step;
 
@@ -127,15 +127,16 @@ impl<'a> Derivation<'a> {
         })
     }
 
-    /// The line in which the first letter too many stands.
+    /// The line in which the first v letter too many stands.
     fn in_letters(&self) -> Option<Found> {
         let mut letters = BTreeSet::new();
         for line in 0..self.lines.len() {
             let term = str::from_utf8(self.term(line)?).ok()?;
-            for item in term.split(' ').filter(|item| is_letter(item)) {
+            for item in term.split(' ').filter(|item| is_v_letter(item)) {
                 letters.insert(item);
-                if letters.len() > MOST_LETTERS {
-                    let told = format!("{}, where {item} is letter {}", place(line), letters.len());
+                if letters.len() > MOST_V_LETTERS {
+                    let count = letters.len();
+                    let told = format!("{}, where {item} is v letter {count}", place(line));
                     return Some(Found::new(Fault::Letters, told, vec![line]));
                 }
             }

@@ -7,7 +7,7 @@ use puvainy::{Entry, MOST_RIGHTS};
 use crate::failure::counted;
 use crate::refusals::{Fault, Found};
 use crate::side;
-use crate::term::{MOST_LETTERS, is_letter, ranks};
+use crate::term::{MOST_V_LETTERS, is_v_letter, ranks};
 use crate::whole::{self, in_ends, in_whole, is_number};
 
 /// The lines behind the sides, in order: the limits with their bounds.
@@ -192,13 +192,14 @@ impl<'a> Job<'a> {
         Some(Found { fault, ..found })
     }
 
-    /// The right sides that have too many letters together with left.
+    /// The right sides that have too many v letters together with left.
     fn in_letters(&self) -> Option<Found> {
         let fault = self.one_or_several(Fault::Letters, Fault::LettersRight);
-        let mut found = self.in_rights(fault, |left, right| letters(left, right) > MOST_LETTERS)?;
+        let is_over = |left: &str, right: &str| v_letters(left, right) > MOST_V_LETTERS;
+        let mut found = self.in_rights(fault, is_over)?;
         let counts = found.sides.iter();
-        let counts = counts.filter_map(|&line| Some(letters(self.text(0)?, self.text(line)?)));
-        found.place += &format!(", {} letters", counted(counts));
+        let counts = counts.filter_map(|&line| Some(v_letters(self.text(0)?, self.text(line)?)));
+        found.place += &format!(", {} v letters", counted(counts));
         Some(found)
     }
 
@@ -260,10 +261,10 @@ impl<'a> Job<'a> {
     }
 }
 
-/// How many different letters both sides have together.
-fn letters(left: &str, right: &str) -> usize {
+/// How many different v letters both sides have together.
+fn v_letters(left: &str, right: &str) -> usize {
     let items = left.split(' ').chain(right.split(' '));
-    let letters: BTreeSet<_> = items.filter(|item| is_letter(item)).collect();
+    let letters: BTreeSet<_> = items.filter(|item| is_v_letter(item)).collect();
     letters.len()
 }
 

@@ -8,11 +8,13 @@ use crate::refusals::JOBS as ROWS;
 /// The entries that take a job.
 const ENTRIES: [Entry; 3] = [Entry::Find, Entry::Words, Entry::Rename];
 
-/// A job that each of them accepts, and three that a small damage makes one of too many letters, of equal sides, or over a bound.
+/// A job that each of them accepts, and others that a small damage makes one of too many v letters, of equal sides, or over a bound.
 const JOB: &str = "left=+ * v0 v1 0\nright=* v0 v1\nsteps=3\nsize=9\ndepth=4\nnodes=1000\n";
-const JOBS: [&str; 4] = [
+const JOBS: [&str; 6] = [
     JOB,
     "left=+ v0 + v1 + v2 v3\nright=+ v0 + v1 + v4 v5\nsteps=3\nsize=9\ndepth=4\nnodes=10\n",
+    "left=+ v0 + v1 + v2 v3\nright=+ v4 + v5 + c6 c7\nsteps=3\nsize=9\ndepth=4\nnodes=10\n",
+    "left=c9\nright=c99\nsteps=3\nsize=9\ndepth=4\nnodes=1000\n",
     "left=v0\nright=v1\nsteps=3\nsize=9\ndepth=4\nnodes=1000\n",
     "left=v0\nright=1\nsteps=16\nsize=31\ndepth=15\nnodes=4096\n",
 ];
@@ -24,7 +26,7 @@ const THREE: &str = "left=+ v1 0\nright=+ 0 v1\nright=* v0 v1\nright=+ * v0 v1 0
 type Case = (Fault, &'static str, &'static str, &'static str);
 
 /// Of `JOB`, by each of the entries.
-const FAULTS: [Case; 20] = [
+const FAULTS: [Case; 24] = [
     (Fault::Mark, "left", "\u{feff}left", "the whole text"),
     (Fault::Mark, "left", "l\0e\0f\0t\0", "the whole text"),
     (Fault::Windows, "3\n", "3\r\n", "line 3"),
@@ -42,6 +44,14 @@ const FAULTS: [Case; 20] = [
         "v\u{e9}\t1 0",
         "line 1 (left), item 4 (v\u{e9}\\t1)",
     ),
+    (
+        Fault::Item,
+        "v1 0",
+        "c100 0",
+        "line 1 (left), item 4 (c100)",
+    ),
+    (Fault::Item, "v1 0", "c00 0", "line 1 (left), item 4 (c00)"),
+    (Fault::Item, "v1 0", "c 0", "line 1 (left), item 4 (c)"),
     (Fault::Part, "v1 0", "v1", "line 1 (left), behind item 4"),
     (Fault::Left, "v1 0", "v1 0 0", "line 1 (left), item 6"),
     (
@@ -50,7 +60,13 @@ const FAULTS: [Case; 20] = [
         WIDE,
         "line 2 (right), 33 nodes",
     ),
-    (Fault::Letters, "left=", MANY, "lines 1 and 2, 7 letters"),
+    (Fault::Letters, "left=", MANY, "lines 1 and 2, 7 v letters"),
+    (
+        Fault::Letters,
+        "left=",
+        MANY_WITH_TABLES,
+        "lines 1 and 2, 7 v letters",
+    ),
     (Fault::Bound, "size=9", "size=32", "line 4 (size)"),
     (
         Fault::Bound,
@@ -64,6 +80,7 @@ const FAULTS: [Case; 20] = [
 const WIDE: &str =
     "right=+ v1 + v1 + v1 + v1 + v1 + v1 + v1 + v1 + v1 + v1 + v1 + v1 + v1 + v1 + v1 + v1 v1";
 const MANY: &str = "left=+ v6 + v5 + v4 + v3 + v2 ";
+const MANY_WITH_TABLES: &str = "left=+ c0 + c99 + v6 + v5 + v4 + v3 + v2 ";
 
 /// Of `THREE`, by FIND.
 const OF_THREE: [Case; 18] = [
@@ -105,7 +122,7 @@ const OF_THREE: [Case; 18] = [
         Fault::LettersRight,
         "=* v0 v1",
         "=* v0 * v6 * v2 * v3 * v4 v5",
-        "line 3 (right 2), 7 letters",
+        "line 3 (right 2), 7 v letters",
     ),
     (Fault::Bound, "size=9", "size=32", "line 6 (size)"),
     (
@@ -188,7 +205,7 @@ fn all_right_sides_at_fault_are_told() {
             Fault::LettersRight,
             many(7),
             many(8),
-            "lines 2 and 4 (right 1 and 3), 7 and 8 letters",
+            "lines 2 and 4 (right 1 and 3), 7 and 8 v letters",
         ),
         (
             Fault::SameRight,
@@ -214,6 +231,46 @@ fn all_right_sides_at_fault_are_told() {
     }
 }
 
+/// Thirty-two different letters are accepted, of which six are v letters; a seventh v letter is told.
+#[test]
+fn c_letters_are_not_counted() {
+    let sum = |first: &str, tables: std::ops::Range<usize>| {
+        let tables: Vec<_> = tables.map(|table| format!("c{table}")).collect();
+        format!("{}{first} {}", "+ ".repeat(15), tables.join(" "))
+    };
+    let left = sum("v0 v1 v2", 0..13);
+    let right = sum("v3 v4 v5", 50..63);
+    let limits = &JOB[JOB.find("steps").unwrap()..];
+    let accepted = format!("left={left}\nright={right}\n{limits}");
+    let refused = accepted.replacen("c62", "v6", 1);
+    for entry in ENTRIES {
+        let mut buffers = Buffers::new(400, Room::Grows);
+        assert!(buffers.ask(entry, accepted.as_bytes()).is_ok());
+        let due = (Fault::Letters, "lines 1 and 2, 7 v letters".to_owned());
+        assert_eq!(told(entry, &refused), due);
+    }
+}
+
+/// A right side that differs from left in a c letter alone comes before it or behind it by that letter's number.
+#[test]
+fn c_letters_are_ordered_after_v_letters_and_before_0() {
+    let rising = ["v0", "v999", "c0", "c9", "c10", "c99", "0"];
+    let limits = &JOB[JOB.find("steps").unwrap()..];
+    for (index, left) in rising.iter().enumerate() {
+        for right in &rising[..index] {
+            let job = format!("left=+ {left} v0\nright=* 1 1\nright=+ {right} v0\n{limits}");
+            let due = (Fault::Before, "line 3 (right 2)".to_owned());
+            assert_eq!(told(Entry::Find, &job), due);
+        }
+        for right in &rising[index + 1..] {
+            let job = format!("left=+ {left} v0\nright=* 1 1\nright=+ {right} v0\n{limits}");
+            let mut buffers = Buffers::new(400, Room::Grows);
+            assert!(buffers.ask(Entry::Find, job.as_bytes()).is_ok());
+            assert_eq!(Job::new(Entry::Find, job.as_bytes()).fault(10), None);
+        }
+    }
+}
+
 #[test]
 fn of_several_right_sides_those_at_fault_are_known() {
     let sides = |from, to| fault(Entry::Find, &THREE.replacen(from, to, 1)).sides;
@@ -231,7 +288,7 @@ fn of_several_right_sides_those_at_fault_are_known() {
 
 /// Damages the job at one place, by a draw.
 fn damage(job: &mut Vec<u8>, draw: u64) {
-    const BYTES: &[u8] = b"+*v019 =\n\r\xff\x00abst";
+    const BYTES: &[u8] = b"+*vc019 =\n\r\xff\x00abst";
     let place = (draw >> 8) as usize % (job.len() + 1);
     let byte = BYTES[(draw >> 40) as usize % BYTES.len()];
     match draw >> 60 {
@@ -280,7 +337,9 @@ fn the_fault_found_is_one_of_the_number_given() {
     let limits = &THREE[THREE.find("steps").unwrap()..];
     let several = [
         format!("left=v1\nright=v9\nright=v10\n{limits}"),
+        format!("left=c1\nright=c9\nright=c10\n{limits}"),
         format!("left=+ v0 + v1 + v2 v3\nright=+ v1 0\nright=+ v0 + v1 + v4 v5\n{limits}"),
+        format!("left=+ v0 + v1 + v2 v3\nright=+ c1 0\nright=+ v4 + c1 + c4 v5\n{limits}"),
         format!("left=0\n{}{limits}", "right=1\n".repeat(16)),
         format!("left=0\n{}{limits}", "right=1\n".repeat(17)),
     ];

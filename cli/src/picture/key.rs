@@ -5,6 +5,7 @@ use std::collections::BTreeSet;
 use super::path::MARGIN;
 use super::svg::{self, CHAR, SOFT, Words};
 use crate::names::Names;
+use crate::term::ranks;
 
 /// The most lines of a key.
 const MOST: usize = 6;
@@ -29,15 +30,13 @@ impl<'a> Key<'a> {
     /// The key of the items in so much width. Each entry has a whole line if need be; where that makes too many lines, an entry has at most a half, a third and so on.
     pub fn new(items: impl Iterator<Item = &'a str>, names: &Names, width: f64) -> Key<'a> {
         let named = items.filter(|item| names.get(item).is_some());
-        let letters: BTreeSet<_> = named
-            .map(|item| (item.chars().next(), item.len(), item))
-            .collect();
+        let letters: BTreeSet<_> = named.map(|item| (ranks(item), item)).collect();
         let mut share = 1.0;
         loop {
             let most = (width + BETWEEN) / share - BETWEEN;
             let entries = letters
                 .iter()
-                .map(|&(_, _, letter)| (letter, names.or_item(letter)));
+                .map(|&(_, letter)| (letter, names.or_item(letter)));
             let key = Key::broken(entries, most, width);
             if key.0.len() <= MOST || share as usize > letters.len() {
                 return key;

@@ -95,8 +95,8 @@ pub const DERIVATIONS: [Row; 26] = [
     row(
         4,
         Fault::Letters,
-        "all terms together have over six different letters",
-        "give a part that no line changes a letter of its own, in all the terms; or cut the derivation in two, where each half has fewer letters",
+        "all terms together have over six different v letters",
+        "give a part that no line changes a letter of its own, or a fixed table a c letter, in all the terms; or cut the derivation in two, where each half has fewer v letters",
     ),
     row(
         11,

@@ -4,6 +4,9 @@ use super::{Fault, ITEM, LEFT, PART, Row, SPACE, row};
 
 const SHARED: &str = "give a part that all plans of the job share a letter of its own";
 const SHARED_ALONE: &str = "ask for such a one in a job of its own, and there give a part that both plans share a letter of its own";
+const FEWER: &str =
+    "give a part that all plans of the job share a letter of its own, or a fixed table a c letter";
+const FEWER_ALONE: &str = "ask for such a one in a job of its own, and there give a part that both plans share a letter of its own, or a fixed table a c letter";
 
 pub const JOBS: [Row; 29] = [
     row(
@@ -93,14 +96,14 @@ pub const JOBS: [Row; 29] = [
     row(
         4,
         Fault::Letters,
-        "both sides together have over six different letters",
-        SHARED,
+        "both sides together have over six different v letters",
+        FEWER,
     ),
     row(
         4,
         Fault::LettersRight,
-        "of several right sides none may have over six different letters together with left",
-        SHARED_ALONE,
+        "of several right sides none may have over six different v letters together with left",
+        FEWER_ALONE,
     ),
     row(
         5,

@@ -106,7 +106,7 @@ const SPACE: Row = row(
 const ITEM: Row = row(
     2,
     Fault::Item,
-    "the item is none of `+`, `*`, `0`, `1`, `v0` to `v999`",
+    "the item is none of `+`, `*`, `0`, `1`, `v0` to `v999`, `c0` to `c99`",
     "write each item so, and one space between items",
 );
 const PART: Row = row(

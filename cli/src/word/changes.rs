@@ -23,7 +23,7 @@ on standard error; it leaves the catalogue as it was, and the others are put.
 
   --catalogue FILE  the catalogue's file; one that is not there yet is an empty catalogue. FILE.new and
                     FILE.lock beside it are the command's own
-  --names FILE      lines `v0 Orders`: the names are used where people read, on standard error
+  --names FILE      lines `v0 Orders` or `c0 Prices`: the names are used where people read, on standard error
   --                what follows is a TEXT, even if it begins with -
 ",
     run: |words| run(&PUT, Change::Put, words),

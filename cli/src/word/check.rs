@@ -18,7 +18,7 @@ Of an answer that find gave, check these three kinds of line:
   grep -E '^(left|right|step)=' ANSWER | puvainy check
 
   --room N      bytes of room for an answer, 0 to 33554432 (as many as it needs unless said)
-  --names FILE  lines `v0 Orders`: the names are used where people read, on standard error
+  --names FILE  lines `v0 Orders` or `c0 Prices`: the names are used where people read, on standard error
   --            what follows is a FILE, even if it begins with -
 ",
     run: |words| jobs::run(&CHECK, Entry::Check, words),

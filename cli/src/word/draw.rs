@@ -20,7 +20,7 @@ ANSWER is a file that holds one answer of find, or a derivation as check takes i
 The picture goes to standard output. A long derivation is cut into pages, one below the other; each block
 of the answer has pages of its own. The derivation is drawn as the text tells it, and not checked.
 
-  --names FILE  lines `v0 Orders`: tables are drawn with their names
+  --names FILE  lines `v0 Orders` or `c0 Prices`: tables are drawn with their names
   --page K      page K alone
   --            what follows is the ANSWER, even if it begins with -
 ",

@@ -25,7 +25,7 @@ pub const WORDS: Word = word(
 
 pub const RENAME: Word = word(
     "rename",
-    "the equation of both plans under the least renaming of its letters",
+    "the equation of both plans under the least renaming of its v letters; c letters stay as they are",
     |words| run(&RENAME, Entry::Rename, words),
 );
 
@@ -51,7 +51,7 @@ one such line.
 
   --slots N     slots for the terms that are noted, 0 to 65535 (65535 unless said); only find uses them
   --room N      bytes of room for an answer, 0 to 33554432 (as many as it needs unless said)
-  --names FILE  lines `v0 Orders`: the names are used where people read, on standard error
+  --names FILE  lines `v0 Orders` or `c0 Prices`: the names are used where people read, on standard error
   --            what follows is a FILE, even if it begins with -
 ";
 

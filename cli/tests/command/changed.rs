@@ -60,7 +60,7 @@ fn a_put_makes_the_file_and_a_withdrawal_leaves_it() {
 /// The texts that a play of the guide lists give the stored kinds, all together as one at a time.
 #[test]
 fn the_guides_plays_give_the_stored_kinds() {
-    for play in ["training", "training-words", "refused-changes"] {
+    for play in ["training", "training-words", "tables", "refused-changes"] {
         let folder = Folder::new(play);
         let file = folder.file("catalogue");
         let lines = stored(&format!("{play}.play"));

@@ -122,7 +122,7 @@ fn a_refusal_names_the_line() {
                write its name as the table of laws has it, and one space behind it (refusal 1)";
     refused(puvainy(&["check", "bad-law.derivation"]), 1, law);
     let item = "bad-item.derivation: line 3 (step 1), item 9 (V1): \
-                the item is none of +, *, 0, 1, v0 to v999; \
+                the item is none of +, *, 0, 1, v0 to v999, c0 to c99; \
                 write each item so, and one space between items (refusal 2)";
     refused(puvainy(&["check", "bad-item.derivation"]), 2, item);
     let stops = "bad-stops.derivation: line 4 (step 2): \

@@ -33,6 +33,27 @@ pub fn both_ways([left, right]: [&str; 2]) -> [[&str; 2]; 2] {
     [[left, right], [right, left]]
 }
 
+/// A picture's row of a job, or of a name: its text, and the colours of its letters.
+pub fn drawn(picture: &str, row: &str) -> (String, Vec<(String, String)>) {
+    let (_, row) = picture.split_once(&format!("<g id=\"{row}\">")).unwrap();
+    let (row, _) = row.split_once("</g>").unwrap();
+    let (mut texts, mut letters, mut colour) = (Vec::new(), Vec::new(), None);
+    for line in row.lines() {
+        if line.starts_with("<rect ") {
+            colour = line.split("fill=\"").nth(1).unwrap().split('"').next();
+        } else if let Some((_, text)) = line.split_once('>') {
+            let text = text.strip_suffix("</text>").unwrap();
+            texts.push(text);
+            letters.extend(
+                colour
+                    .take()
+                    .map(|colour| (text.to_owned(), colour.to_owned())),
+            );
+        }
+    }
+    (texts.join(" "), letters)
+}
+
 /// What a call gave: its status, and the texts on both streams.
 #[derive(Debug)]
 pub struct Gave {

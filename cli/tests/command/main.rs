@@ -4,6 +4,7 @@ mod changed;
 mod checked;
 mod common;
 mod drawn;
+mod fixed;
 mod jobs;
 mod kept;
 mod nones;

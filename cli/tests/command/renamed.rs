@@ -13,22 +13,22 @@ fn answers(word: &str) -> Vec<(String, String)> {
         .collect()
 }
 
-/// Whether a one-to-one change of letters turns the one equation into the other, sides exchanged or not.
+/// Whether a one-to-one change of v letters turns the one equation into the other, sides exchanged or not.
 fn turns(one: [&str; 2], other: [&str; 2]) -> bool {
     let one = one.join(" = ");
     both_ways(other).iter().any(|other| {
         let other = other.join(" = ");
         let pairs: Vec<_> = one.split(' ').zip(other.split(' ')).collect();
-        let is_letter = |item: &str| item.starts_with('v');
+        let may_change = |item: &str| item.starts_with('v');
         one.split(' ').count() == other.split(' ').count()
             && pairs.iter().all(|(from, to)| {
-                let kept = from == to || is_letter(from) && is_letter(to);
+                let kept = from == to || may_change(from) && may_change(to);
                 kept && pairs.iter().all(|(f, t)| (from == f) == (to == t))
             })
     })
 }
 
-/// The letters of two lists of words, each once.
+/// The v letters of two lists of words, each once.
 fn letters(lists: [&str; 2]) -> Vec<String> {
     let items = lists.iter().flat_map(|list| list.split([' ', ';']));
     let mut letters: Vec<_> = items.filter(|item| item.starts_with('v')).collect();
@@ -63,7 +63,7 @@ fn changed(list: &str, from: &[String], to: &[String]) -> Vec<String> {
     words
 }
 
-/// Whether a one-to-one change of letters turns the lists of words into the others, exchanged or not.
+/// Whether a one-to-one change of v letters turns the lists of words into the others, exchanged or not.
 fn words_turn(one: [&str; 2], other: [&str; 2]) -> bool {
     let (from, to) = (letters(one), letters(other));
     let due = both_ways(other).map(|lists| lists.map(|list| changed(list, &to, &to)));
@@ -76,7 +76,7 @@ fn words_turn(one: [&str; 2], other: [&str; 2]) -> bool {
 
 /// Of every two jobs of the guide.
 #[test]
-fn lines_are_shared_exactly_where_a_change_of_letters_leads_from_one_to_the_other() {
+fn lines_are_shared_exactly_where_a_change_of_v_letters_leads_from_one_to_the_other() {
     let (renamed, words) = (answers("rename"), answers("words"));
     let files = |answers: &[(String, String)]| {
         let files = answers.iter().map(|(file, _)| file.clone());

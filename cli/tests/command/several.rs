@@ -150,8 +150,9 @@ fn the_advice_for_one_right_side_leaves_the_others_as_they_are() {
     let shared = "ask for such a one in a job of its own, \
                   and there give a part that both plans share a letter of its own";
     let letters = format!(
-        "standard input: lines 3 and 5 (right 2 and 4), 7 and 7 letters: \
-         of several right sides none may have over six different letters together with left; {shared} (refusal 4)"
+        "standard input: lines 3 and 5 (right 2 and 4), 7 and 7 v letters: \
+         of several right sides none may have over six different v letters together with left; \
+         {shared}, or a fixed table a c letter (refusal 4)"
     );
     let many = "* v2 * v3 * v4 * v5 v6";
     refused(job(["* v1 v0", many, "* 1 1", many]), 4, &letters);

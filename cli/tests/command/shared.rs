@@ -1,12 +1,12 @@
 //! The guide's examples of equations with and without a shared name.
 
-use crate::common::{both_ways, puvainy, puvainy_on, shell, sides, stored, value};
+use crate::common::{both_ways, drawn, puvainy, puvainy_on, shell, sides, stored, value};
 
 /// The guide's section about names.
 fn section() -> String {
     let guide = stored("../guide.md");
     let begin = guide.find("\n## What a shared name tells, and what it does not\n");
-    let end = guide.find("\n## Checking a derivation\n").unwrap();
+    let end = guide.find("\n## Letters for fixed tables\n").unwrap();
     guide[begin.unwrap()..end].to_owned()
 }
 
@@ -161,27 +161,6 @@ fn a_name_does_not_tell_what_find_answers_or_what_plans_report() {
         assert_eq!(format!("`{left}` and `{right}`"), lists);
         assert!(section().contains(&format!("{lists} for `{name}`")));
     }
-}
-
-/// The picture's row of a job, or of the name: its text, and the colours of its letters.
-fn drawn(picture: &str, row: &str) -> (String, Vec<(String, String)>) {
-    let (_, row) = picture.split_once(&format!("<g id=\"{row}\">")).unwrap();
-    let (row, _) = row.split_once("</g>").unwrap();
-    let (mut texts, mut letters, mut colour) = (Vec::new(), Vec::new(), None);
-    for line in row.lines() {
-        if line.starts_with("<rect ") {
-            colour = line.split("fill=\"").nth(1).unwrap().split('"').next();
-        } else if let Some((_, text)) = line.split_once('>') {
-            let text = text.strip_suffix("</text>").unwrap();
-            texts.push(text);
-            letters.extend(
-                colour
-                    .take()
-                    .map(|colour| (text.to_owned(), colour.to_owned())),
-            );
-        }
-    }
-    (texts.join(" "), letters)
 }
 
 /// The picture shows the plans as they stand in the jobs and in the name, and has a colour for each letter of the name, where there is a name to share.

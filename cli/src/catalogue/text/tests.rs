@@ -8,9 +8,10 @@ use crate::refusals::{CHANGES, JOBS, Row};
 const PUT: &str =
     "number=7\nkey=raw\nleft=+ * v0 v1 0\nright=* v0 v1\nsteps=3\nsize=9\ndepth=4\nnodes=1000\n";
 
-/// Puts that a small damage makes one of too many letters, of equal sides, over a bound, or under a number out of range.
-const PUTS: [&str; 4] = [
+/// Puts that a small damage makes one of too many v letters, of equal sides, over a bound, or under a number out of range.
+const PUTS: [&str; 5] = [
     PUT,
+    "number=98\nkey=raw\nleft=+ v0 + v1 + v2 v3\nright=+ c9 + c99 + v4 v5\nsteps=3\nsize=9\ndepth=4\nnodes=10\n",
     "number=99\nkey=words\nleft=+ v0 + v1 + v2 v3\nright=+ v0 + v1 + v4 v5\nsteps=3\nsize=9\ndepth=4\nnodes=10\n",
     "number=999\nkey=raw\nleft=v0\nright=v1\nsteps=3\nsize=9\ndepth=4\nnodes=1000\n",
     "number=1\nkey=words\nleft=v0\nright=1\nsteps=16\nsize=31\ndepth=15\nnodes=4096\n",
@@ -19,7 +20,7 @@ const PUTS: [&str; 4] = [
 /// A fault, what is put in the place of what to make it, and where it is told.
 type Case = (Fault, &'static str, &'static str, &'static str);
 
-const OF_PUT: [Case; 27] = [
+const OF_PUT: [Case; 28] = [
     (Fault::Mark, "number", "\u{feff}number", "the whole text"),
     (Fault::Windows, "raw\n", "raw\r\n", "line 2"),
     (Fault::Windows, "3\n", "3\r\n", "line 5"),
@@ -49,7 +50,13 @@ const OF_PUT: [Case; 27] = [
     (Fault::Digits, "depth=4", "depth=04", "line 7 (depth)"),
     (Fault::Empty, "right=* v0 v1", "right=", "line 4 (right)"),
     (Fault::Part, "v1 0", "v1", "line 3 (left), behind item 4"),
-    (Fault::Letters, "left=", MANY, "lines 3 and 4, 7 letters"),
+    (
+        Fault::Item,
+        "v1 0",
+        "c100 0",
+        "line 3 (left), item 4 (c100)",
+    ),
+    (Fault::Letters, "left=", MANY, "lines 3 and 4, 7 v letters"),
     (Fault::Bound, "size=9", "size=32", "line 6 (size)"),
     (Fault::Same, "+ * v0 v1 0", "* v0 v1", "lines 3 and 4"),
 ];
@@ -118,7 +125,7 @@ fn the_sides_of_a_put_are_shown() {
 
 /// Damages the text at one place, by a draw.
 fn damage(text: &mut Vec<u8>, draw: u64) {
-    const BYTES: &[u8] = b"+*v019 =\n\r\xff\x00abstw";
+    const BYTES: &[u8] = b"+*vc019 =\n\r\xff\x00abstw";
     let place = (draw >> 8) as usize % (text.len() + 1);
     let byte = BYTES[(draw >> 40) as usize % BYTES.len()];
     match draw >> 60 {
@@ -160,7 +167,7 @@ fn hold(change: Change, texts: &[&str], rounds: usize) -> [usize; 16] {
 
 #[test]
 fn the_fault_found_is_one_of_the_number_given() {
-    let counts = hold(Change::Put, &PUTS, 40_000);
+    let counts = hold(Change::Put, &PUTS, 60_000);
     let often = [0, 1, 2, 5, 13].map(|number| counts[number]);
     assert!(often.into_iter().all(|count| count > 100), "{counts:?}");
     let counts = hold(Change::Withdraw, &["number=7\n", "number=77\n"], 20_000);

@@ -2,16 +2,17 @@
 
 use super::*;
 
-/// Three that are good, of which a small damage makes one with too many letters, no line, or no chain.
-const TEXTS: [&str; 3] = [
+/// Texts that are good, of which a small damage makes one with too many v letters, no line, or no chain.
+const TEXTS: [&str; 4] = [
     GOOD,
     "left=v0\nright=+ v0 0\nstep=add_zero_right forward at=. to=+ v0 0\n",
+    "left=+ * v0 * v1 c2 * v3 * v4 v5\nright=+ * v3 * v4 v5 * v0 * v1 c2\nstep=add_comm forward at=. to=+ * v3 * v4 v5 * v0 * v1 c2\n",
     "left=+ * v0 * v1 v2 * v3 * v4 v5\nright=+ * v3 * v4 v5 * v0 * v1 v2\nstep=add_comm forward at=. to=+ * v3 * v4 v5 * v0 * v1 v2\n",
 ];
 
 /// Damages the text at one place, by a draw.
 fn damage(text: &mut Vec<u8>, draw: u64) {
-    const BYTES: &[u8] = b"+*v0149 =.lr\n\r\xff\x00abst";
+    const BYTES: &[u8] = b"+*vc0149 =.lr\n\r\xff\x00abst";
     let place = (draw >> 8) as usize % (text.len() + 1);
     let byte = BYTES[(draw >> 40) as usize % BYTES.len()];
     match draw >> 60 {

@@ -5,7 +5,7 @@ use super::*;
 /// A fault, what is put in the place of what to make it, and where it is told.
 type Case = (Fault, &'static str, &'static str, &'static str);
 
-const FAULTS: [Case; 38] = [
+const FAULTS: [Case; 42] = [
     (Fault::Mark, "left", "\u{feff}left", "the whole text"),
     (Fault::Mark, "left", "l\0e\0f\0t\0", "the whole text"),
     (Fault::Answer, "left", "answer=proved\nleft", "line 1"),
@@ -126,6 +126,12 @@ const FAULTS: [Case; 38] = [
         "line 3 (step 1), item 2 (v1000)",
     ),
     (
+        Fault::Item,
+        "to=+ v4",
+        "to=+ c100",
+        "line 3 (step 1), item 2 (c100)",
+    ),
+    (
         Fault::Part,
         "v0 v1\nstep",
         "v0\nstep",
@@ -147,7 +153,25 @@ const FAULTS: [Case; 38] = [
         Fault::Letters,
         "to=+ v4 + * v0 v2 * v0 v1",
         MANY,
-        "line 3 (step 1), where v7 is letter 7",
+        "line 3 (step 1), where v7 is v letter 7",
+    ),
+    (
+        Fault::Letters,
+        "to=+ v4 + * v0 v2 * v0 v1",
+        MANY_WITH_TABLES,
+        "line 3 (step 1), where v7 is v letter 7",
+    ),
+    (
+        Fault::Result,
+        "to=+ v4 + * v0 v2 * v0 v1",
+        "to=+ c4 + * v0 v2 * v0 v1",
+        "line 3 (step 1), which makes + v4 + * v0 v2 * v0 v1",
+    ),
+    (
+        Fault::Match,
+        "left=+ v4 * v0 + v2 v1",
+        "left=+ v4 + * c0 v2 * c1 v1",
+        "line 3 (step 1)",
     ),
     (
         Fault::Outside,
@@ -178,6 +202,31 @@ const FAULTS: [Case; 38] = [
 const WIDE: &str =
     "to=+ v1 + v1 + v1 + v1 + v1 + v1 + v1 + v1 + v1 + v1 + v1 + v1 + v1 + v1 + v1 + v1 v1";
 const MANY: &str = "to=+ v5 + v6 v7";
+const MANY_WITH_TABLES: &str = "to=+ c5 + v5 + c6 + v6 v7";
+
+/// A derivation of the same three lines with tables that are fixed, beside six v letters of which some come from nowhere.
+#[test]
+fn c_letters_are_read_and_not_counted() {
+    let holds = |text: &str| {
+        let mut buffers = Buffers::new(0, Room::Grows);
+        buffers.ask(Entry::Check, text.as_bytes()).is_ok()
+    };
+    let fixed = GOOD.replace("v4", "c99").replace("v2", "c0");
+    assert!(holds(&fixed));
+    let right = "right=+ + * v0 v1 * v0 c0 c99\n";
+    let last = "step=add_comm forward at=. to=+ + * v0 v1 * v0 c0 c99\n";
+    let more = |item: &str| {
+        let to = format!("+ + + * v0 v1 * v0 c0 c99 * 0 + + v2 v3 + v4 + v5 {item}");
+        let zero = "step=add_zero_right forward at=. to=+ + + * v0 v1 * v0 c0 c99 0\n";
+        let line = format!("step=zero_mul forward at=r to={to}\n");
+        let text = fixed.replacen(right, &format!("right={to}\n"), 1);
+        text.replacen(last, &[last, zero, &line].concat(), 1)
+    };
+    assert!(holds(&more("c1")));
+    let (given, found) = fault(more("v6").as_bytes());
+    let due = "line 2 (right), where v6 is v letter 7";
+    assert_eq!((given, found.place.as_str()), (4, due));
+}
 
 #[test]
 fn the_place_of_each_fault_is_told() {

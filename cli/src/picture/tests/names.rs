@@ -37,6 +37,19 @@ fn the_key_is_in_the_order_of_the_letters() {
 }
 
 #[test]
+fn c_letters_stand_behind_v_letters_in_the_key() {
+    let terms = ["* + c10 v2 c2", "* + v2 c10 c2"].map(str::to_owned);
+    let names = Names::read(b"c2 Prices\nc10 Stock\nv2 Orders\n").unwrap();
+    let picture = draw("tables", proved(&terms, "l").as_bytes(), &names, None).unwrap();
+    let texts = texts(&picture);
+    let due = ["v2", "Orders", "c2", "Prices", "c10", "Stock"];
+    let from = texts.iter().position(|text| text == "v2").unwrap();
+    assert_eq!(texts[from..from + 6], due);
+    let times = |wanted: &str| texts.iter().filter(|text| *text == wanted).count();
+    assert_eq!((times("Prices"), times("c2")), (3, 1));
+}
+
+#[test]
 fn names_are_escaped() {
     let name = r#"<b>&"'</text>"#;
     let picture = drawn(&format!("v2 {name}\n"));

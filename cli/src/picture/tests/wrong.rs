@@ -214,7 +214,9 @@ fn damaged_answers_are_drawn_or_told() {
     };
     for index in 0..right.len() {
         check(&right[..index]);
-        for byte in [0, b'\n', b' ', b'+', b'=', b'l', b'v', b'9', 0x1b, 0xff] {
+        for byte in [
+            0, b'\n', b' ', b'+', b'=', b'l', b'v', b'c', b'9', 0x1b, 0xff,
+        ] {
             let mut damaged = right.clone();
             damaged[index] = byte;
             check(&damaged);
