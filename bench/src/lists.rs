@@ -1,5 +1,6 @@
-//! WORDS and RENAME at their worst cases.
+//! WORDS and RENAME at their worst cases, beside the Rust, and with c letters beside our own calls without.
 
+use std::cell::RefCell;
 use std::hint::black_box;
 
 use oracle::{Call, PROGRAM_ROOM, checked};
@@ -23,6 +24,18 @@ pub const ALIKE: Job = Job {
     limits: [0; 4],
 };
 
+/// Both with c letters for the letters of each side's third factor: six v letters still, and as many words of the same lengths.
+const MANY_WORDS_FIXED: Job = Job {
+    left: "* + v0 + v1 v2 * + v3 + v4 v5 * + c0 + c1 c2 * + v3 + v4 v5 + v0 + v1 + v2 v3",
+    right: "* + v5 + v4 v3 * + v2 + v1 v0 * + c2 + c1 c0 * + v2 + v1 v0 + v5 + v4 + v3 v2",
+    limits: [0; 4],
+};
+const ALIKE_FIXED: Job = Job {
+    left: "* + v0 + v1 v2 * + v0 + v1 v2 * + c0 + c1 c2 * + v0 + v1 v2 * + 1 1 + 1 1",
+    right: "* + v3 + v4 v5 * + v3 + v4 v5 * + c3 + c4 c5 * + v3 + v4 v5 * + 1 1 + 1 1",
+    limits: [0; 4],
+};
+
 pub fn rows(workspace: &mut Workspace) {
     head("Rust", "ours");
     words("WORDS, 324 words a side", &MANY_WORDS, workspace);
@@ -32,6 +45,43 @@ pub fn rows(workspace: &mut Workspace) {
         workspace,
     );
     rename("RENAME, the same, letters alike", &ALIKE, workspace);
+    head("v letters", "c letters");
+    for (what, entry, rounds, pair) in [
+        (
+            "WORDS, 324 words a side",
+            Entry::Words,
+            200,
+            [MANY_WORDS, MANY_WORDS_FIXED],
+        ),
+        (
+            "RENAME, six v letters, 324 words a side",
+            Entry::Rename,
+            10,
+            [MANY_WORDS, MANY_WORDS_FIXED],
+        ),
+        (
+            "RENAME, the same, letters alike",
+            Entry::Rename,
+            10,
+            [ALIKE, ALIKE_FIXED],
+        ),
+    ] {
+        fixed(what, entry, rounds, pair, workspace);
+    }
+}
+
+/// One entry on a job without c letters and on one with some.
+fn fixed(what: &str, entry: Entry, rounds: usize, pair: [Job; 2], workspace: &mut Workspace) {
+    let texts = pair.map(|job| job.text());
+    for text in &texts {
+        compare(entry, text, workspace);
+    }
+    let workspace = RefCell::new(workspace);
+    let call = |text| {
+        let mut workspace = workspace.borrow_mut();
+        workspace.call(entry, black_box(text), 0, PROGRAM_ROOM)
+    };
+    row(what, rounds, || call(&texts[0]), || call(&texts[1]));
 }
 
 fn words(name: &str, job: &Job, workspace: &mut Workspace) {

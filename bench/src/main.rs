@@ -1,5 +1,5 @@
-//! FIND, WORDS and RENAME beside the Rust, CHECK beside FIND, and PUT beside RENAME, in one process, on the same jobs. Each pair's answers are
-//! compared first.
+//! FIND, WORDS and RENAME beside the Rust, CHECK beside FIND, and PUT beside RENAME, in one process, on the same jobs; WORDS and RENAME with c
+//! letters beside the same without. Each pair's answers are compared first.
 //!
 //! With an argument, one part alone: `find`, `many`, `lists`, `check`, `put`, `noted`, or `ours`, the search at the largest limits on our side, for
 //! a profiler.
