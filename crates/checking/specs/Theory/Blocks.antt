@@ -4,12 +4,13 @@ use Prim.Native.String.{String}
 use Rattle.std.proofs.Common.{arith, sym, ◌∙◌, ⊎_elim}
 use Rattle.std.proofs.Math.Path.{ap}
 use mathlib.Core.List.{List, [], ◌∷◌, ◌++◌, map, flat_map, filter_map, append-nil}
-use Rattle.terms.specs.Lists.{◌∈◌, here, there, not-in-nil, append_cases, in_left, in_right}
+use Rattle.terms.specs.Lists.{◌∈◌, in_left, in_right}
 use Rattle.terms.specs.Term.{Term, size}
 use Rattle.terms.specs.Letters.{letters, rising, FIXED, variables}
 use Rattle.terms.specs.Theory.Letters.{below_fewer}
 use Rattle.terms.specs.Theory.Order.{irreflexive}
 use Rattle.terms.specs.Theory.TermOrder.{term_order}
+use Rattle.words.specs.Theory.Permutations.{of_flatMap}
 use Rattle.search.specs.Law.{semiring}
 use Rattle.search.specs.Line.{Line}
 use Rattle.search.specs.Search.{Outcome, proved, unproved, search}
@@ -48,11 +49,6 @@ one_line : (key : String) (t v : List ℕ) → values key t ≡ v ∷ [] → lin
 unfolding flat_map
 one_line key t v e = lines_text key t (v ∷ []) e ∙ append-nil (field key v)
 
-pub flatMap_of : {A B : Type 0} (f : A → List B) (xs : List A) {y : B} → y ∈ flat_map f xs → (x : A) × x ∈ xs × y ∈ f x
-unfolding flat_map
-flatMap_of f [] i = absurd (not-in-nil i)
-flatMap_of f (x ∷ xs) i = ⊎_elim (λ j. (x, here refl, j)) (λ j. let (z, m, k) = flatMap_of f xs j in (z, there m, k)) (append_cases (f x) i)
-
 module _ {j : Job} {slots : ℕ} {t : List ℕ} (known : Accepted j) (a : Answered j slots t) (xs : List Line) (e n : ℕ) (p : a.outcome ≡ proved xs e n) where
   abbrev d : Derivation
   d = derivation j xs
@@ -85,7 +81,7 @@ module _ {j : Job} {slots : ℕ} {t : List ℕ} (known : Accepted j) (a : Answer
         arith,
         known.sides.few,
         below_fewer FIXED (flat_map letters (terms_of d)) (letters j.left ++ letters j.right)
-            (λ m i. let (u, h, k) = flatMap_of letters (terms_of d) i in no_other m u h k),
+            (λ m i. let (u, h, k) = of_flatMap letters (terms_of d) i in no_other m u h k),
       )
 
   derives : Derives semiring (derivation_text d) d

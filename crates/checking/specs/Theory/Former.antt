@@ -6,6 +6,7 @@ use mathlib.Core.List.{List, [], ◌∷◌, flat_map}
 use Rattle.terms.specs.Lists.{◌∈◌, here, there, not-in-nil, cons-cases}
 use Rattle.terms.specs.Term.{Term}
 use Rattle.terms.specs.Letters.{letters}
+use Rattle.words.specs.Theory.Permutations.{of_flatMap}
 use Rattle.search.specs.Law.{semiring}
 use Rattle.search.specs.Line.{Line}
 use Rattle.text.specs.TermText.{read_term}
@@ -20,7 +21,6 @@ use Rattle.checking.specs.Check.{Derivation, terms_of, accept_terms, derivation_
 use Rattle.checking.specs.Former as by
 use Rattle.checking.specs.Former.{CheckByPresent, CheckWithout, CheckUnchanged}
 use Rattle.checking.specs.Theory.Read.{each_term}
-use Rattle.checking.specs.Theory.Blocks.{flatMap_of}
 
 pub check_by_present : CheckByPresent
 unfolding check check_with by.check
@@ -57,7 +57,7 @@ PlainTerms d = (t : Term) → t ∈ terms_of d → Plain t
 terms_same : (d : Derivation) → PlainTerms d → Same PlainTerms (accept_terms d) (by.accept_terms former d)
 unfolding accept_terms by.accept_terms
 terms_same d plain = (
-  rw (few_plain (flat_map letters (terms_of d)) (λ n i. let (t, j, k) = flatMap_of letters (terms_of d) i in plain t j n k)),
+  rw (few_plain (flat_map letters (terms_of d)) (λ n i. let (t, j, k) = of_flatMap letters (terms_of d) i in plain t j n k)),
   required_then PlainTerms 3 (all_small (terms_of d)) _ λ _. required_then PlainTerms 4 (few (flat_map letters (terms_of d))) _ λ _. plain,
 )
 

@@ -70,7 +70,7 @@ module _ {A B : Type 0} (f : A → List B) where
   in_flatMap (here {xs = xs} e) k = in_left (flat_map f xs) (rw e at k)
   in_flatMap (there {x = z} m) k = in_right (f z) (in_flatMap m k)
 
-  of_flatMap : (xs : List A) {y : B} → y ∈ flat_map f xs → (x : A) × x ∈ xs × y ∈ f x
+  pub of_flatMap : (xs : List A) {y : B} → y ∈ flat_map f xs → (x : A) × x ∈ xs × y ∈ f x
   unfolding flat_map
   of_flatMap [] k = absurd (not-in-nil k)
   of_flatMap (x ∷ xs) {y} k = ⊎_elim (λ j. (x, here refl, j)) (λ j. let (z, m, i) = of_flatMap xs j in (z, there m, i)) (append_cases (f x) k)
