@@ -97,7 +97,7 @@ same_number x y =
     (λ e p. rw (e, p) (sym (compare_order.reflexive y)))
     (λ e p. rw e (sym (flip_lt compare_order (compare_below y x p))))
 
-abbrev compare_lent : Option (Bor ℕ) → Option (Bor ℕ) → answered.Ordering
+abbrev pub compare_lent : Option (Bor ℕ) → Option (Bor ℕ) → answered.Ordering
 compare_lent = option_cmp (λ x y. nat_cmp x.now y.now)
 
 module _ (xs ys : List ℕ) (k : ℕ) where

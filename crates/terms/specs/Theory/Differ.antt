@@ -65,7 +65,7 @@ first_order o (x ∷ xs) [] = gt
 first_order o (x ∷ xs) (y ∷ ys) = o x y
 
 -- one more item, if two compare as equal
-abbrev counted : Ordering → ℕ → ℕ
+abbrev pub counted : Ordering → ℕ → ℕ
 counted c k = elim c [ lt ↦ 0 | eq ↦ suc k | gt ↦ 0 ]
 
 module _ {A : Type 0} {o : A → A → Ordering} (O : IsOrder o) where
@@ -97,6 +97,12 @@ module _ {A : Type 0} {o : A → A → Ordering} (O : IsOrder o) where
   differ_order (x ∷ xs) [] (suc k) p = absurd (omega (arith, p.agree.within.1))
   differ_order (x ∷ xs) (y ∷ ys) (suc k) p =
       let q = differ_earlier p in rw (q.0, O.reflexive y) (differ_order xs ys k q.1)
+
+  -- a list agrees with itself up to its end
+  pub differ_same : (xs : List A) → differ_at o xs xs ≡ length xs
+  unfolding differ_at
+  differ_same [] = refl
+  differ_same (x ∷ xs) = rw (differ_at, O.reflexive x) (ap suc (differ_same xs))
 
   -- a list that is a beginning of another differs from it at its end, whichever comes first
   pub beginning_at : (xs : List A) (y : A) (ys : List A)
