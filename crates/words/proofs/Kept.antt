@@ -1,10 +1,10 @@
 -- Equations of runs: their sides in order, which of two comes first, and the lesser kept.
 use Rattle.std.proofs.Common.{◌≡◌, ℕ, ◌≤◌, Bor, true, false, List, ◌++◌, length, take, take_at, sym, refl, ap, ◌∙◌, true≢false, arith}
 use Rattle.std.specs.Ordering.{is_gt, MatchOrdering}
-use Rattle.terms.specs.Compare.{Ordering, lt, eq, gt, order_numbers}
+use Rattle.terms.specs.Compare.{lt, order_numbers}
 use Rattle.terms.specs.Equation.{Equation, orient}
-use Rattle.terms.specs.Theory.Equation.{orient_either}
-use Rattle.terms.specs.Promises.{ordering_of, Compares, in_order_of, InOrder}
+use Rattle.terms.specs.Theory.Equation.{orient_either, in_order_shows}
+use Rattle.terms.specs.Promises.{ordering_of, in_order_of}
 use Rattle.std.specs.declared.cmp.Ordering as answered
 use Rattle.std.specs.declared.cmp.Ordering.TheVariants.{Less, Equal, Greater}
 use Rattle.words.specs.Rename.{order_equations, lesser}
@@ -16,26 +16,17 @@ pub record Ordered (xs ys s t : List ℕ) : Type 0 where
   pub right : t ≡ (orient order_numbers xs ys).right
 
 -- two lent runs in order are those sides
-
-abbrev sides_by : Ordering → List ℕ → List ℕ → Sides
-sides_by c xs ys = elim c [ lt ↦ record { left = xs; right = ys } | eq ↦ record { left = xs; right = ys } | gt ↦ record { left = ys; right = xs } ]
-
-pub in_order : {a b : Bor (List ℕ)} {r : Bor (List ℕ) × Bor (List ℕ)} → InOrder a.now b.now a b r → Ordered a.now b.now r.0.now r.1.now
-unfolding orient
-in_order {a} {b} h = let (e, d) = go (order_numbers a.now b.now) in rw h.numbers (record { left = e; right = d })
-  where
-    go : (c : Ordering) → ((in_order_of c a b).0.now ≡ (sides_by c a.now b.now).left) × ((in_order_of c a b).1.now ≡ (sides_by c a.now b.now).right)
-    go lt = (refl, refl)
-    go eq = (refl, refl)
-    go gt = (refl, refl)
+pub in_order : (a b : Bor (List ℕ)) {r : Bor (List ℕ) × Bor (List ℕ)} → r ≡ in_order_of (order_numbers a.now b.now) a b
+    → Ordered a.now b.now r.0.now r.1.now
+in_order a b h = let (e, d) = in_order_shows order_numbers (λ xs. xs) (λ (x : Bor (List ℕ)). x.now) a.now b.now a b refl refl in rw h (record { left = e; right = d })
 
 -- the order of equations: by left side, then right
-pub by_side : (xs ys us vs : List ℕ) (o : answered.Ordering) {r : answered.Ordering} {Right : Type 0} → Compares xs us o
-    → MatchOrdering o (r ≡ Less) Right (r ≡ Greater) → (Right → Compares ys vs r) → ordering_of r ≡ ordered xs ys us vs
+pub by_side : (xs ys us vs : List ℕ) (o r : answered.Ordering) {Right : Type 0} → ordering_of o ≡ order_numbers xs us
+    → MatchOrdering o (r ≡ Less) Right (r ≡ Greater) → (Right → ordering_of r ≡ order_numbers ys vs) → ordering_of r ≡ ordered xs ys us vs
 unfolding order_equations
-by_side xs ys us vs Less h m f = rw (m, sym h.numbers)
-by_side xs ys us vs Equal h m f = rw (sym h.numbers) (f m).numbers
-by_side xs ys us vs Greater h m f = rw (m, sym h.numbers)
+by_side xs ys us vs Less r h m f = rw (m, sym h)
+by_side xs ys us vs Equal r h m f = rw (sym h) (f m)
+by_side xs ys us vs Greater r h m f = rw (m, sym h)
 
 -- an equation is kept against two runs that both come after its left side
 pub both_after : (xs ys : List ℕ) (e : Equation (List ℕ)) → order_numbers e.left xs ≡ lt → order_numbers e.left ys ≡ lt

@@ -15,6 +15,7 @@ pub mod Renamed
 pub mod Decoded
 pub mod Permuted
 pub mod Coded
+pub mod Partings
 pub mod Kept
 pub mod Visited
 pub mod Candidates

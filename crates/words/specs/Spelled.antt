@@ -1,5 +1,6 @@
 -- Words as numbers: in slots while they are multiplied out and sorted, and a whole list as one run.
-use Rattle.std.specs.Prelude.{ℕ, suc, ◌+◌, ◌*◌, List, [], ◌∷◌, ◌++◌, map, take, drop, slice_index}
+use Rattle.std.specs.Prelude.{ℕ, suc, ◌+◌, ◌*◌, List, [], ◌∷◌, ◌++◌, map, take, drop, slice_index, nat_eq}
+use Rattle.std.specs.List.{count_by}
 use mathlib.Core.List.{flat_map}
 use Rattle.words.specs.Words.{Word}
 use Rattle.words.specs.Rename.{count_from}
@@ -12,6 +13,10 @@ spelled_word w = map suc w ++ (0 ∷ [])
 unfoldable pub spelled : List Word → List ℕ
 unfolding flat_map
 spelled = flat_map spelled_word
+
+-- how many words end in a part of such a run
+abbrev pub ends : List ℕ → ℕ
+ends = count_by (λ x. nat_eq x 0)
 
 -- a slot is 17 numbers: a word's length, then room for 16 letters
 abbrev pub SLOT : ℕ

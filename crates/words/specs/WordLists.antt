@@ -1,13 +1,14 @@
 -- Whole lists of words: those of a term, and those renamed, as the functions that make them promise.
 use Rattle.std.specs.Prelude.{◌≡◌, ℕ, ◌*◌, ◌/◌, ◌<◌, ◌≤◌, List, ◌++◌, length, take}
 use Rattle.terms.specs.Compare.{order_numbers}
+use Rattle.terms.specs.Differ.{differ_at}
 use Rattle.terms.specs.Equation.{Equation, orient}
 use Rattle.terms.specs.Term.{Term, size}
 use Rattle.terms.specs.Letters.{letters, rising, variables}
 use Rattle.terms.specs.Run.{ZERO}
 use Rattle.terms.specs.Held.{IsRun}
 use Rattle.terms.specs.Promises.{ordering_of}
-use Rattle.words.specs.Words.{Word, words, order_lists}
+use Rattle.words.specs.Words.{Word, words, order_words, order_lists}
 use Rattle.words.specs.Spelled.{SLOT, spelled, words_in}
 use Rattle.words.specs.Rename.{rename_words, canonical_words}
 use Rattle.words.specs.Decoded.{renaming}
@@ -15,7 +16,7 @@ use Rattle.words.specs.Multiply.{MOST, LONGEST}
 use Rattle.words.specs.Sort.{Lettered}
 use Rattle.words.specs.Candidate.{Sides}
 use Rattle.words.specs.Counts.{longest}
-use Rattle.std.specs.declared.cmp.Ordering as answered
+use Rattle.words.specs.declared.normal_form.Parting.{Parting}
 
 -- the words in all the slots that a list has
 abbrev pub slot_words : List ℕ → List Word
@@ -56,6 +57,9 @@ pub record CanonicalWords (xs ys : List ℕ) (room : ℕ) (e : Sides) : Type 0 w
       → (e.left ≡ spelled (canonical_words (words s) (words t)).left)
       × (e.right ≡ spelled (canonical_words (words s) (words t)).right)
 
--- of `compare_lists`: `Equal` exactly where the lists are the same, as `order_lists` is an order
-pub record ComparesLists (xs ys : List ℕ) (r : answered.Ordering) : Type 0 where
-  pub exact : (us vs : List Word) → xs ≡ spelled us → ys ≡ spelled vs → ordering_of r ≡ order_lists us vs
+-- of `compare_lists`: the order of any two runs by their numbers, and of runs that spell lists of words the lists' order and the place where
+-- they part
+pub record ComparesLists (xs ys : List ℕ) (r : Parting) : Type 0 where
+  pub numbers : ordering_of r.order ≡ order_numbers xs ys
+  pub order : (us vs : List Word) → xs ≡ spelled us → ys ≡ spelled vs → ordering_of r.order ≡ order_lists us vs
+  pub place : (us vs : List Word) → xs ≡ spelled us → ys ≡ spelled vs → r.place ≡ differ_at order_words us vs

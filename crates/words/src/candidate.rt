@@ -2,7 +2,7 @@
 ghost use Rattle.std.specs.Prelude.{◌≡◌, ℕ, ◌+◌, ◌-◌, ◌≤◌, length, take};
 ghost use Rattle.terms.specs.Compare.{order_numbers};
 ghost use Rattle.terms.specs.Equation.{orient};
-ghost use Rattle.terms.specs.Promises.{ordering_of};
+ghost use Rattle.terms.specs.Promises.{ordering_of, in_order_of};
 ghost use Rattle.words.specs.Decoded.{decoded, factorial, renaming, least_to};
 ghost use Rattle.words.specs.RenameRun.{rename_run};
 ghost use Rattle.words.specs.Renaming.{new_of};
@@ -21,7 +21,7 @@ use super::normal_form::front;
 use renaming::Renaming;
 use std::cmp::Ordering;
 use std::marker::Model;
-use terms::candidate::in_order;
+use terms::candidate::arranged;
 use terms::term;
 
 // The most v letters that are renamed.
@@ -53,11 +53,26 @@ pub fn permutation(c: usize, k: usize, i: u32, out: &mut [u32])
     term::shift(&mut out[..k], c % k, i);
 }
 
+// Terms and lists of words are compared each by a function of their own: that of lists tells the place too, which means nothing in a term's run,
+// where 0 is v0.
+trait Compared {
+    // Which of two runs comes first.
+    fn compare(a: &[u32], b: &[u32]) -> Ordering
+        ensures { ordering_of result ≡ order_numbers a.now b.now };
+}
+
+// Two lent runs, the smaller first: as they came if they are equal.
+fn in_order<'a, S: Compared>(a: &'a [u32], b: &'a [u32]) -> (&'a [u32], &'a [u32])
+    ensures { result ≡ in_order_of (order_numbers a.now b.now) a.entry b.entry }
+{
+    arranged(S::compare(a, b), a, b)
+}
+
 // Which of two equations comes first, by left side, then right.
-fn compare_equations(a: &[u32], b: &[u32], c: &[u32], d: &[u32]) -> Ordering
+fn compare_equations<S: Compared>(a: &[u32], b: &[u32], c: &[u32], d: &[u32]) -> Ordering
     ensures { ordering_of result ≡ ordered a.now b.now c.now d.now }
 {
-    term::compare(a, c).then_with(|| term::compare(b, d))
+    S::compare(a, c).then_with(|| S::compare(b, d))
 }
 
 // A run at the front of a buffer.
@@ -124,7 +139,7 @@ impl<'a> Equation<'a> {
     }
 
     // Nothing on either side again.
-    fn clear(&mut self)
+    pub fn clear(&mut self)
         ensures { self.new ≡ nothing self.old.room }
     {
         self.left_length = 0;
@@ -148,34 +163,34 @@ impl<'a> Equation<'a> {
     }
 
     // Two runs kept, the smaller on the left; nothing where there is no room.
-    pub fn keep<'b>(&mut self, x: &'b [u32], y: &'b [u32])
+    fn keep<'b, S: Compared>(&mut self, x: &'b [u32], y: &'b [u32])
         ensures kept { Keeps x.now y.now self.old.room self.new.sides }
         ensures room { self.new.room ≡ self.old.room }
     {
-        let (left, right) = in_order(x, y);
+        let (left, right) = in_order::<S>(x, y);
         self.store(left, right);
     }
 
     // Two runs kept in place of the equation so far, if they make a lesser one.
-    pub fn keep_lesser<'b>(&mut self, x: &'b [u32], y: &'b [u32])
+    fn keep_lesser<'b, S: Compared>(&mut self, x: &'b [u32], y: &'b [u32])
         ensures kept { KeepsLesser x.now y.now self.old.room self.old.sides self.new.sides }
         ensures room { self.new.room ≡ self.old.room }
     {
-        let (s, t) = in_order(x, y);
-        if compare_equations(self.left(), self.right(), s, t).is_gt() {
+        let (s, t) = in_order::<S>(x, y);
+        if compare_equations::<S>(self.left(), self.right(), s, t).is_gt() {
             self.store(s, t);
         }
     }
 
     // Two runs tried as candidate number c: kept if it is the first, or makes a lesser equation than the best so far.
-    pub fn offer<'b>(&mut self, x: &'b [u32], y: &'b [u32], c: usize)
+    fn offer<'b, S: Compared>(&mut self, x: &'b [u32], y: &'b [u32], c: usize)
         ensures tried { Tries x.now y.now c self.old.room self.old.sides self.new.sides }
         ensures room { self.new.room ≡ self.old.room }
     {
         if c == 0 {
-            self.keep(x, y);
+            self.keep::<S>(x, y);
         } else {
-            self.keep_lesser(x, y);
+            self.keep_lesser::<S>(x, y);
         }
     }
 }
@@ -217,6 +232,14 @@ struct Terms<'a> {
     b: &'a [u32],
 }
 
+impl<'a> Compared for Terms<'a> {
+    fn compare(a: &[u32], b: &[u32]) -> Ordering
+        ensures { ordering_of result ≡ order_numbers a.now b.now }
+    {
+        term::compare(a, b)
+    }
+}
+
 impl<'a> Renamed for Terms<'a> {
     ghost equation = { λ s new. orient order_numbers (rename_run new s.a.now) (rename_run new s.b.now) };
 
@@ -228,7 +251,7 @@ impl<'a> Renamed for Terms<'a> {
         let mut y = [0u32; NODES];
         renaming.rename(self.a, &mut x);
         renaming.rename(self.b, &mut y);
-        best.offer(front(&x, self.a.len()), front(&y, self.b.len()), c);
+        best.offer::<Self>(front(&x, self.a.len()), front(&y, self.b.len()), c);
     }
 }
 

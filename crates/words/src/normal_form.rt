@@ -1,14 +1,14 @@
 // The words of a term: its summands when multiplied out, sorted.
 ghost use Rattle.std.specs.Prelude.{◌≡◌, [], ◌∷◌, ◌++◌, take};
 ghost use Rattle.std.proofs.lemmas.List.Edits.{sets};
-ghost use Rattle.words.specs.Spelled.{word_at};
+ghost use Rattle.words.specs.Spelled.{word_at, ends};
 ghost use Rattle.words.specs.Multiply.{atom_words, PutsWords, JoinsRow, Joins, Multiplies, Expands, MultipliesOut};
 ghost use Rattle.words.specs.WordLists.{WordsOf, ComparesLists};
 
 use super::sort::spell_sorted;
 use std::cmp::Ordering;
 use std::ops::Range;
-use terms::term;
+use terms::difference::first_difference;
 use terms::term::{ADD, ONE, ZERO};
 
 // The most words of a term of 31 nodes.
@@ -172,9 +172,32 @@ pub fn words_of(run: &[u32], out: &mut [u32]) -> usize
     spell_sorted(&words[..SLOT * n], out)
 }
 
-// Which of two lists of words comes first, word by word: the lists are runs as `words_of` writes them.
-pub fn compare_lists(a: &[u32], b: &[u32]) -> Ordering
+// How two lists of words compare, and at which word they part, counted from 0; of equal lists, how many words they have.
+#[derive(Drop)]
+pub struct Parting {
+    pub order: Ordering,
+    pub place: usize,
+}
+
+// How many words end in a part of a spelled list: each does with a 0.
+fn ends(run: &[u32]) -> usize
+    ensures { result ≡ ends run.now }
+{
+    run.iter().filter(|x| **x == 0).count()
+}
+
+// Which of two lists of words comes first, word by word, and where they part: the lists are runs as `words_of` writes them.
+pub fn compare_lists(a: &[u32], b: &[u32]) -> Parting
     ensures { ComparesLists a.now b.now result }
 {
-    term::compare(a, b)
+    match first_difference(a, b) {
+        Some(k) => Parting {
+            order: a.get(k).cmp(&b.get(k)),
+            place: ends(front(a, k)),
+        },
+        None => Parting {
+            order: Ordering::Equal,
+            place: ends(a),
+        },
+    }
 }

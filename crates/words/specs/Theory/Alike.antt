@@ -5,8 +5,8 @@ use Rattle.std.proofs.Math.Path.{ap₂}
 use Rattle.terms.specs.Lists.{◌∈◌, in_left, in_right, append_cases}
 use Rattle.terms.specs.Compare.{Ordering, gt}
 use Rattle.terms.specs.Equation.{Equation, orient}
-use Rattle.terms.specs.Theory.Order.{IsOrder, flip_lt, flip_gt, cases}
-use Rattle.terms.specs.Theory.Equation.{orient_either}
+use Rattle.terms.specs.Theory.Order.{IsOrder, flip_lt, cases}
+use Rattle.terms.specs.Theory.Equation.{orient_either, orient_swap}
 use Rattle.words.specs.Rename.{order_equations}
 use Rattle.words.specs.Theory.Least.{Depends, equation_order}
 use Rattle.words.specs.Theory.Names.{Renaming, unchanged, Image, undo, undone, undoing, joining, Listing, Naming, naming_renaming, naming_gives, as_many, naming_after}
@@ -35,15 +35,6 @@ same_sides (inr (p, q)) (inl (r, s)) = inr (sym q ∙ s, sym p ∙ r)
 same_sides (inr (p, q)) (inr (r, s)) = inl (sym q ∙ s, sym p ∙ r)
 
 module _ {A : Type 0} {o : A → A → Ordering} (O : IsOrder o) where
-  -- sides exchanged orient alike
-  orient_swap : (a b : A) → orient o a b ≡ orient o b a
-  unfolding orient
-  orient_swap a b =
-      cases (o a b)
-      (λ c. let d = flip_lt O c in rw (c, d, orient))
-      (λ c. ap₂ (orient o) (O.tie c) (sym (O.tie c)))
-      (λ c. let d = flip_gt O c in rw (c, d, orient))
-
   neither_above : {x y : A} → (o x y ≢ gt) → (o y x ≢ gt) → x ≡ y
   neither_above {x} {y} p q = cases (o x y) (λ c. absurd (q (flip_lt O c))) O.tie (λ c. absurd (p c))
 

@@ -6,7 +6,7 @@ ghost use Rattle.terms.specs.Compare.{order_numbers};
 ghost use Rattle.terms.specs.Equation.{orient};
 ghost use Rattle.terms.specs.Sort.{lost, insert_all};
 ghost use Rattle.terms.specs.Letters.{variables};
-ghost use Rattle.terms.specs.Promises.{Fills, ListsVariables};
+ghost use Rattle.terms.specs.Promises.{ordering_of, Fills, ListsVariables};
 ghost use Rattle.words.specs.Spelled.{spelled};
 ghost use Rattle.words.specs.Rename.{rename_words};
 ghost use Rattle.words.specs.RenameRun.{rename_run};
@@ -14,10 +14,13 @@ ghost use Rattle.words.specs.Renaming.{new_of};
 ghost use Rattle.words.specs.Multiply.{PutsWords};
 ghost use Rattle.words.specs.WordLists.{slot_words, RenamesWords, WordRoom, CanonicalWords};
 
-use super::super::normal_form::{LONGEST, ROOM, SLOT, front, multiply_out, put_word, word_of};
+use super::super::normal_form::{
+    LONGEST, ROOM, SLOT, compare_lists, front, multiply_out, put_word, word_of,
+};
 use super::super::sort::spell_sorted;
 use super::renaming::Renaming;
-use super::{Equation, MOST_VARIABLES, Renamed, least_renaming};
+use super::{Compared, Equation, MOST_VARIABLES, Renamed, least_renaming};
+use std::cmp::Ordering;
 use terms::term;
 use terms::term::FIXED;
 
@@ -84,6 +87,14 @@ struct WordLists<'a> {
     y: [u32; ROOM],
 }
 
+impl<'a> Compared for WordLists<'a> {
+    fn compare(a: &[u32], b: &[u32]) -> Ordering
+        ensures { ordering_of result ≡ order_numbers a.now b.now }
+    {
+        compare_lists(a, b).order
+    }
+}
+
 impl<'a> Renamed for WordLists<'a> {
     ghost equation = { λ s new. orient order_numbers (spelled (rename_words new (slot_words s.u.now))) (spelled (rename_words new (slot_words s.v.now))) };
 
@@ -96,7 +107,7 @@ impl<'a> Renamed for WordLists<'a> {
         }
         let m = renaming.rename_words(self.u, &mut self.slots, &mut self.x);
         let n = renaming.rename_words(self.v, &mut self.slots, &mut self.y);
-        best.offer(&self.x[..m], &self.y[..n], c);
+        best.offer::<Self>(&self.x[..m], &self.y[..n], c);
     }
 }
 

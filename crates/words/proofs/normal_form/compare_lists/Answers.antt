@@ -1,7 +1,13 @@
--- The order of the runs is that of the lists (`spelled_order`).
-use Rattle.std.proofs.Common.{◌∙◌}
-use Rattle.words.specs.Theory.Spelled.{spelled_order}
+-- `compare_lists` tells order and place by the first number that differs.
+use Rattle.std.proofs.Common.{◌∙◌, ap}
+use Rattle.words.specs.Spelled.{ends}
+use Rattle.words.proofs.Partings.{parted_at, parted_nowhere}
 use Rattle.words.proofs.normal_form.compare_lists.Goals as goal
 
-pub returns : goal.returns
-returns c = record { exact = λ us vs p q. c.compare.ensures.numbers ∙ rw (p, q) (spelled_order us vs) }
+pub returns-in-Some : goal.returns-in-Some
+returns-in-Some c =
+    parted_at c.in-Some.k c.in-Some.ensures c.get.result c.get-in-Some.result c.get.ensures.lookup c.get-in-Some.ensures.lookup c.cmp.result c.cmp.ensures
+    (c.ends.ensures ∙ ap ends c.front.ensures)
+
+pub returns-in-None : goal.returns-in-None
+returns-in-None c = parted_nowhere c.in-None.ensures c.ends-in-None.ensures

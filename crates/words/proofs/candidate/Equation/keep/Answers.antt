@@ -3,4 +3,4 @@ use Rattle.words.proofs.Kept.{in_order, kept}
 use Rattle.words.proofs.candidate.Equation.keep.Goals as goal
 
 pub returns-clause-kept : goal.returns-clause-kept
-returns-clause-kept c = kept (in_order c.in_order.ensures) c.store.ensures.stored
+returns-clause-kept o c = kept (in_order c.args.x c.args.y c.in_order.ensures) c.store.ensures.stored
