@@ -25,6 +25,7 @@ use Rattle.text.specs.FindJob.{layouts, every, in_place, all_small}
 use Rattle.text.specs.StepText.{law_name, direction, place}
 use Rattle.text.specs.Proof.{proof}
 use Rattle.text.specs.Find.{uses, searched}
+use Rattle.text.specs.Words.{differ_line}
 use Rattle.text.specs.Rename.{word_lines}
 
 -- what an item stands for, how a letter is written, and which letters of a list refusal 4 counts and RENAME renames
@@ -167,10 +168,11 @@ module _ (R : Rule) where
   word_list (w ∷ ws) = parted (code ";") (map word (w ∷ ws))
 
   unfoldable pub words_text : List Word → List Word → List ℕ
-  unfolding flatten field yes_no word_list orient lexicographic
+  unfolding flatten field yes_no word_list orient lexicographic differ_line
   words_text u v =
       let e = orient order_lists u v in
-      flatten (field "same=" (yes_no (compare_is_eq (order_lists u v))) ∷ field "left=" (word_list e.left) ∷ field "right=" (word_list e.right) ∷ [])
+      let same = compare_is_eq (order_lists u v) in
+      flatten (field "same=" (yes_no same) ∷ field "left=" (word_list e.left) ∷ field "right=" (word_list e.right) ∷ []) ++ differ_line same u v
 
   unfoldable pub words_entry : (job : List ℕ) (room : ℕ) → Answer (List ℕ)
   unfolding ◌>>=◌ read_job words_with words_text fitting

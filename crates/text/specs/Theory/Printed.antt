@@ -64,7 +64,7 @@ term_lines_apart d e dl dr el er p =
 
 -- letters: none has a space or the byte that parts words
 
-number_apart : (m n : ℕ) → number m ≡ number n → m ≡ n
+pub number_apart : (m n : ℕ) → number m ≡ number n → m ≡ n
 number_apart m n e = let r = sym (read_number_number m) ∙ ap read_number e ∙ read_number_number n in cc
 
 signs_apart : {a b : ℕ} {p q : List ℕ} → (a ≡ b → ⊥) → a ∷ p ≡ b ∷ q → ⊥
@@ -143,7 +143,7 @@ one_apart : (n : ℕ) (ns : Word) → word [] ≡ word (n ∷ ns) → ⊥
 unfolding word ascii
 one_apart n ns e = let (b, bs, f, h) = letters_first n ns in signs_apart (λ z. omega arith) (e ∙ f)
 
-word_apart : (u v : Word) → word u ≡ word v → u ≡ v
+pub word_apart : (u v : Word) → word u ≡ word v → u ≡ v
 word_apart [] [] e = refl
 word_apart [] (n ∷ v) e = absurd (one_apart n v e)
 word_apart (m ∷ u) [] e = absurd (one_apart m u (sym e))
@@ -163,7 +163,7 @@ word_least (n ∷ ns) =
 
 -- lists of words
 
-list_pieces : (w : Word) (ws : List Word) → pieces (code ";") (word_list (w ∷ ws)) ≡ map word (w ∷ ws)
+pub list_pieces : (w : Word) (ws : List Word) → pieces (code ";") (word_list (w ∷ ws)) ≡ map word (w ∷ ws)
 unfolding word_list
 list_pieces w ws =
     pieces_parted (code ";") (word w) (map word ws) (each_mapped (λ q. code ";" ∈ q → ⊥) word (λ v i. word_unmarked v (code ";") i refl) (w ∷ ws))
@@ -182,7 +182,7 @@ unfolding word_list ascii
 list_first [] = (code "0", [], refl, omega arith)
 list_first (w ∷ ws) = let (b, bs, e, h) = some_first w ws in (b, bs, e, omega arith)
 
-none_apart : (w : Word) (ws : List Word) → word_list [] ≡ word_list (w ∷ ws) → ⊥
+pub none_apart : (w : Word) (ws : List Word) → word_list [] ≡ word_list (w ∷ ws) → ⊥
 unfolding word_list ascii
 none_apart w ws e =
     let (b, bs, f, h) = some_first w ws in

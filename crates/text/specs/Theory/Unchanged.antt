@@ -33,7 +33,7 @@ use Rattle.text.specs.Job.{Job, read_job, Accepted}
 use Rattle.text.specs.FindJob.{read_find}
 use Rattle.text.specs.StepText.{step_value}
 use Rattle.text.specs.Find.{step, outcome_lines, outcome_text, searched, alone, block, together, find}
-use Rattle.text.specs.Words.{word, word_list, lists_text, words_text, words_entry}
+use Rattle.text.specs.Words.{word, word_list, lists_text, differ_line, words_text, words_entry}
 use Rattle.text.specs.Rename.{term_lines, word_lines, renamed_words, rename_entry}
 use Rattle.text.specs.Rule as by
 use Rattle.text.specs.Former.{former, Plain, Without, FindUnchanged, WordsUnchanged, RenameUnchanged}
@@ -94,7 +94,8 @@ unfolding words_text lists_text by.words_text
 text_same u v h k =
     let (left, right) = orient_either (λ a b. PlainWords a × PlainWords b) order_lists u v (h, k) (k, h) in
     let e = orient order_lists u v in
-    ap₂ (λ l r. flatten (field "same=" (yes_no (compare_is_eq (order_lists u v))) ∷ field "left=" l ∷ field "right=" r ∷ []))
+    let same = compare_is_eq (order_lists u v) in
+    ap₂ (λ l r. flatten (field "same=" (yes_no same) ∷ field "left=" l ∷ field "right=" r ∷ []) ++ differ_line same u v)
     (list_same e.left left) (list_same e.right right)
 
 pub words_unchanged : WordsUnchanged

@@ -1,4 +1,4 @@
-// WORDS: the words of both sides, the smaller list first, and whether they are the same.
+// WORDS: the words of both sides, the smaller list first, whether they are the same, and where they part.
 ghost use Rattle.std.specs.Prelude.{◌≡◌, List, ◌≤◌, length};
 ghost use Rattle.terms.specs.Term.{Term, size};
 ghost use Rattle.terms.specs.Held.{IsRun};
@@ -13,7 +13,7 @@ use super::{Sides, answered};
 use crate::put::{Text, WordsOf};
 use crate::refusal::Refusal;
 use crate::writer::Writer;
-use std::cmp::Ordering;
+use terms::candidate::arranged;
 use words::normal_form::{ROOM, compare_lists, words_of};
 
 // Two lists of words in this order, and whether they are the same.
@@ -34,10 +34,12 @@ impl<'a> Text for Lists<'a> {
 
     fn put(&self, w: &mut Writer<'_>) {
         let Sides { left, right } = self.0;
-        match compare_lists(left, right) {
-            Ordering::Less => put_lists(w, false, left, right),
-            Ordering::Equal => put_lists(w, true, left, right),
-            Ordering::Greater => put_lists(w, false, right, left),
+        let parting = compare_lists(left, right);
+        let same = parting.order.is_eq();
+        let (first, second) = arranged(parting.order, left, right);
+        put_lists(w, same, first, second);
+        if !same {
+            w.line(b"differ=", &parting.place);
         }
     }
 }

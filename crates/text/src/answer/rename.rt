@@ -17,7 +17,6 @@ use crate::put::{TermOf, Text, WordsOf};
 use crate::refusal::Refusal;
 use crate::writer::Writer;
 use search::search::LARGEST;
-use std::cmp::Ordering;
 use words::candidate;
 use words::candidate::canonical_terms;
 use words::candidate::words::canonical_words;
@@ -58,7 +57,7 @@ pub fn same_words(sides: Sides<'_>) -> bool
     let mut b = [0u32; ROOM];
     let m = words_of(sides.left, &mut a);
     let n = words_of(sides.right, &mut b);
-    compare_lists(&a[..m], &b[..n]) == Ordering::Equal
+    compare_lists(&a[..m], &b[..n]).order.is_eq()
 }
 
 // The lists of words renamed, where they differ.

@@ -16,6 +16,7 @@ use search::bounded_search::Limits;
 use search::search::LARGEST;
 use search::slots;
 use search::slots::SlotRun;
+use terms::candidate::in_order;
 use terms::term;
 use words::candidate::Equation;
 
@@ -64,7 +65,8 @@ fn orient(a: &[u32], rights: &mut [u32]) -> Run
     let mut smaller = [0u32; LARGEST];
     let mut larger = [0u32; LARGEST];
     let mut sides = Equation::new(&mut smaller, &mut larger);
-    sides.keep(a, slots::run_of(rights, 0));
+    let (s, t) = in_order(a, slots::run_of(rights, 0));
+    sides.store(s, t);
     let other = SlotRun {
         numbers: sides.right(),
     };

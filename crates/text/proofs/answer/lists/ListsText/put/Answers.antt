@@ -1,14 +1,22 @@
--- The answer meets its contract: an arm for each order of the lists.
-use mathlib.Core.Path.{sym, ◌∙◌}
-use Rattle.text.proofs.Writing.{put_as}
-use Rattle.text.proofs.WordLines.{words_less, words_equal, words_greater}
+-- The answer meets its contract: the lists in order, and where they part, if they do.
+use Rattle.std.proofs.Common.{sym, ◌∙◌, refl}
+use Rattle.text.specs.Bytes.{ascii, number}
+use Rattle.text.proofs.Writing.{then, put_as}
+use Rattle.text.proofs.WordLines.{lists_in_order, words_alike, words_parted}
 use Rattle.text.proofs.answer.lists.ListsText.put.Goals as goal
 
-pub returns-in-Less : goal.returns-in-Less
-returns-in-Less c = λ t (us, vs, u, v, e). put_as (words_less c.compare_lists.ensures us vs u v c.in-Less.is ∙ sym e) (c.put_lists.ensures us vs u v)
+pub returns-then-not-same : goal.returns-then-not-same
+unfolding ascii
+returns-then-not-same c = λ t (us, vs, u, v, e).
+    let lists = c.args.self.now.0 in
+    let p = c.compare_lists-parting.ensures in
+    let (l, r) = lists_in_order lists.left lists.right p us vs u v c.arranged.ensures in
+    put_as (words_parted p us vs u v c.is_eq-same.ensures c.if-not-same.true ∙ sym e)
+    (then (c.put_lists.ensures _ _ l r) (c.line.ensures (number c.compare_lists-parting.result.place) refl))
 
-pub returns-in-Equal : goal.returns-in-Equal
-returns-in-Equal c = λ t (us, vs, u, v, e). put_as (words_equal c.compare_lists.ensures us vs u v c.in-Equal.is ∙ sym e) (c.put_lists-in-Equal.ensures us vs u v)
-
-pub returns-in-Greater : goal.returns-in-Greater
-returns-in-Greater c = λ t (us, vs, u, v, e). put_as (words_greater c.compare_lists.ensures us vs u v c.in-Greater.is ∙ sym e) (c.put_lists-in-Greater.ensures vs us v u)
+pub returns-else-not-same : goal.returns-else-not-same
+returns-else-not-same c = λ t (us, vs, u, v, e).
+    let lists = c.args.self.now.0 in
+    let p = c.compare_lists-parting.ensures in
+    let (l, r) = lists_in_order lists.left lists.right p us vs u v c.arranged.ensures in
+    put_as (words_alike p us vs u v c.is_eq-same.ensures c.if-not-same.false ∙ sym e) (c.put_lists.ensures _ _ l r)
