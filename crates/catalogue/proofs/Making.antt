@@ -1,10 +1,10 @@
 -- The lists of an entry, as they are made.
-use Rattle.std.proofs.Common.{◌≡◌, ℕ, ◌≤◌, Bool, true, false, List, [], length, sym, ap, ◌∙◌, inl, inr, arith}
+use Rattle.std.proofs.Common.{◌≡◌, ℕ, ◌≤◌, Bool, true, false, List, length, sym, ap, ◌∙◌, inl, inr, arith}
 use lib.Dec.{compare_is_eq}
 use Rattle.terms.specs.Term.{Term, size}
 use Rattle.terms.specs.Held.{IsRun}
 use Rattle.words.specs.Words.{words, order_lists}
-use Rattle.words.specs.Candidate.{Sides, Keeps, CanonicalTerms}
+use Rattle.words.specs.Candidate.{Sides, nothing, CanonicalTerms}
 use Rattle.words.specs.WordLists.{CanonicalWords}
 use Rattle.catalogue.specs.Texts.{lines_by}
 use Rattle.catalogue.specs.Promises.{MakesLists}
@@ -28,14 +28,13 @@ module _ {xs ys : List ℕ} {room : ℕ} {e : Sides} where
       }
 
   -- nothing where the words agree
-  pub nothing_made : (b : Bool) → Agree xs ys b → b ≡ true → Keeps [] [] room e → MakesLists Words xs ys room e
+  pub nothing_made : (b : Bool) → Agree xs ys b → b ≡ true → e ≡ (nothing room).sides → MakesLists Words xs ys room e
   unfolding lines_by
   nothing_made b A h K =
       record {
         exact = λ j p q F enough.
             let same = sym (A j.left j.right p q F.small_left F.small_right) ∙ h in
-            rw (K.exact 0 (record { first = omega arith; second = omega arith; sides = omega arith }))
-            (record { lines = inl (agreed_lists (words j.left) (words j.right) same); left_room = omega arith; right_room = omega arith });
+            rw K (record { lines = inl (agreed_lists (words j.left) (words j.right) same); left_room = omega arith; right_room = omega arith });
       }
 
   -- otherwise the renamed lists of words

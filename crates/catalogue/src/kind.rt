@@ -31,7 +31,7 @@ pub fn lists_of(key: Key, sides: Sides<'_>, lists: &mut Equation<'_>)
     let Sides { left, right } = sides;
     match key {
         Key::Raw => canonical_terms(left, right, lists),
-        Key::Words if same_words(Sides { left, right }) => lists.keep(&[], &[]),
+        Key::Words if same_words(Sides { left, right }) => lists.clear(),
         Key::Words => canonical_words(left, right, lists),
     }
 }
