@@ -4,6 +4,7 @@ pub mod catalogue;
 mod check;
 mod fixed;
 mod many;
+mod parted;
 
 use crate::plain::job;
 use crate::{About, Call, Entry, Given, PROGRAM_ROOM, PROGRAM_SLOTS, checked};
@@ -49,6 +50,14 @@ fn call(entry: Entry, sides: [&str; 2], limits: Limits) -> Call {
         room: PROGRAM_ROOM,
         job: job::write(&[left, right, steps, size, depth, nodes]),
     }
+}
+
+fn words(name: &'static str, sides: [&str; 2], due: Due) -> Case {
+    case(name, call(Entry::Words, sides, LIMITS), due)
+}
+
+fn rename(name: &'static str, sides: [&str; 2], due: Due) -> Case {
+    case(name, call(Entry::Rename, sides, LIMITS), due)
 }
 
 fn case(name: &'static str, call: Call, due: Due) -> Case {
@@ -115,7 +124,7 @@ macro_rules! none {
 use none;
 
 /// The cases about these, or about all if none is said: those of document 01 with the examples of its table of
-/// refusals, those for several right sides, those for CHECK, and those with c letters.
+/// refusals and of where lists part, those for several right sides, those for CHECK, and those with c letters.
 pub fn cases(about: &[About]) -> Vec<Case> {
     let is_meant = |one: About| one.is_among(about);
     let mut all = Vec::new();
@@ -124,6 +133,7 @@ pub fn cases(about: &[About]) -> Vec<Case> {
         all.extend(listed());
         all.extend(refused());
         all.extend(bounds());
+        all.extend(parted::cases());
     }
     if is_meant(About::Many) {
         all.extend(many::cases());
@@ -162,30 +172,14 @@ fn searched() -> Vec<Case> {
     ]
 }
 
+#[rustfmt::skip]
 fn listed() -> Vec<Case> {
-    let words = |sides| call(Entry::Words, sides, LIMITS);
-    let rename = |sides| call(Entry::Rename, sides, LIMITS);
+    const F: &str = "* + v0 1 + v1 0";
     vec![
-        case(
-            "F and G",
-            words(["* + v0 1 + v1 0", "+ 1 1"]),
-            Ok("same=no\nleft=1;1\nright=v0 v1;v1\n"),
-        ),
-        case(
-            "F, equal words",
-            words(["* + v0 1 + v1 0", "+ v1 * v0 v1"]),
-            Ok("same=yes\nleft=v0 v1;v1\nright=v0 v1;v1\n"),
-        ),
-        case(
-            "G, equal words",
-            words(["+ 1 1", "+ 1 * 1 1"]),
-            Ok("same=yes\nleft=1;1\nright=1;1\n"),
-        ),
-        case(
-            "H",
-            rename(["* v5 v2", "v2"]),
-            Ok("left=v0\nright=* v1 v0\nwleft=v0\nwright=v1 v0\n"),
-        ),
+        words("F and G", [F, "+ 1 1"], Ok("same=no\nleft=1;1\nright=v0 v1;v1\ndiffer=0\n")),
+        words("F, equal words", [F, "+ v1 * v0 v1"], Ok("same=yes\nleft=v0 v1;v1\nright=v0 v1;v1\n")),
+        words("G, equal words", ["+ 1 1", "+ 1 * 1 1"], Ok("same=yes\nleft=1;1\nright=1;1\n")),
+        rename("H", ["* v5 v2", "v2"], Ok("left=v0\nright=* v1 v0\nwleft=v0\nwright=v1 v0\n")),
     ]
 }
 
@@ -197,7 +191,7 @@ fn refused() -> Vec<Case> {
     vec![
         case("1, empty input", Call { job: Vec::new(), ..find_a() }, Err(1)),
         find("2, a sum short of a part", ["+ v0", "v0"], LIMITS, Err(2)),
-        find("3, 33 nodes", [&sum_of(17), "v0"], LIMITS, Err(3)),
+        find("3, 33 nodes", [&sum_of("v0", 17), "v0"], LIMITS, Err(3)),
         find("4, seven letters", [seven, "0"], LIMITS, Err(4)),
         find("5, 17 steps", A, ["17", "7", "3", "1000"], Err(5)),
         find("6, equal sides", ["v0", "v0"], LIMITS, Err(6)),
@@ -213,17 +207,16 @@ fn bounds() -> Vec<Case> {
         proof=(lam x0 (app (ref add_zero_right) (ref x0)))\n",
     );
     let sixteen = Ok("same=no\nleft=v0\n\
-        right=v0;v0;v0;v0;v0;v0;v0;v0;v0;v0;v0;v0;v0;v0;v0;v0\n");
-    let words = |sides| call(Entry::Words, sides, LIMITS);
+        right=v0;v0;v0;v0;v0;v0;v0;v0;v0;v0;v0;v0;v0;v0;v0;v0\ndiffer=1\n");
     vec![
-        case("31 nodes", words([&sum_of(16), "v0"]), sixteen),
-        case("33 nodes", words([&sum_of(17), "v0"]), Err(3)),
+        words("31 nodes", [&sum_of("v0", 16), "v0"], sixteen),
+        words("33 nodes", [&sum_of("v0", 17), "v0"], Err(3)),
         find("v999", ["v999", "+ v999 0"], LIMITS, proved),
         find("v1000", ["v1000", "+ v1000 0"], LIMITS, Err(2)),
     ]
 }
 
-/// v0 summed this often.
-fn sum_of(count: usize) -> String {
-    format!("{}v0", "+ v0 ".repeat(count - 1))
+/// The item summed this often.
+fn sum_of(item: &str, count: usize) -> String {
+    format!("+ {item} ").repeat(count - 1) + item
 }

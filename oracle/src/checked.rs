@@ -4,10 +4,12 @@
 mod cut;
 mod derived;
 mod kinds;
+mod words;
 
 use std::fmt;
 
 use crate::plain::nones::without_cut;
+use crate::plain::parted::last_line_off;
 use crate::plain::{self, Block, MOST_SLOTS, joined};
 use crate::{Call, Entry, Given, rust};
 
@@ -45,9 +47,7 @@ fn of_job(call: &Call) -> Result<Given, Box<Difference>> {
     let blocks = plain::blocks(entry, job, usize::MAX);
     let whole = blocks.clone();
     let whole = whole.and_then(|blocks| joined(&blocks, usize::MAX));
-    let uncut = whole.clone().map(|text| without_cut(&text));
-    let what = "plain without `cut` and Rust, slots and room enough";
-    same(call, what, &uncut, &rust::answer(entry, job))?;
+    beside_rust(call, &whole)?;
     if entry == Entry::Find
         && let Ok(blocks) = &blocks
     {
@@ -64,6 +64,21 @@ fn of_job(call: &Call) -> Result<Given, Box<Difference>> {
     let what = "plain and what is due with these slots and this room";
     same(call, what, &given, &due)?;
     Ok(given)
+}
+
+/// Holds an answer to a job, slots and room enough, to the Rust's: without the `cut` lines of FIND's nones, and
+/// without the last line of WORDS where it says no, which is held to the Rust's lists.
+pub fn beside_rust(call: &Call, whole: &Given) -> Result<(), Box<Difference>> {
+    let shared = whole.clone().map(|text| match call.entry {
+        Entry::Words => last_line_off(&text).0.to_vec(),
+        _ => without_cut(&text),
+    });
+    let what = "plain without `cut` and `differ`, and Rust, slots and room enough";
+    same(call, what, &shared, &rust::answer(call.entry, &call.job))?;
+    match (call.entry, whole) {
+        (Entry::Words, Ok(text)) => words::hold(call, text),
+        _ => Ok(()),
+    }
 }
 
 fn same(

@@ -1,6 +1,7 @@
 //! Counts of what calls gave, by kind, entry and answer.
 
 mod names;
+mod parted;
 mod plays;
 
 use std::collections::BTreeMap;
@@ -11,6 +12,7 @@ use crate::plain::nones::nones;
 use crate::{Call, Entry, Given};
 
 pub use names::NameTally;
+use parted::Parted;
 pub use plays::PlayTally;
 
 /// How often each key was counted.
@@ -25,6 +27,7 @@ pub struct Tally {
     blocks: Counts,
     paths: BTreeMap<usize, usize>,
     cuts: Cuts,
+    parted: Parted,
     /// The step lines of good derivations.
     chains: BTreeMap<usize, usize>,
 }
@@ -68,12 +71,14 @@ impl Tally {
             *counts.entry(outcome.clone()).or_default() += 1;
         }
         let Ok(text) = given else { return };
-        if call.entry == Entry::Find {
-            self.cuts.count(&call.job, text);
-        }
-        if call.entry == Entry::Check {
-            let lines = values(&call.job, "step=").count();
-            *self.chains.entry(lines).or_default() += 1;
+        match call.entry {
+            Entry::Find => self.cuts.count(&call.job, text),
+            Entry::Words => self.parted.count(text),
+            Entry::Rename => {}
+            Entry::Check => {
+                let lines = values(&call.job, "step=").count();
+                *self.chains.entry(lines).or_default() += 1;
+            }
         }
         let blocks = outcomes(text);
         if blocks.len() > 1 {
@@ -99,6 +104,7 @@ impl Tally {
         add(&mut self.blocks, other.blocks);
         add(&mut self.paths, other.paths);
         self.cuts.add(&other.cuts);
+        self.parted.add(&other.parted);
         add(&mut self.chains, other.chains);
     }
 }
@@ -163,6 +169,7 @@ impl fmt::Display for Tally {
             show_each(&self.paths)
         )?;
         writeln!(out, "{}", self.cuts)?;
+        writeln!(out, "{}", self.parted)?;
         let lines: usize = self.chains.iter().map(|(lines, count)| lines * count).sum();
         let most = self.chains.keys().max().unwrap_or(&0);
         writeln!(

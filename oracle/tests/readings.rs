@@ -167,11 +167,15 @@ fn slots_and_room_are_upper_bounds() {
 fn lists_and_renamings() {
     let answers = [
         (Entry::Words, ["0", "* 0 v3"], "same=yes\nleft=0\nright=0\n"),
-        (Entry::Words, ["1", "0"], "same=no\nleft=0\nright=1\n"),
+        (
+            Entry::Words,
+            ["1", "0"],
+            "same=no\nleft=0\nright=1\ndiffer=0\n",
+        ),
         (
             Entry::Words,
             ["+ v2 * v1 v9", "v1"],
-            "same=no\nleft=v1\nright=v1 v9;v2\n",
+            "same=no\nleft=v1\nright=v1 v9;v2\ndiffer=0\n",
         ),
         (
             Entry::Rename,

@@ -192,9 +192,8 @@ fn word_kinds() -> Play {
 /// 64 entries of 32 kinds, one more, and a place that is free again.
 fn full() -> Play {
     let sum = |number: usize| {
-        let (length, letter) = (number.div_ceil(4), number % 2);
-        let sum = sum_of(length);
-        sum.replace("v0", ["v0", "v7"][letter])
+        let letter = ["v0", "v7"][number % 2];
+        sum_of(letter, number.div_ceil(4))
     };
     let key = |number: usize| ["raw", "words"][number / 2 % 2];
     let one = |number: usize, due| put(number, key(number), ["1", &sum(number)], due);

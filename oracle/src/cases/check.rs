@@ -50,7 +50,7 @@ fn a(name: &'static str, step: &str, due: Due) -> Case {
 
 #[rustfmt::skip]
 fn good() -> Vec<Case> {
-    let sum_31 = sum_of(16);
+    let sum_31 = sum_of("v0", 16);
     let deep = format!("{}{}v0", "+ ".repeat(15), "v0 ".repeat(15));
     let at_the_end = |sum: &str, place: &str| format!("add_comm forward at={place} to={sum}");
     vec![
@@ -153,7 +153,7 @@ fn no_terms() -> Vec<Case> {
 
 #[rustfmt::skip]
 fn large() -> Vec<Case> {
-    let sum_33 = sum_of(17);
+    let sum_33 = sum_of("v0", 17);
     vec![
         steps("3, left of 33 nodes", [&sum_33, "+ v0 0"], &[A], Err(3)),
         steps("3, right of 33 nodes", ["v0", &sum_33], &[A], Err(3)),
@@ -201,7 +201,7 @@ fn no_chains() -> Vec<Case> {
 /// Several reasons, of which the first that is looked at counts; room.
 #[rustfmt::skip]
 fn ordered() -> Vec<Case> {
-    let sum_33 = sum_of(17);
+    let sum_33 = sum_of("v0", 17);
     let (seven, short) = ("+ + + + + + v0 v1 v2 v3 v4 v5 v6", "add_zero_right forward at=l to=+ v0 0");
     let with_room = |room, step| check_a(step, room);
     vec![

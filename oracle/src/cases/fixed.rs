@@ -2,7 +2,7 @@
 
 use super::check::steps;
 use super::many::{blocks, several};
-use super::{A_PROVED, Case, Due, LIMITS, Limits, call, case, find, none};
+use super::{A_PROVED, Case, Due, Limits, call, case, find, none, rename, words};
 use crate::Entry;
 
 const GOOD: Due = Ok("answer=good\n");
@@ -21,19 +21,11 @@ pub fn cases() -> Vec<Case> {
     all
 }
 
-fn words(name: &'static str, sides: [&str; 2], due: Due) -> Case {
-    case(name, call(Entry::Words, sides, LIMITS), due)
-}
-
-fn rename(name: &'static str, sides: [&str; 2], due: Due) -> Case {
-    case(name, call(Entry::Rename, sides, LIMITS), due)
-}
-
 #[rustfmt::skip]
 fn read() -> Vec<Case> {
     let none = |name, value| words(name, [value, "v0"], Err(2));
     vec![
-        words("c0 and c99", ["c99", "c0"], Ok("same=no\nleft=c0\nright=c99\n")),
+        words("c0 and c99", ["c99", "c0"], Ok("same=no\nleft=c0\nright=c99\ndiffer=0\n")),
         none("2, c100", "c100"),
         none("2, c00", "c00"),
         none("2, c07", "c07"),
@@ -47,6 +39,7 @@ fn read() -> Vec<Case> {
         none("2, v1000 beside c letters", "v1000"),
         none("2, v1099", "v1099"),
         none("2, c100 in a sum", "+ c1 c100"),
+        rename("2, RENAME of c100", ["+ c1 c100", "v0"], Err(2)),
     ]
 }
 
@@ -62,9 +55,12 @@ fn ordered() -> Vec<Case> {
         find("c99 before 0", ["0", "c99"], NO_LIMITS, none!("c99", "0", "0", "no")),
         find("c7 before 0, one step", ["0", "c7"], ["1", "0", "0", "0"], none!("c7", "0", "0", "yes")),
         find("named behind v letters", ["+ c2 v7", "+ v7 c2"], NO_LIMITS, proved),
-        words("words by number", ["0", "+ c99 * v999 c0"], Ok("same=no\nleft=0\nright=v999 c0;c99\n")),
-        words("c letters do not commute", ["* c1 c0", "* c0 c1"], Ok("same=no\nleft=c0 c1\nright=c1 c0\n")),
+        words("words by number", ["0", "+ c99 * v999 c0"], Ok("same=no\nleft=0\nright=v999 c0;c99\ndiffer=0\n")),
+        words("c letters do not commute", ["* c1 c0", "* c0 c1"], Ok("same=no\nleft=c0 c1\nright=c1 c0\ndiffer=0\n")),
         words("equal words", ["+ c1 v1", "+ v1 * 1 c1"], Ok("same=yes\nleft=v1;c1\nright=v1;c1\n")),
+        words("parted at a c letter", ["+ c2 v1", "+ c1 v1"], Ok("same=no\nleft=v1;c1\nright=v1;c2\ndiffer=1\n")),
+        words("parted at c9 and c10", ["+ c10 c2", "+ c2 c9"], Ok("same=no\nleft=c2;c9\nright=c2;c10\ndiffer=1\n")),
+        words("a beginning, then a c letter", ["+ c1 + v1 v1", "+ v1 v1"], Ok("same=no\nleft=v1;v1\nright=v1;v1;c1\ndiffer=2\n")),
     ]
 }
 
@@ -77,10 +73,10 @@ fn counted() -> Vec<Case> {
     let six_and_ten = "+ v0 + v1 + v2 + v3 + v4 + v5 + c0 + c1 + c2 + c3 + c4 + c5 + c6 + c7 + c8 c9";
     let sixteen = "+ c84 + c85 + c86 + c87 + c88 + c89 + c90 + c91 + c92 + c93 + c94 + c95 + c96 + c97 + c98 c99";
     let all = Ok("same=no\nleft=v0;v1;v2;v3;v4;v5;c0;c1;c2;c3;c4;c5;c6;c7;c8;c9\n\
-        right=c84;c85;c86;c87;c88;c89;c90;c91;c92;c93;c94;c95;c96;c97;c98;c99\n");
+        right=c84;c85;c86;c87;c88;c89;c90;c91;c92;c93;c94;c95;c96;c97;c98;c99\ndiffer=0\n");
     vec![
-        words("two v letters and five c letters", [five, "+ v0 v1"], Ok("same=no\nleft=v0;v1\nright=c0;c1;c2;c3;c4\n")),
-        words("six v letters and one c letter", [&with_c, "0"], Ok("same=no\nleft=0\nright=v0;v1;v2;v3;v4;v5;c0\n")),
+        words("two v letters and five c letters", [five, "+ v0 v1"], Ok("same=no\nleft=v0;v1\nright=c0;c1;c2;c3;c4\ndiffer=0\n")),
+        words("six v letters and one c letter", [&with_c, "0"], Ok("same=no\nleft=0\nright=v0;v1;v2;v3;v4;v5;c0\ndiffer=0\n")),
         words("4, seven v letters and one c letter", [&with_seven, "0"], Err(4)),
         words("4, the seventh v letter on the other side", [&with_c, "* c1 v6"], Err(4)),
         words("32 letters", [sixteen, six_and_ten], all),

@@ -145,7 +145,7 @@ fn scarce() -> Vec<Case> {
 
 /// One right side that refuses the whole job, among good ones.
 fn refused() -> Vec<Case> {
-    let nodes_33 = sum_of(17);
+    let nodes_33 = sum_of("v0", 17);
     let six = "+ v1 + v2 + v3 + v4 + v5 v6";
     let among = |right| several("v0", &[A, right, D], LIMITS);
     vec![
@@ -174,7 +174,7 @@ fn refused() -> Vec<Case> {
 
 /// Several reasons, of which the first that is looked at counts.
 fn ordered() -> Vec<Case> {
-    let nodes_33 = sum_of(17);
+    let nodes_33 = sum_of("v0", 17);
     let mut rights = [A; 17];
     rights[16] = "+ v0";
     vec![
@@ -268,5 +268,5 @@ fn lengths() -> Vec<Case> {
 
 /// A sum of 31 nodes over one letter of three digits.
 fn largest(letter: usize) -> String {
-    sum_of(16).replace("v0", &format!("v{letter}"))
+    sum_of(&format!("v{letter}"), 16)
 }

@@ -9,7 +9,8 @@ use crate::{Call, Entry};
 
 const LIMITS: [usize; 4] = [3, 7, 3, 100];
 
-fn listed(random: &mut Random, left: &Term, right: &Term) -> Call {
+/// WORDS in two of three calls, else RENAME.
+pub fn listed(random: &mut Random, left: &Term, right: &Term) -> Call {
     let entry = random.pick(&[Entry::Words, Entry::Words, Entry::Rename]);
     let job = Draft::new(left, [right], LIMITS).bytes();
     call(random, entry, job)
@@ -46,7 +47,7 @@ pub fn product_of_sums(random: &mut Random, pool: &[u16]) -> Term {
     Term::of(joined(random, factors, &[PRODUCT]))
 }
 
-fn word_atom(random: &mut Random, pool: &[u16]) -> u16 {
+pub fn word_atom(random: &mut Random, pool: &[u16]) -> u16 {
     match random.below(40) {
         0 => ZERO,
         1..4 => ONE,

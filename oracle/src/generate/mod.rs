@@ -12,6 +12,7 @@ mod listed;
 mod measured;
 mod most;
 mod names;
+mod parted;
 mod plans;
 mod plays;
 mod puts;
@@ -85,7 +86,7 @@ const fn fixed(name: &'static str, share: usize, what: &'static str, make: Make)
 /// The kinds; the shares of those with one right side make a thousand, of those with several, of those for CHECK and
 /// of those with c letters five hundred each.
 #[rustfmt::skip]
-pub const KINDS: [Kind; 72] = [
+pub const KINDS: [Kind; 74] = [
     one("lines", 60, "malformed lines, keys, digits and lengths", broken::lines),
     one("sides", 80, "a side that is no term", refused::sides),
     one("nodes", 40, "sides of 29 nodes and more", refused::nodes),
@@ -101,7 +102,8 @@ pub const KINDS: [Kind; 72] = [
     one("edges", 40, "a limit about what the search takes", searched::edges),
     one("slots", 50, "slots about the number needed", searched::slots),
     one("room", 50, "room about the answer's length", searched::room),
-    one("words", 40, "up to 324 words a side", listed::words),
+    one("words", 20, "up to 324 words a side", listed::words),
+    one("parted", 20, "lists with common words in front, up to 288", parted::parted),
     one("renames", 29, "up to six letters to rename", listed::renames),
     one("heavy", 1, "the largest limits, seconds each", searched::heavy),
     many("plans", 95, "2 to 16 right sides, near and far", plans::plans),
@@ -140,7 +142,8 @@ pub const KINDS: [Kind; 72] = [
     fixed("c-edges", 10, "a limit about what the search takes", searched::edges),
     fixed("c-slots", 10, "slots about the number needed", searched::slots),
     fixed("c-room", 10, "room about the answer's length", searched::room),
-    fixed("c-words", 20, "up to 324 words a side", listed::words),
+    fixed("c-words", 10, "up to 324 words a side", listed::words),
+    fixed("c-parted", 10, "lists with common words in front, up to 288", parted::parted),
     fixed("c-renames", 50, "up to six v letters to rename beside c letters", listed::renames),
     fixed("c-letters", 20, "five to eight v letters, up to 32 letters", refused::many_letters),
     fixed("c-most", 30, "eleven to 32 letters, some sides some lines apart", most::letters),

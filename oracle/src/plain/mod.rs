@@ -8,6 +8,7 @@ pub mod job;
 pub mod law;
 pub mod line;
 pub mod nones;
+pub mod parted;
 pub mod proof;
 pub mod rename;
 pub mod search;

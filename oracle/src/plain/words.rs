@@ -62,10 +62,19 @@ fn show_word(word: &[u16]) -> String {
     letters.join(" ")
 }
 
+/// The first place where the lists differ, counted from 0; none where they are the same. A list that is a beginning
+/// of the other differs from it at its end.
+pub fn first_difference(left: &[Word], right: &[Word]) -> Option<usize> {
+    let places = left.len().max(right.len());
+    (0..places).find(|&place| left.get(place) != right.get(place))
+}
+
 /// The answer of WORDS.
 pub fn words_text(equation: &Equation) -> String {
     let (left, right) = word_lists(equation);
-    let same = if left == right { "yes" } else { "no" };
-    let (left, right) = (show_words(&left), show_words(&right));
-    format!("same={same}\nleft={left}\nright={right}\n")
+    let lists = format!("left={}\nright={}\n", show_words(&left), show_words(&right));
+    match first_difference(&left, &right) {
+        None => format!("same=yes\n{lists}"),
+        Some(place) => format!("same=no\n{lists}differ={place}\n"),
+    }
 }

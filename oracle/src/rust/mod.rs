@@ -20,8 +20,8 @@ use crate::{Entry, Given};
 /// The Rust's variable for c0.
 const FIRST_C: u32 = 1_000;
 
-/// The Rust's answer in document 01's text, to each equation by itself. It has no slots, no room and no `cut`;
-/// the refusals are not its own.
+/// The Rust's answer in document 01's text, to each equation by itself. It has no slots, no room, no `cut` and
+/// no last line of WORDS; the refusals are not its own.
 pub fn answer(entry: Entry, job: &[u8]) -> Given {
     let job = Job::read(entry, job)?;
     let blocks = job.equations.iter();
@@ -106,6 +106,14 @@ fn words_text(equation: &EquationCandidate) -> String {
     };
     let (left, right) = (show_words(&left), show_words(&right));
     format!("same={same}\nleft={left}\nright={right}\n")
+}
+
+/// How many first words the word lists have in common; nothing where they are the same. The Rust prints no such line.
+pub fn parting(equation: &Equation) -> Option<usize> {
+    let lists = candidate(equation).semiring_normalize()?;
+    let [left, right] = [lists.lhs(), lists.rhs()].map(SemiringNormalForm::summands);
+    let words = left.iter().zip(right);
+    Some(words.take_while(|(one, other)| one == other).count())
 }
 
 fn rename_text(equation: &EquationCandidate) -> String {

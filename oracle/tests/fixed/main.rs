@@ -4,5 +4,7 @@
 mod common;
 mod generated;
 mod kept;
+#[path = "../common/kinds.rs"]
+mod kinds;
 mod read;
 mod small;

@@ -10,7 +10,8 @@ use oracle::plain::term::{FIRST_C, ONE, ZERO};
 use oracle::plain::words::words;
 use oracle::rust;
 
-use crate::common::{equations, kinds};
+use crate::common::equations;
+use crate::kinds::kinds;
 
 const ATOMS: [u16; 6] = [3, 8, FIRST_C, FIRST_C + 1, ZERO, ONE];
 

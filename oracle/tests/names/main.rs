@@ -3,6 +3,8 @@
 #[path = "../common/mod.rs"]
 mod common;
 mod judge;
+#[path = "../common/kinds.rs"]
+mod kinds;
 mod pairs;
 mod small;
 mod told;

@@ -8,7 +8,8 @@ use oracle::plain::term::{ONE, Term, ZERO};
 use oracle::plain::words::words;
 use oracle::rust;
 
-use crate::common::{equations, kinds};
+use crate::common::equations;
+use crate::kinds::kinds;
 
 const ATOMS: [u16; 5] = [0, 1, 2, ZERO, ONE];
 

@@ -22,7 +22,7 @@ pub fn plays() -> Vec<Play> {
 fn refused_puts() -> Play {
     let seven = "+ v0 + v1 + v2 + v3 + v4 + v5 v6";
     let six = "+ v0 + v1 + v2 + v3 + v4 v5";
-    let (sum_31, sum_33) = (sum_of(16), sum_of(17));
+    let (sum_31, sum_33) = (sum_of("v0", 16), sum_of("v0", 17));
     let mut calls = Vec::new();
     for key in ["raw", "words"] {
         let limits = |limits: [&str; 4], due| put_as("1", key, A, limits, due);
@@ -105,7 +105,7 @@ fn malformed_withdrawals() -> Play {
 /// A put with every reason to refuse, which are then taken away one by one.
 #[rustfmt::skip]
 fn ordered() -> Play {
-    let (seven, sum_33) = ("+ v1 + v2 + v3 + v4 + v5 + v6 v7", sum_of(17));
+    let (seven, sum_33) = ("+ v1 + v2 + v3 + v4 + v5 + v6 v7", sum_of("v0", 17));
     let mut calls: Vec<_> = (1..=PLACES).map(|number| put(number, "raw", A, 101)).collect();
     let over = ["17", "7", "3", "1000"];
     calls.extend([
