@@ -200,7 +200,10 @@ size_t puvainy_find(const uint8_t *job, size_t job_len,
                     uint8_t *output, size_t output_len,
                     uint32_t *workspace, size_t workspace_len);
 
-/* The words of both sides, and whether they are the same. */
+/* The words of both sides, and whether they are the same: the lines `same=yes` or `same=no`, `left=` and `right=`,
+ * the smaller list first. With `same=no` there is one line more, the last: `differ=K`. K counts words from 0 up to
+ * the first place where the lists differ; a list that is a beginning of the other differs from it at its end. So K is
+ * at most as large as the left list is long, and the right list has a word K. */
 size_t puvainy_words(const uint8_t *job, size_t job_len,
                      uint8_t *output, size_t output_len);
 
