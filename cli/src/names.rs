@@ -99,6 +99,13 @@ impl Names {
         Some(format!("{key}: {spelled}"))
     }
 
+    /// A word of a list for people, if there are names: `word 2 of left: Returns * North stock`.
+    pub fn word(&self, key: &str, word: &str) -> Option<String> {
+        let letters = word.split(' ').map(|item| self.spell(&Term::Atom(item)));
+        let spelled = letters.collect::<Vec<_>>().join(" * ");
+        (!self.0.is_empty()).then(|| format!("{key}: {spelled}"))
+    }
+
     /// The term for people: signs between their parts, brackets about each part that is no letter, names for letters. A name that holds
     /// signs or brackets is quoted.
     pub fn spell(&self, term: &Term) -> String {

@@ -5,7 +5,7 @@ use std::sync::Arc;
 use puvainy::{Buffers, Entry, Room};
 
 use super::blocks::{Block, blocks};
-use super::{Asking, Told, advice};
+use super::{Asking, Told, advice, parting};
 use crate::derivation::Derivation;
 use crate::failure::{Failure, Status};
 use crate::job::Job;
@@ -75,9 +75,13 @@ const TOO_LONG: usize = 8;
 /// What the answer to a job gives.
 fn answered(name: &str, answer: &[u8], bytes: &[u8], asking: &Asking) -> Told {
     let (job, blocks) = (Job::new(asking.entry, bytes), blocks(answer));
+    let said = match asking.entry {
+        Entry::Words => parting::sentences(name, answer, &asking.names),
+        _ => advice::sentences(name, &job, &blocks, asking),
+    };
     Told {
         status: status(&blocks),
-        said: advice::sentences(name, &job, &blocks, asking),
+        said,
         printed: answer.to_vec(),
     }
 }

@@ -4,6 +4,7 @@ mod advice;
 mod asker;
 mod blocks;
 mod crew;
+mod parting;
 mod printer;
 mod progress;
 mod told;

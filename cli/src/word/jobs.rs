@@ -19,7 +19,7 @@ pub const FIND: Word = word(
 
 pub const WORDS: Word = word(
     "words",
-    "the words of both plans when multiplied out, and whether they are the same",
+    "the words of both plans when multiplied out, whether they are the same, and if not, at which word they part",
     |words| run(&WORDS, Entry::Words, words),
 );
 
@@ -45,9 +45,9 @@ const USAGE: &str = "[--slots N] [--room N] [--names FILE] [FILE...]";
 const MORE: &str = "\
 A job is read from each FILE, or from standard input if none is named (or by the FILE -). The answer goes
 to standard output; of several FILEs each after a line `# FILE`, in the order given. What is wrong with a
-refused job, and what to do about it and about a none, is said on standard error. A job of find has 1 to
-16 lines right=, one behind the other, and gets a block of the answer for each; one of words or rename has
-one such line.
+refused job, and what to do about it and about a none, is said on standard error; so is, by words and with
+names, the word at which the lists part. A job of find has 1 to 16 lines right=, one behind the other, and
+gets a block of the answer for each; one of words or rename has one such line.
 
   --slots N     slots for the terms that are noted, 0 to 65535 (65535 unless said); only find uses them
   --room N      bytes of room for an answer, 0 to 33554432 (as many as it needs unless said)

@@ -57,14 +57,14 @@ fn a_bad_job_loses_nothing_of_the_others() {
 #[test]
 fn each_sentence_stands_behind_its_answer() {
     let both = shell("$P words twice.job refused-6.job - swapped-join.job 2>&1 <refused-2.job");
-    let printed = "# twice.job\nsame=no\nleft=v0\nright=v0;v0\n\
+    let printed = "# twice.job\nsame=no\nleft=v0\nright=v0;v0\ndiffer=1\n\
                    # refused-6.job\nanswer=refused\nnumber=6\n\
                    puvainy: refused-6.job: lines 1 and 2: both sides are the same term; \
                    do nothing: there is nothing to derive (refusal 6)\n\
                    # -\nanswer=refused\nnumber=2\n\
                    puvainy: standard input: line 1 (left), behind item 2: a sign lacks a part; \
                    count the parts: each sign has two (refusal 2)\n\
-                   # swapped-join.job\nsame=no\nleft=v0 v1\nright=v1 v0\n";
+                   # swapped-join.job\nsame=no\nleft=v0 v1\nright=v1 v0\ndiffer=0\n";
     assert_eq!((both.status, both.printed.as_str()), (Some(1), printed));
 }
 
@@ -168,10 +168,10 @@ fn names_are_used_on_standard_error_alone() {
         (proved.printed, proved.said.as_str()),
         (stored("archive.answer"), "")
     );
-    let differ = puvainy(&["words", "--names", "names.txt", "twice.job"]);
+    let same = puvainy(&["words", "--names", "names.txt", "archive.job"]);
     assert_eq!(
-        (differ.printed, differ.said.as_str()),
-        (stored("twice.words"), "")
+        (same.printed, same.said.as_str()),
+        (stored("archive.words"), "")
     );
     let wrong = puvainy(&["find", "--names", "archive.job", "archive.job"]);
     assert_eq!((wrong.status, wrong.printed.as_str()), (Some(2), ""));

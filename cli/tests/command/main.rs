@@ -8,6 +8,7 @@ mod fixed;
 mod jobs;
 mod kept;
 mod nones;
+mod parted;
 mod renamed;
 mod several;
 mod shared;
