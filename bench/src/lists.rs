@@ -1,4 +1,4 @@
-//! WORDS and RENAME at their worst cases, beside the Rust, and with c letters beside our own calls without.
+//! WORDS and RENAME at their worst cases, beside the Rust; with c letters beside our own calls without; and WORDS where lists part late.
 
 use std::cell::RefCell;
 use std::hint::black_box;
@@ -36,6 +36,18 @@ const ALIKE_FIXED: Job = Job {
     limits: [0; 4],
 };
 
+/// Lists of 324 words of five letters that part at word 0, and at word 243.
+const EARLY: Job = Job {
+    left: "* + v0 + v1 + v2 v3 * + v0 + v1 v2 * + v3 + v4 v5 * + v0 + v1 v2 + v3 + v4 v5",
+    right: "* + v1 + v2 + v3 v4 * + v0 + v1 v2 * + v3 + v4 v5 * + v0 + v1 v2 + v3 + v4 v5",
+    limits: [0; 4],
+};
+const LATE: Job = Job {
+    left: "* + v0 + v1 + v2 v3 * + v0 + v1 v2 * + v3 + v4 v5 * + v0 + v1 v2 + v3 + v4 v5",
+    right: "* + v0 + v1 + v2 v4 * + v0 + v1 v2 * + v3 + v4 v5 * + v0 + v1 v2 + v3 + v4 v5",
+    limits: [0; 4],
+};
+
 pub fn rows(workspace: &mut Workspace) {
     head("Rust", "ours");
     words("WORDS, 324 words a side", &MANY_WORDS, workspace);
@@ -66,12 +78,15 @@ pub fn rows(workspace: &mut Workspace) {
             [ALIKE, ALIKE_FIXED],
         ),
     ] {
-        fixed(what, entry, rounds, pair, workspace);
+        beside(what, entry, rounds, pair, workspace);
     }
+    head("at word 0", "at word 243");
+    let what = "WORDS, 324 words a side, lists that part";
+    beside(what, Entry::Words, 200, [EARLY, LATE], workspace);
 }
 
-/// One entry on a job without c letters and on one with some.
-fn fixed(what: &str, entry: Entry, rounds: usize, pair: [Job; 2], workspace: &mut Workspace) {
+/// One entry on two jobs.
+fn beside(what: &str, entry: Entry, rounds: usize, pair: [Job; 2], workspace: &mut Workspace) {
     let texts = pair.map(|job| job.text());
     for text in &texts {
         compare(entry, text, workspace);
