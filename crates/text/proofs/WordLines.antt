@@ -38,7 +38,7 @@ is_eq_of Equal = refl
 is_eq_of Greater = refl
 
 module _ {xs ys : List ℕ} {p : Parting} (compared : ComparesLists xs ys p) (us vs : List Word) (u : xs ≡ spelled us) (v : ys ≡ spelled vs) where
-  pub same_words : is_eq p.order ≡ compare_is_eq (order_lists us vs)
+  same_words : is_eq p.order ≡ compare_is_eq (order_lists us vs)
   same_words = is_eq_of p.order ∙ ap compare_is_eq (compared.order us vs u v)
 
   -- WORDS' text, in its lines

@@ -173,7 +173,7 @@ pub fn words_of(run: &[u32], out: &mut [u32]) -> usize
 }
 
 // How two lists of words compare, and at which word they part, counted from 0; of equal lists, how many words they have.
-#[derive(Drop)]
+#[derive(Clone, Copy)]
 pub struct Parting {
     pub order: Ordering,
     pub place: usize,

@@ -4,6 +4,7 @@ ghost use Rattle.terms.specs.Term.{Term, size};
 ghost use Rattle.terms.specs.Held.{IsRun};
 ghost use Rattle.words.specs.Words.{Word, words};
 ghost use Rattle.words.specs.Spelled.{spelled};
+ghost use Rattle.words.specs.WordLists.{ComparesLists};
 ghost use Rattle.text.specs.Answer.{fitting};
 ghost use Rattle.text.specs.Words.{words_text, lists_text};
 ghost use Rattle.text.specs.Entry.{Gives};
@@ -14,7 +15,7 @@ use crate::put::{Text, WordsOf};
 use crate::refusal::Refusal;
 use crate::writer::Writer;
 use terms::candidate::arranged;
-use words::normal_form::{ROOM, compare_lists, words_of};
+use words::normal_form::{Parting, ROOM, compare_lists, words_of};
 
 // Two lists of words in this order, and whether they are the same.
 fn put_lists(w: &mut Writer<'_>, same: bool, a: &[u32], b: &[u32])
@@ -25,21 +26,24 @@ fn put_lists(w: &mut Writer<'_>, same: bool, a: &[u32], b: &[u32])
     w.line(b"right=", &WordsOf(b));
 }
 
-// The answer, from the spelled lists of both sides.
+// The answer, from the spelled lists of both sides and how they compare.
 #[derive(Clone, Copy)]
-struct Lists<'a>(Sides<'a>);
+struct Lists<'a> {
+    sides: Sides<'a>,
+    parting: Parting,
+}
 
 impl<'a> Text for Lists<'a> {
-    ghost shows = { λ l t. (us : List Word) × (vs : List Word) × (l.0.left.now ≡ spelled us) × (l.0.right.now ≡ spelled vs) × (t ≡ words_text us vs) };
+    ghost shows = { λ l t. ComparesLists l.sides.left.now l.sides.right.now l.parting × ((us : List Word) × (vs : List Word) × (l.sides.left.now ≡ spelled us) × (l.sides.right.now ≡ spelled vs) × (t ≡ words_text us vs)) };
 
     fn put(&self, w: &mut Writer<'_>) {
-        let Sides { left, right } = self.0;
-        let parting = compare_lists(left, right);
-        let same = parting.order.is_eq();
-        let (first, second) = arranged(parting.order, left, right);
+        let Sides { left, right } = self.sides;
+        let Parting { order, place } = self.parting;
+        let same = order.is_eq();
+        let (first, second) = arranged(order, left, right);
         put_lists(w, same, first, second);
         if !same {
-            w.line(b"differ=", &parting.place);
+            w.line(b"differ=", &place);
         }
     }
 }
@@ -52,9 +56,10 @@ pub fn answer_words(sides: Sides<'_>, out: &mut [u8]) -> Result<usize, Refusal>
     let mut b = [0u32; ROOM];
     let m = words_of(sides.left, &mut a);
     let n = words_of(sides.right, &mut b);
-    let lists = Lists(Sides {
+    let sides = Sides {
         left: &a[..m],
         right: &b[..n],
-    });
-    answered(&lists, out)
+    };
+    let parting = compare_lists(sides.left, sides.right);
+    answered(&Lists { sides, parting }, out)
 }
