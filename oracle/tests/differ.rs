@@ -73,13 +73,15 @@ fn small_equations() {
     assert_eq!(counts, [2_574, 202, 194]);
 }
 
+/// Whether a text is told as a wrong answer to a call.
+fn told(call: &Call, text: &str) -> bool {
+    let text = Ok(text.as_bytes().to_vec());
+    checked::beside_rust(call, &text).is_err()
+}
+
 /// A last line that isn't there, or isn't the last, or names another place.
 #[test]
 fn wrong_last_lines_are_told() {
-    let told = |call: &Call, text: &str| {
-        let text = Ok(text.as_bytes().to_vec());
-        checked::beside_rust(call, &text).is_err()
-    };
     let no = words_of("+ v0 v1", "+ v0 + v1 v1");
     let (same, left, right) = ("same=no\n", "left=v0;v1\n", "right=v0;v1;v1\n");
     let lists = format!("{same}{left}{right}");
@@ -114,7 +116,10 @@ fn wrong_last_lines_are_told() {
     ] {
         assert!(told(&no, &lines), "{lines}");
     }
+}
 
+#[test]
+fn a_last_line_beside_a_yes_is_told() {
     let yes = words_of("+ v0 v1", "+ v1 v0");
     let lists = "same=yes\nleft=v0;v1\nright=v0;v1\n";
     assert!(!told(&yes, lists));
