@@ -4,8 +4,10 @@ pub mod Stores
 pub mod Stand
 pub mod Puts
 pub mod Joined
-pub mod Multiplied
+pub mod Atoms
 pub mod Expanded
+pub mod Counting
+pub mod Listing
 pub mod Parts
 pub mod Numbered
 pub mod Merging

@@ -32,12 +32,16 @@ module _ (ws : List ℕ) where
   before_kept Equal = refl
   before_kept Greater = refl
 
-  pub both_there : {u v : Word} {r : answered.Ordering} (a b : List ℕ) → 0 < length a → 0 < length b → u ≡ word_at ws (get_or a 0 0) → v ≡ word_at ws (get_or b 0 0)
-      → Compares u v r → is_le r ≡ from_first ws a b
+  -- one slot before another, as `compare` tells of their words
+  pub slots_compared : {u v : Word} {r : answered.Ordering} (x y : ℕ) → u ≡ word_at ws x → v ≡ word_at ws y → Compares u v r
+      → is_le r ≡ before kept (order_words (word_at ws x) (word_at ws y))
+  slots_compared {r = r} x y d e p = before_kept r ∙ ap (before kept) (rw (d, e) at p.numbers)
+
+  -- where both lists have a next
+  pub next_slots : (a b : List ℕ) (i j : ℕ) → i < length a → j < length b
+      → from_first ws (drop i a) (drop j b) ≡ before kept (order_words (word_at ws (get_or a i 0)) (word_at ws (get_or b j 0)))
   unfolding first_next
-  both_there [] b h l d e p = absurd (omega arith)
-  both_there (x ∷ a) [] h l d e p = absurd (omega arith)
-  both_there {r = r} (x ∷ a) (y ∷ b) h l d e p = before_kept r ∙ ap (before kept) (rw (d, e) at p.numbers)
+  next_slots a b i j h l = rw (drop-cons a i 0 h, drop-cons b j 0 l) refl
 
   pub first_there : (a b : List ℕ) → from_first ws a b ≡ true → 0 < length a
   first_there [] b e = absurd (true≢false (sym e ∙ sym (no_first [] b refl)))

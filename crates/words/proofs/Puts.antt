@@ -38,9 +38,10 @@ module _ {us vs : List Word} {ws ws₁ ws₂ : List ℕ} {i j k : ℕ} where
         room = omega (arith, r.room);
       }))
 
--- the same slots, filled anew
-pub puts_anew : {us vs : List Word} {ws ws₁ ws₂ : List ℕ} {i j k : ℕ} → Puts us ws i j ws₁ → Puts vs ws₁ i k ws₂ → Puts vs ws i k ws₂
-puts_anew p q = record { put = q.put; front = q.front ∙ p.front; room = q.room ∙ p.room }
+-- what stood before the slots was as it is
+pub puts_after : {us : List Word} {ws ws₁ ws₂ : List ℕ} {j k : ℕ} → take (SLOT * j) ws₁ ≡ take (SLOT * j) ws → length ws₁ ≡ length ws
+    → Puts us ws₁ j k ws₂ → Puts us ws j k ws₂
+puts_after e l p = record { put = p.put; front = p.front ∙ e; room = p.room ∙ l }
 
 -- a word's length, then its letters
 slot_filled : (ws : List ℕ) (k : ℕ) (u rest : List ℕ) → length u ≤ LONGEST → drop (SLOT * k) ws ≡ length u ∷ (u ++ rest) → InSlot ws k u

@@ -1,17 +1,18 @@
 -- Sorting slots by their words: both halves, then merged.
 use Rattle.std.proofs.Common.{◌≡◌, ℕ, zero, suc, ◌+◌, ◌-◌, ◌<◌, ◌≤◌, Bool, true, false, List, [], ◌∷◌, ◌++◌, length, get_or, take, drop, sym, refl, ap, ◌∙◌, append_assoc, arith, length-drop, take-append-drop, drop_of_length-le, length-take-le, drop-cons, take-suc, drop-drop, take_at, drop_at}
+use Rattle.std.specs.List.{swap}
 use mathlib.Core.List.Permᴰ
 use mathlib.Core.List.{map-append}
 use borrow.Rule.Slice.PartMut.{mid_of, put_mid}
-use Rattle.terms.specs.Sort.{kept, insert, Below, Sorted}
+use Rattle.terms.specs.Sort.{kept, insert, before, Below, Sorted}
 use Rattle.terms.specs.Theory.Sorted.{sort_sorted}
 use Rattle.terms.specs.Theory.Sorting.{sort_of_permutation, sort_append_left, sort_append_right, sorted_unique, sort_permutation}
 use Rattle.words.specs.Words.{Word, order_words, normal}
 use Rattle.words.specs.Spelled.{word_at, words_at}
-use Rattle.words.specs.Sort.{from_first, Merges}
+use Rattle.words.specs.Sort.{first_next, from_first, Merges}
 use Rattle.words.specs.Theory.Order.{word_order}
-use Rattle.words.specs.Theory.Merge.{first_below}
-use Rattle.words.proofs.Merging.{first_there, second_there}
+use Rattle.words.specs.Theory.Merge.{first_below, second_below}
+use Rattle.words.proofs.Merging.{first_there, next_slots}
 use Rattle.words.proofs.Parts.{end_lent, end_back}
 
 -- two sorted lists, of which the first's last item may stand before the second, are one
@@ -76,6 +77,28 @@ short_sorted ws [] h = refl
 short_sorted ws (x ∷ []) h = refl
 short_sorted ws (x ∷ y ∷ order) h = absurd (omega arith)
 
+-- two slots, by how their words compare
+
+pub pair_kept : (ws order : List ℕ) → length order ≡ 2
+    → before kept (order_words (word_at ws (get_or order 0 0)) (word_at ws (get_or order 1 0))) ≡ true → words_at ws order ≡ normal kept (words_at ws order)
+pair_kept ws [] h e = absurd (omega arith)
+pair_kept ws (x ∷ []) h e = absurd (omega arith)
+pair_kept ws (x ∷ y ∷ []) h e = sorted_normal (words_at ws (x ∷ y ∷ [])) (rw e tt, (tt, tt))
+pair_kept ws (x ∷ y ∷ z ∷ order) h e = absurd (omega arith)
+
+pub pair_exchanged : (ws order : List ℕ) → length order ≡ 2
+    → before kept (order_words (word_at ws (get_or order 0 0)) (word_at ws (get_or order 1 0))) ≡ false
+    → words_at ws (swap order 0 1) ≡ normal kept (words_at ws order)
+unfolding first_next
+pair_exchanged ws [] h e = absurd (omega arith)
+pair_exchanged ws (x ∷ []) h e = absurd (omega arith)
+pair_exchanged ws (x ∷ y ∷ []) h e =
+    let u = word_at ws x in
+    let v = word_at ws y in
+    sorted_normal (v ∷ u ∷ []) (second_below word_order (u ∷ []) v [] e, (tt, tt))
+    ∙ sort_of_permutation kept word_order (Permᴰ.append_comm (v ∷ []) (u ∷ []))
+pair_exchanged ws (x ∷ y ∷ z ∷ order) h e = absurd (omega arith)
+
 module _ (order first : List ℕ) (mid : ℕ) (inside : mid ≤ length order) (same : length first ≡ length (take mid order)) where
   at_mid : length first ≡ mid
   at_mid = same ∙ length-take-le mid order inside
@@ -100,16 +123,16 @@ module _ (order first : List ℕ) (mid : ℕ) (inside : mid ≤ length order) (s
       ∙ ap (normal kept) (sym (map-append _ (take mid order) (drop mid order)) ∙ ap (words_at ws) (take-append-drop mid order))
 
 -- the parts in each other's place
-module _ (ws order : List ℕ) (mid : ℕ) (inside : mid ≤ length order) (positive : 0 < mid) where
-  pub parts_reversed : (parts first second : List ℕ) {r : Bool} → parts ≡ order → from_first ws (drop (mid - 1) order) (drop mid order) ≡ false
-      → r ≡ from_first ws (mid_of (length order - 1) (length parts - (length order - 1)) parts) parts → r ≡ true
+module _ (ws order : List ℕ) (mid : ℕ) (inside : mid < length order) where
+  pub parts_reversed : (parts first second : List ℕ) {r : Bool} → parts ≡ order
+      → r ≡ before kept (order_words (word_at ws (get_or parts (length order - 1) 0)) (word_at ws (get_or parts 0 0))) → r ≡ true
       → first ≡ mid_of mid (length parts - mid) parts → second ≡ take mid parts
       → (let k = length order - mid in Merges ws (take mid order) (drop mid order) (put_mid k (length (first ++ drop k order) - k) (first ++ drop k order) second))
-  parts_reversed parts first second p e f g d b =
+  parts_reversed parts first second p f g d b =
       let k = length order - mid in
-      let l = second_there ws (drop (mid - 1) order) (drop mid order) e (omega (arith, length-drop (mid - 1) order)) in
-      let goes : from_first ws (drop (length order - 1) order) order ≡ true = sym (rw (p, end_lent order (length order - 1)) at f) ∙ g in
+      let goes : from_first ws (drop (length order - 1) order) (drop 0 order) ≡ true =
+      next_slots ws order order (length order - 1) 0 (omega arith) (omega arith) ∙ sym (rw p at f) ∙ g in
       let front : first ≡ drop mid order = rw (p, end_lent order mid) at d in
       let rest : second ≡ take mid order = rw p at b in
       let same : length first ≡ length (take k order) = omega (arith, ap length front, length-drop mid order, length-take-le k order (omega arith)) in
-      rw (second_back order first k (omega arith) same second, front, rest) (reversed ws order mid (omega (arith, l, length-drop mid order)) goes)
+      rw (second_back order first k (omega arith) same second, front, rest) (reversed ws order mid inside goes)

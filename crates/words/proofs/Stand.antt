@@ -5,8 +5,7 @@ use Rattle.terms.proofs.Positions.{front_getD}
 use Rattle.words.specs.Words.{Word}
 use Rattle.words.specs.Rename.{count_from}
 use Rattle.words.specs.Spelled.{SLOT, word_at, words_at}
-use Rattle.words.specs.Multiply.{LONGEST, InSlot, Between, none, more}
-use Rattle.words.specs.Counts.{longest}
+use Rattle.words.specs.Multiply.{InSlot, Between, none, more}
 
 -- where the first n numbers of two lists agree
 front_part : (xs ys : List ℕ) (n i m : ℕ) → take n ys ≡ take n xs → i + m ≤ n → take m (drop i ys) ≡ take m (drop i xs)
@@ -32,10 +31,6 @@ module _ {ws : List ℕ} where
   pub between_end : {j k : ℕ} {us : List Word} → Between ws j k us → k ≡ j + length us
   between_end (none e) = omega arith
   between_end (more s b) = omega (arith, between_end b)
-
-  pub between_short : {j k : ℕ} {us : List Word} → Between ws j k us → longest us ≤ LONGEST
-  between_short (none e) = omega arith
-  between_short (more s b) = omega (arith, s.short, between_short b)
 
   pub between_front : (ws' : List ℕ) (n : ℕ) {j k : ℕ} {us : List Word} → take (SLOT * n) ws' ≡ take (SLOT * n) ws → k ≤ n → Between ws j k us → Between ws' j k us
   between_front ws' n e h (none d) = none d

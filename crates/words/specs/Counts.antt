@@ -1,8 +1,16 @@
 -- How many words a term can have, and how long they can be.
-use Rattle.std.specs.Prelude.{ℕ, ◌+◌, max, List, [], ◌∷◌, length, slice_index}
+use Rattle.std.specs.Prelude.{ℕ, ◌+◌, ◌*◌, max, List, [], ◌∷◌, length, slice_index}
 use mathlib.Core.List.{foldr}
 use Rattle.terms.specs.Term.{Term, letter, zero, one, add, mul}
 use Rattle.words.specs.Words.{Word}
+
+-- how many words a term has, by sums and products of counts
+unfoldable pub count : Term → ℕ
+count (letter n) = 1
+count zero = 0
+count one = 1
+count (add s t) = count s + count t
+count (mul s t) = count s * count t
 
 -- how many atoms a term has
 unfoldable pub atoms : Term → ℕ

@@ -53,28 +53,27 @@ pub record Joins (xs : List ℕ) (from middle right to : ℕ) (ws : List ℕ) (j
   pub few : j ≤ MOST → k ≤ MOST
   pub exact : (us vs : List Word) → Between xs from middle us → Between xs right to vs → Fits (products us vs) ws j → Puts (products us vs) ws j k ws'
 
--- each word in the slots from..middle joined to each in the slots middle..to, and put in place of them, by way of the scratch space ss
-pub record Multiplies (ws : List ℕ) (from middle to : ℕ) (ss : List ℕ) (k : ℕ) (ws' : List ℕ) : Type 0 where
-  pub few : from ≤ MOST → k ≤ MOST
-  pub exact : (us vs : List Word) → Between ws from middle us → Between ws middle to vs → to ≤ MOST → Fits (products us vs) ws from → SLOT * MOST ≤ length ss → Puts (products us vs) ws from k ws'
-
 -- the words of an atom, by its number in a run
 unfoldable pub atom_words : ℕ → List Word
 atom_words x = elim (x == ZERO) [ true ↦ [] | false ↦ elim (x == ONE) [ true ↦ [] ∷ [] | false ↦ (x ∷ []) ∷ [] ] ]
 
--- room to multiply t out from slot j on: there are no more words before it than `before` atoms give
-pub record Room (t : Term) (j : ℕ) (ws ss : List ℕ) : Type 0 where
-  pub before : ℕ
-  pub few : j ≤ most before
-  pub small : before + atoms t ≤ 16
-  pub words : SLOT * MOST ≤ length ws
-  pub scratch : SLOT * MOST ≤ length ss
+-- room to multiply t out into the slots of ws from j on, by way of those of ss from k on: there are no more words before them than so many
+-- atoms here and there give
+pub record Room (t : Term) (ws : List ℕ) (j : ℕ) (ss : List ℕ) (k : ℕ) : Type 0 where
+  pub here : ℕ
+  pub there : ℕ
+  pub few_here : j ≤ most here
+  pub few_there : k ≤ most there
+  pub small : here + there + atoms t ≤ 16
+  pub room_here : SLOT * MOST ≤ length ws
+  pub room_there : SLOT * MOST ≤ length ss
 
--- the term at a position is multiplied out from slot j on
-pub record Expands (xs : List ℕ) (at : ℕ) (ws ss : List ℕ) (j : ℕ) (r : Expanded) (ws' : List ℕ) : Type 0 where
+-- the term at a position is multiplied out into the slots of ws from j on, and the slots of ss before k stay
+pub record Expands (xs : List ℕ) (at : ℕ) (ws : List ℕ) (j : ℕ) (ss : List ℕ) (k : ℕ) (r : Expanded) (ws' ss' : List ℕ) : Type 0 where
   pub forward : at ≤ r.end
   pub few : j ≤ MOST → r.count ≤ MOST
-  pub exact : (t : Term) → Holds xs at t → Room t j ws ss → (r.end ≡ at + size t) × Puts (expand t) ws j r.count ws'
+  pub exact : (t : Term) → Holds xs at t → Room t ws j ss k
+      → (r.end ≡ at + size t) × Puts (expand t) ws j r.count ws' × (take (SLOT * k) ss' ≡ take (SLOT * k) ss)
 
 -- the term of a run is multiplied out into the first r slots
 pub record MultipliesOut (xs ws ss : List ℕ) (r : ℕ) (ws' : List ℕ) : Type 0 where

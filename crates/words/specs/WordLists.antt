@@ -1,5 +1,6 @@
 -- Whole lists of words: those of a term, and those renamed, as the functions that make them promise.
-use Rattle.std.specs.Prelude.{◌≡◌, ℕ, ◌*◌, ◌/◌, ◌<◌, ◌≤◌, List, ◌++◌, length, take}
+use Rattle.std.specs.Prelude.{◌≡◌, ℕ, Bool, ◌*◌, ◌/◌, ◌<◌, ◌≤◌, List, ◌++◌, length, take}
+use Rattle.std.proofs.Math.Dec.{compare_is_eq}
 use Rattle.terms.specs.Compare.{order_numbers}
 use Rattle.terms.specs.Differ.{differ_at}
 use Rattle.terms.specs.Equation.{Equation, orient}
@@ -9,7 +10,7 @@ use Rattle.terms.specs.Run.{ZERO}
 use Rattle.terms.specs.Held.{IsRun}
 use Rattle.terms.specs.Promises.{ordering_of}
 use Rattle.words.specs.Words.{Word, words, order_words, order_lists}
-use Rattle.words.specs.Spelled.{SLOT, spelled, words_in}
+use Rattle.words.specs.Spelled.{SLOT, spelled, words_at, words_in}
 use Rattle.words.specs.Rename.{rename_words, canonical_words}
 use Rattle.words.specs.Decoded.{renaming}
 use Rattle.words.specs.Multiply.{MOST, LONGEST}
@@ -63,3 +64,13 @@ pub record ComparesLists (xs ys : List ℕ) (r : Parting) : Type 0 where
   pub numbers : ordering_of r.order ≡ order_numbers xs ys
   pub order : (us vs : List Word) → xs ≡ spelled us → ys ≡ spelled vs → ordering_of r.order ≡ order_lists us vs
   pub place : (us vs : List Word) → xs ≡ spelled us → ys ≡ spelled vs → r.place ≡ differ_at order_words us vs
+
+-- of `list_words`: the words of the term of a run, in the slots that the first r numbers of a list name
+pub record ListsWords (xs : List ℕ) (r : ℕ) (ws' order' : List ℕ) : Type 0 where
+  pub within : r ≤ length order'
+  pub exact : (t : Term) → IsRun xs t → size t ≤ 31 → words_at ws' (take r order') ≡ words t
+
+-- of `same_words`: whether two terms of at most 31 nodes have the same words
+abbrev pub SameWords : (xs ys : List ℕ) → Bool → Type 0
+SameWords xs ys r =
+    (s t : Term) → IsRun xs s → IsRun ys t → size s ≤ 31 → size t ≤ 31 → r ≡ compare_is_eq (order_lists (words s) (words t))

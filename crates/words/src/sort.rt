@@ -1,9 +1,9 @@
 // Slots sorted by the words in them, and the words written as a run.
 ghost use Rattle.std.specs.Prelude.{◌≡◌, ◌+◌, ◌*◌, ◌<◌, ◌≤◌, [], ◌∷◌, ◌++◌, length, take, drop};
-ghost use Rattle.terms.specs.Sort.{kept};
-ghost use Rattle.words.specs.Words.{normal};
+ghost use Rattle.terms.specs.Sort.{kept, before};
+ghost use Rattle.words.specs.Words.{order_words, normal};
 ghost use Rattle.words.specs.Rename.{count_from};
-ghost use Rattle.words.specs.Spelled.{SLOT, words_at, words_in};
+ghost use Rattle.words.specs.Spelled.{SLOT, word_at, words_at, words_in};
 ghost use Rattle.words.specs.Multiply.{MOST};
 ghost use Rattle.words.specs.Sort.{from_first, Merges, Spells};
 ghost use Rattle.words.specs.WordLists.{slot_words};
@@ -21,6 +21,13 @@ pub fn number_slots(order: &mut [u32])
     }
 }
 
+// Whether the word in slot `x` may stand before that in slot `y`.
+fn in_order(words: &[u32], x: u32, y: u32) -> bool
+    ensures { result ≡ before kept (order_words (word_at words.now x) (word_at words.now y)) }
+{
+    compare(word_of(words, x as usize), word_of(words, y as usize)).is_le()
+}
+
 // Whether the next of two lists to be merged is the first's.
 fn takes_first(words: &[u32], a: &[u32], b: &[u32]) -> bool
     ensures { result ≡ from_first words.now a.now b.now }
@@ -31,7 +38,7 @@ fn takes_first(words: &[u32], a: &[u32], b: &[u32]) -> bool
     let Some(&y) = b.first() else {
         return true;
     };
-    compare(word_of(words, x as usize), word_of(words, y as usize)).is_le()
+    in_order(words, x, y)
 }
 
 // Two lists of slots, each sorted by its words, merged into one.
@@ -55,17 +62,16 @@ fn merge(words: &[u32], a: &[u32], b: &[u32], out: &mut [u32])
 
 // The two parts of `order`, each sorted by its words, merged: two comparisons are enough where the one comes before the other.
 fn merge_parts(words: &[u32], order: &mut [u32], mid: usize, spare: &mut [u32])
-    requires { (mid ≤ length order.old) × (length order.old ≤ length spare.old) × (0 < mid) }
+    requires { (mid < length order.old) × (length order.old ≤ length spare.old) × (0 < mid) }
     ensures { Merges words.now (take mid order.old) (drop mid order.old) order.new }
 {
     let n = order.len();
-    let slots = &order[..];
-    if takes_first(words, &slots[mid - 1..], &slots[mid..]) {
+    if in_order(words, order[mid - 1], order[mid]) {
         return;
     }
     spare[..n].copy_from_slice(order);
     let parts = &spare[..n];
-    if takes_first(words, &parts[n - 1..], parts) {
+    if in_order(words, parts[n - 1], parts[0]) {
         // Two copies take less time than `rotate_left`.
         order[..n - mid].copy_from_slice(&parts[mid..]);
         order[n - mid..].copy_from_slice(&parts[..mid]);
@@ -84,6 +90,12 @@ pub fn sort(words: &[u32], order: &mut [u32], spare: &mut [u32])
 {
     let n = order.len();
     if n < 2 {
+        return;
+    }
+    if n == 2 {
+        if !in_order(words, order[0], order[1]) {
+            order.swap(0, 1);
+        }
         return;
     }
     let mid = n / 2;
@@ -119,13 +131,21 @@ pub fn spell(words: &[u32], order: &[u32], out: &mut [u32]) -> usize
     n
 }
 
-// The words in the first slots, as many as `order` is long, sorted and written at the front of `out`, if there is room: where they end.
+// The first slots, as many as `order` is long, in the order of their words.
+pub fn sort_slots(words: &[u32], order: &mut [u32], spare: &mut [u32])
+    requires { (length order.old ≤ MOST) × (length order.old ≤ length spare.old) }
+    ensures { words_at words.now order.new ≡ normal kept (words_in words.now (length order.old)) }
+{
+    number_slots(order);
+    sort(words, order, spare);
+}
+
+// Their words in this order, written at the front of `out`, if there is room: where they end.
 fn sort_and_spell(words: &[u32], order: &mut [u32], spare: &mut [u32], out: &mut [u32]) -> usize
     requires { (length order.old ≤ MOST) × (length order.old ≤ length spare.old) }
     ensures { Spells (normal kept (words_in words.now (length order.old))) out.old result out.new }
 {
-    number_slots(order);
-    sort(words, order, spare);
+    sort_slots(words, order, spare);
     spell(words, order, out)
 }
 

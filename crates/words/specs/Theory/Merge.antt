@@ -29,7 +29,7 @@ module _ {A : Type 0} {o : A → A → Ordering} (O : IsOrder o) where
   first_below x xs [] e = tt
   first_below x xs (y ∷ ys) e = rw e tt
 
-  second_below : (xs : List A) (y : A) (ys : List A) → first_next o xs (y ∷ ys) ≡ false → Below kept o y xs
+  pub second_below : (xs : List A) (y : A) (ys : List A) → first_next o xs (y ∷ ys) ≡ false → Below kept o y xs
   unfolding first_next
   second_below [] y ys e = tt
   second_below (x ∷ xs) y ys e =

@@ -14,17 +14,10 @@ returns-then-x-lt-ADD t c =
 pub returns-then-x-eq-ADD : goal.returns-then-x-eq-ADD
 returns-then-x-eq-ADD t c =
     let e : c.in-Some.field-0.now ≡ get_or c.args.run.now c.args.at 0 = search rules in
-    expands_sum (omega arith) c.expand_at-left.ensures c.expand_at-right.ensures c.expand_at-left.auto.scratch (omega arith)
+    expands_sum c.expand_at-left.ensures c.expand_at.ensures c.expand_at-left.auto.other (omega arith)
 
 pub returns : goal.returns
 returns t c =
     let e : c.in-Some.field-0.now ≡ get_or c.args.run.now c.args.at 0 = search rules in
-    let kept = c.expand_at-left.auto.scratch in
-    expands_product
-    (omega arith)
-    c.expand_at-left.ensures
-    c.expand_at-right.ensures
-    kept
-    (λ h. omega arith)
-    c.multiply.ensures
-    (c.expand_at-right.auto.scratch ∙ kept)
+    let kept = c.expand_at-left-2.auto.other in
+    expands_product c.expand_at-left-2.ensures c.expand_at-right.ensures kept (c.expand_at-right.auto.other ∙ kept) (omega arith) c.join.ensures

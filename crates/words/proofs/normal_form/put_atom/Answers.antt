@@ -1,5 +1,5 @@
 -- `put_atom` meets its contract: 0 has no word, 1 the empty word, a letter itself.
-use Rattle.words.proofs.Multiplied.{atom_zero, atom_one, atom_letter}
+use Rattle.words.proofs.Atoms.{atom_zero, atom_one, atom_letter}
 use Rattle.std.proofs.Common.{rules}
 use Rattle.words.proofs.normal_form.put_atom.Goals as goal
 
