@@ -12,6 +12,7 @@ use Rattle.terms.specs.Letters.{letters, rising, variables}
 use Rattle.terms.specs.Held.{IsRun}
 use Rattle.words.specs.Words.{words}
 use Rattle.words.specs.Rename.{canonical_terms}
+use Rattle.words.specs.Same.{same_words}
 use Rattle.search.specs.Line as line
 use Rattle.search.specs.Runs.{HeldRuns, Shows}
 use Rattle.search.specs.Searched.{limits_of, slots_of}
@@ -19,12 +20,13 @@ use Rattle.text.specs.declared.answer.Sides.{Sides}
 use Rattle.text.specs.declared.refusal.Refusal.{Refusal}
 use Rattle.text.specs.Refusal.{number_of, number_returned}
 use Rattle.text.specs.Answer.{Answer, ◌>>=◌, refused, accepted, fitting}
-use Rattle.text.specs.Job.{Job, read_job, Accepted}
+use Rattle.text.specs.Job.{Job, read_job, Fit, Accepted}
 use Rattle.text.specs.FindJob.{read_find, jobs_of}
 use Rattle.text.specs.Accepting.{Takes, TakesOne}
 use Rattle.text.specs.Find.{together, find}
-use Rattle.text.specs.Words.{words_text, words_entry}
+use Rattle.text.specs.Words.{same_text, words_text, words_entry}
 use Rattle.text.specs.Rename.{term_lines, renamed_words, rename_entry}
+use Rattle.text.specs.Same.{same_entry}
 use Rattle.text.specs.Entry.{returned, Call, Gives, AnswersJob, before_search, FindGives}
 use Rattle.text.specs.Theory.JobText.{job_accepted}
 use Rattle.text.specs.Theory.Entry.{among, Numbered, searched_numbered, each_in}
@@ -62,27 +64,41 @@ module _ {Post : Sides → MutBor (List ℕ) → Result ℕ Refusal → MutBor (
       }
 
 module _ {Post : Sides → MutBor (List ℕ) → Result ℕ Refusal → MutBor (List ℕ) → Type 0} (job out : List ℕ) (r : Result ℕ Refusal) {out' : List ℕ} (h : AnswersJob Post job out r out') where
-  -- what is promised of the function that answers WORDS
+  -- what is promised of a function that answers by a text of the two terms
+  text_given : (text : Term → Term → List ℕ)
+      → ((sides : Sides) (o o' : MutBor (List ℕ)) (q : Result ℕ Refusal) → Post sides o q o'
+      → (s t : Term) → IsRun sides.left.now s → IsRun sides.right.now t → Fit s t → Gives (fitting (length o.now) (text s t)) o.now q o'.now)
+      → Gives (◌>>=◌ (read_job job) (λ j. fitting (length out) (text j.left j.right))) out r out'
+  unfolding ◌>>=◌
+  text_given text answer =
+      h.exact (λ j. fitting (length out) (text j.left j.right))
+      (λ j sides o o' q known u v l post. rw (← l) (answer sides o o' q post j.left j.right u v known.sides))
+
   pub words_given :
       ((sides : Sides) (o o' : MutBor (List ℕ)) (q : Result ℕ Refusal) → Post sides o q o'
       → (s t : Term) → IsRun sides.left.now s → IsRun sides.right.now t → size s ≤ 31 → size t ≤ 31 → Gives (fitting (length o.now) (words_text (words s) (words t))) o.now q o'.now)
       → Gives (words_entry job (length out)) out r out'
-  unfolding words_entry ◌>>=◌
+  unfolding words_entry
   words_given answer =
-      h.exact (λ j. fitting (length out) (words_text (words j.left) (words j.right)))
-      (λ j sides o o' q known u v l post. rw (← l) (answer sides o o' q post j.left j.right u v known.sides.small_left known.sides.small_right))
+      text_given (λ s t. words_text (words s) (words t)) (λ sides o o' q post s t u v fit. answer sides o o' q post s t u v fit.small_left fit.small_right)
 
-  -- and RENAME
+  pub same_given :
+      ((sides : Sides) (o o' : MutBor (List ℕ)) (q : Result ℕ Refusal) → Post sides o q o'
+      → (s t : Term) → IsRun sides.left.now s → IsRun sides.right.now t → size s ≤ 31 → size t ≤ 31 → Gives (fitting (length o.now) (same_text (same_words s t))) o.now q o'.now)
+      → Gives (same_entry job (length out)) out r out'
+  unfolding same_entry
+  same_given answer =
+      text_given (λ s t. same_text (same_words s t)) (λ sides o o' q post s t u v fit. answer sides o o' q post s t u v fit.small_left fit.small_right)
+
   pub rename_given :
       ((sides : Sides) (o o' : MutBor (List ℕ)) (q : Result ℕ Refusal) → Post sides o q o'
       → (s t : Term) → IsRun sides.left.now s → IsRun sides.right.now t → size s ≤ 31 → size t ≤ 31 → length (rising (variables (letters s ++ letters t))) ≤ 6
       → Gives (fitting (length o.now) (term_lines (canonical_terms s t) ++ renamed_words (words s) (words t))) o.now q o'.now)
       → Gives (rename_entry job (length out)) out r out'
-  unfolding rename_entry ◌>>=◌
+  unfolding rename_entry
   rename_given answer =
-      h.exact (λ j. fitting (length out) (term_lines (canonical_terms j.left j.right) ++ renamed_words (words j.left) (words j.right)))
-      (λ j sides o o' q known u v l post.
-      rw (← l) (answer sides o o' q post j.left j.right u v known.sides.small_left known.sides.small_right known.sides.few))
+      text_given (λ s t. term_lines (canonical_terms s t) ++ renamed_words (words s) (words t))
+      (λ sides o o' q post s t u v fit. answer sides o o' q post s t u v fit.small_left fit.small_right fit.few)
 
 pub find_refused : (bs out work : List ℕ) {e : Refusal} → read_find bs ≡ refused (number_of e) → FindGives bs out work (Err e) out work
 unfolding find ◌>>=◌

@@ -142,7 +142,7 @@ short_find_read bs l r rights h = find_read bs r rights (subst (λ x. Answers x 
     same : read_within 512 16 9 bs ≡ read_within 4096 16 9 bs
     same = rw (le-leb (length bs) 512 l, le-leb (length bs) 4096 (omega arith))
 
--- the job of WORDS and RENAME
+-- the job of WORDS, RENAME and SAME
 
 -- of the list of jobs the first
 first_job : (j : Job) (s : Term) (ts : List Term) (m : Limits) → 0 < length ts → j ∷ [] ≡ jobs_of s ts m → (j.left ≡ s) × (j.right ≡ term_at ts 0)

@@ -5,7 +5,7 @@ use mathlib.Core.List.{List, [], ◌++◌}
 use native.Mathlib.Nat.{zero-add}
 use native.Mathlib.Omega.{arith}
 use lib.ListN.{length, drop}
-use Rattle.text.specs.Theory.RenameText.{fitting_room, fitting_short}
+use Rattle.text.specs.Theory.Accepted.{fitting_room, fitting_short}
 use Rattle.text.specs.Answer.{refused, fitting}
 use Rattle.std.specs.Prelude.{Ok, Err}
 use Rattle.text.specs.Entry.{Call, Gives}

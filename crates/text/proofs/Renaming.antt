@@ -17,7 +17,7 @@ use Rattle.terms.specs.Theory.Held.{fine_letters, letters_fine}
 use Rattle.words.specs.Words.{Word, words, order_lists}
 use Rattle.words.specs.Spelled.{spelled}
 use Rattle.words.specs.Rename.{canonical_terms, canonical_words}
-use Rattle.words.specs.WordLists.{CanonicalWords}
+use Rattle.words.specs.WordLists.{CanonicalWords, SameWords}
 use Rattle.words.specs.Candidate.{CanonicalTerms}
 use Rattle.words.specs.Theory.Shared.{renamed_letters}
 use Rattle.text.specs.Bytes.{ascii}
@@ -57,8 +57,7 @@ canonical_runs c u v s t p q small-s small-t few =
 -- ---- the renamed lists
 
 -- none where the words agree
-module _ {xs ys : List ℕ} {same : Bool}
-    (test : (s t : Term) → IsRun xs s → IsRun ys t → size s ≤ 31 → size t ≤ 31 → same ≡ compare_is_eq (order_lists (words s) (words t))) where
+module _ {xs ys : List ℕ} {same : Bool} (test : SameWords xs ys same) where
   pub no_lists : same ≡ true
       → (s t : Term) → IsRun xs s → IsRun ys t → size s ≤ 31 → size t ≤ 31 → length (rising (variables (letters s ++ letters t))) ≤ 6 → Renamed (words s) (words t) None
   no_lists e s t p q small-s small-t few = sym (test s t p q small-s small-t) ∙ e

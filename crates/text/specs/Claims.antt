@@ -114,7 +114,7 @@ pub record CallClaims (ns : List ℕ) (answer : Answer (List ℕ)) (out : List �
 abbrev pub job_numbers : List ℕ
 job_numbers = 1 ∷ 2 ∷ 3 ∷ 4 ∷ 5 ∷ 6 ∷ []
 
--- those of WORDS and RENAME
+-- those of WORDS, RENAME and SAME
 abbrev pub list_numbers : List ℕ
 list_numbers = job_numbers ++ (8 ∷ [])
 

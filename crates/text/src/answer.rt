@@ -14,6 +14,9 @@ pub mod lists;
 // RENAME's answer.
 pub mod rename;
 
+// SAME's answer.
+pub mod same;
+
 use crate::put::{Text, put_in_front};
 use crate::refusal::Refusal;
 

@@ -1,15 +1,17 @@
-// FIND, WORDS and RENAME: a job's text comes in, and the answer's bytes go out at the front of the output.
+// FIND, WORDS, RENAME and SAME: a job's text comes in, and the answer's bytes go out at the front of the output.
 // A number below 100 is a refusal's; otherwise it is 100 plus the answer's length.
 // Job, output and workspace stand side by side, each a buffer of its own that the host lends, as the C functions take them.
 ghost use Rattle.std.specs.Prelude.{length};
 ghost use Rattle.text.specs.Words.{words_entry};
 ghost use Rattle.text.specs.Rename.{rename_entry};
+ghost use Rattle.text.specs.Same.{same_entry};
 ghost use Rattle.text.specs.Entry.{Call, FindCall, FindGives, AnswersJob};
 
 use crate::answer::Sides;
 use crate::answer::find::answer_find;
 use crate::answer::lists::answer_words;
 use crate::answer::rename::answer_rename;
+use crate::answer::same::answer_same;
 use crate::job::accept::{MOST_RIGHTS, read_find, read_job};
 use crate::refusal::{Refusal, returned};
 use search::slots::{Runs, SLOT, run_of};
@@ -73,4 +75,11 @@ pub fn rename(job: &[u8], output: &mut [u8]) -> usize
     ensures { Call (rename_entry job.now (length output.old)) output.old result output.new }
 {
     returned(answer_job(job, output, answer_rename))
+}
+
+// SAME.
+pub fn same(job: &[u8], output: &mut [u8]) -> usize
+    ensures { Call (same_entry job.now (length output.old)) output.old result output.new }
+{
+    returned(answer_job(job, output, answer_same))
 }

@@ -6,10 +6,10 @@ use Rattle.std.proofs.Math.Option.{Option, none, some}
 use mathlib.Core.List.{List, [], ◌∷◌, ◌++◌}
 use Rattle.std.proofs.Math.Seq.{take-append_seam, drop-append_seam}
 use Rattle.terms.specs.Lists.{◌∈◌, here, there, not-in-nil, cons-cases, in_left}
-use Rattle.terms.specs.Term.{size, same}
+use Rattle.terms.specs.Term.{Term, size, same}
 use Rattle.terms.specs.Letters.{letters}
 use Rattle.words.specs.Words.{words}
-use Rattle.words.specs.Rename.{canonical_terms}
+use Rattle.words.specs.Same.{same_words}
 use Rattle.search.specs.Search.{noted}
 use Rattle.search.specs.Searched.{slots_of}
 use Rattle.text.specs.TermText.{read_term}
@@ -18,8 +18,9 @@ use Rattle.text.specs.Answer.{Answer, refused, accepted, ◌>>=◌, require, or_
 use Rattle.text.specs.Job.{Job, in_range, few, accept, read_one, read_job}
 use Rattle.text.specs.FindJob.{layouts, read_terms, every, in_place, all_small, accept_each, read_find}
 use Rattle.text.specs.Find.{searched, alone, together, find}
-use Rattle.text.specs.Words.{words_text, words_entry}
-use Rattle.text.specs.Rename.{term_lines, renamed_words, rename_entry}
+use Rattle.text.specs.Words.{same_text, words_text, words_entry}
+use Rattle.text.specs.Rename.{rename_text, rename_entry}
+use Rattle.text.specs.Same.{same_entry}
 use Rattle.text.specs.Entry.{returned, output_after, Call, before_search, FindCall}
 use Rattle.text.specs.Claims.{job_numbers, list_numbers, find_numbers, CallClaims, FindClaims}
 use Rattle.text.specs.Theory.Blocks.{answered}
@@ -118,17 +119,22 @@ find_numbered bs slots room =
     numbered_first before_search (7 ∷ 8 ∷ []) (read_find bs) _ (read_find_numbered bs)
     (searched_numbered find_numbers (search among depth 11) (search among depth 11) slots room)
 
+-- a text of two terms answers the job, or there is no room
+text_numbered : (text : Term → Term → List ℕ) (bs : List ℕ) (room : ℕ)
+    → Numbered list_numbers (◌>>=◌ (read_job bs) (λ j. fitting room (text j.left j.right)))
+text_numbered text bs room = job_numbered (8 ∷ []) bs _ λ j. fitting_numbered list_numbers room (text j.left j.right) (search among depth 9)
+
 words_numbered : (bs : List ℕ) (room : ℕ) → Numbered list_numbers (words_entry bs room)
 unfolding words_entry
-words_numbered bs room =
-    job_numbered (8 ∷ []) bs _ λ j. fitting_numbered list_numbers room (words_text (words j.left) (words j.right)) (search among depth 9)
+words_numbered = text_numbered (λ s t. words_text (words s) (words t))
 
 rename_numbered : (bs : List ℕ) (room : ℕ) → Numbered list_numbers (rename_entry bs room)
 unfolding rename_entry
-rename_numbered bs room =
-    job_numbered (8 ∷ []) bs _ λ j.
-    fitting_numbered list_numbers room (term_lines (canonical_terms j.left j.right) ++ renamed_words (words j.left) (words j.right))
-    (search among depth 9)
+rename_numbered = text_numbered rename_text
+
+same_numbered : (bs : List ℕ) (room : ℕ) → Numbered list_numbers (same_entry bs room)
+unfolding same_entry
+same_numbered = text_numbered (λ s t. same_text (same_words s t))
 
 -- what holds of each number of a list
 module _ (P : ℕ → Type 0) where
@@ -176,6 +182,9 @@ module _ (job out : List ℕ) {r : ℕ} {out' : List ℕ} where
 
   pub rename_claims : Call (rename_entry job (length out)) out r out' → CallClaims list_numbers (rename_entry job (length out)) out r out'
   rename_claims = call_claims (search arith depth 12) (rename_numbered job (length out))
+
+  pub same_claims : Call (same_entry job (length out)) out r out' → CallClaims list_numbers (same_entry job (length out)) out r out'
+  same_claims = call_claims (search arith depth 12) (same_numbered job (length out))
 
   -- and demand 3 of every answer of FIND that is not refused
   pub find_claims : {work work' : List ℕ} → FindCall job out work r out' work' → FindClaims job out work r out'

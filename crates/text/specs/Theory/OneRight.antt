@@ -1,4 +1,4 @@
--- A text with one right line at most is read as WORDS and RENAME read it, but for the bound on its bytes; one of at most 1,024 bytes is answered as the job of six lines.
+-- A text with one right line at most is read as WORDS, RENAME and SAME read it, but for the bound on its bytes; one of at most 1,024 bytes is answered as the job of six lines.
 use Rattle.std.specs.Prelude.{ℕ, suc, ◌≤◌, ◌≡◌, Bool, not, ◌&&◌, List, [], ◌∷◌, ◌++◌, length, eqb, leb}
 use Prim.Native.String.{String}
 use Rattle.std.proofs.Common.{arith, sym, ◌∙◌, ap}

@@ -1,5 +1,5 @@
 -- WORDS' answers tell whether the words of the sides are the same, and where they part.
-use Rattle.std.specs.Prelude.{ℕ, ◌≡◌, refl, Bool, true, false, List, [], ◌∷◌, ◌++◌, map, length, drop, leb}
+use Rattle.std.specs.Prelude.{ℕ, ◌≡◌, refl, Bool, true, false, List, [], ◌∷◌, ◌++◌, map, length, drop}
 use Prim.Native.Char.{code}
 use Prim.Native.String.{String}
 use Rattle.std.proofs.Common.{arith, sym, ◌∙◌, ap, append_assoc, append-nil}
@@ -10,7 +10,7 @@ use mathlib.Core.List.{flatten, cons-ne-nil}
 use Rattle.terms.specs.Compare.{order_numbers, lexicographic}
 use Rattle.terms.specs.Differ.{differ_at, Unlike, DifferAt}
 use Rattle.terms.specs.Equation.{orient}
-use Rattle.terms.specs.Term.{Term, order}
+use Rattle.terms.specs.Term.{Term}
 use Rattle.terms.specs.Theory.Reflects.{Reflects}
 use Rattle.terms.specs.Theory.Order.{tie_reflects}
 use Rattle.terms.specs.Theory.Equation.{orient_either, orient_swap}
@@ -19,8 +19,7 @@ use Rattle.words.specs.Words.{Word, order_words, order_lists, words}
 use Rattle.words.specs.Theory.Order.{word_order, list_order}
 use Rattle.search.specs.Line.{Limits}
 use Rattle.text.specs.Bytes.{ascii, number, after, pieces}
-use Rattle.text.specs.Answer.{fitting, field, values, yes_no}
-use Rattle.text.specs.Job.{Job, oriented, read_job}
+use Rattle.text.specs.Answer.{field, values, yes_no}
 use Rattle.text.specs.JobText.{Passes}
 use Rattle.text.specs.Words.{word, word_list, lists_text, differ_line, words_text, words_entry}
 use Rattle.text.specs.Parted.{listed, Lines, SaysYes, SaysNo, Lists, Told, Tells, PartsAtEnd}
@@ -28,8 +27,8 @@ use Rattle.text.specs.Theory.AtLeast.{higher}
 use Rattle.text.specs.Theory.Numbers.{number_least}
 use Rattle.text.specs.Theory.LineValues.{given, under, line_values, no_lines, yes_no_printable}
 use Rattle.text.specs.Theory.Printed.{number_apart, word_apart, list_pieces, none_apart, list_least}
-use Rattle.text.specs.Theory.Accepted.{If_accepted, accepted_then, required_then}
-use Rattle.text.specs.Theory.JobText.{job_exact}
+use Rattle.text.specs.Theory.Accepted.{If_accepted}
+use Rattle.text.specs.Theory.Stated.{stated}
 use Rattle.text.specs.Theory.Entry.{words_claims}
 
 -- a value lists its words
@@ -186,7 +185,7 @@ module _ (us vs : List Word) where
       let k = differ_at order_words us vs in
       told_no (lists_of ls rs (lines_no ls rs k)) differ (says_no ls rs k (printed_part k (differ_first word_order us vs differ)))
 
-  told : Told us vs (words_text us vs)
+  pub told : Told us vs (words_text us vs)
   unfolding words_text
   told = told_printed (compare_is_eq (order_lists us vs)) (tie_reflects list_order us vs)
 
@@ -204,24 +203,11 @@ told_swap {us} {vs} h =
 
 -- of every call that answers
 
-oriented_told : (s t : Term) (m : Limits) {j : Job} → j ≡ oriented s t m → Told (words s) (words t) (words_text (words j.left) (words j.right))
-unfolding oriented
-oriented_told s t m e =
-    rw e
-    (orient_either (λ x y. Told (words s) (words t) (words_text (words x) (words y))) order s t (told (words s) (words t))
-    (told_swap (told (words t) (words s))))
-
--- the equation that the job states, and what is told of it
-abbrev Answers : List ℕ → List ℕ → Type 0
-Answers job a = (s : Term) × (t : Term) × (m : Limits) × Passes job s t m × Told (words s) (words t) a
-
-words_tells : (job : List ℕ) (room : ℕ) → If_accepted (Answers job) (words_entry job room)
-unfolding words_entry fitting
-words_tells job room =
-    accepted_then (Answers job) (read_job job) _ λ j read.
-    let (s, t, m, p, e) = (job_exact job j).0 read in
-    required_then (Answers job) 8 (leb (length (words_text (words j.left) (words j.right))) room) _ λ fits.
-    (s, t, m, p, oriented_told s t m e)
+words_tells : (job : List ℕ) (room : ℕ)
+    → If_accepted (λ a. (s : Term) × (t : Term) × (m : Limits) × Passes job s t m × Told (words s) (words t) a) (words_entry job room)
+unfolding words_entry
+words_tells =
+    stated (λ s t a. Told (words s) (words t) a) (λ s t. words_text (words s) (words t)) (λ s t a h. told_swap h) (λ s t. told (words s) (words t))
 
 pub tells : Tells
 tells job out r out' c h = rw ((words_claims job out c).text h) at (words_tells job (length out))

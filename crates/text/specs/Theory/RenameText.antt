@@ -1,18 +1,17 @@
 -- RENAME's answer, line by line.
-use Rattle.std.specs.Prelude.{ℕ, ◌≤◌, ◌<◌, ◌≡◌, refl, Bool, true, false, leb, length}
+use Rattle.std.specs.Prelude.{ℕ, ◌≡◌, refl, Bool, true, false}
 use Prim.Native.String.{String}
-use Rattle.std.proofs.Common.{sym, ◌∙◌, le-leb}
+use Rattle.std.proofs.Common.{sym, ◌∙◌}
 use Rattle.std.proofs.Math.Path.{ap}
 use mathlib.Core.List.{List, [], ◌++◌, append-nil, append_assoc}
 use Rattle.std.proofs.Math.Dec.{compare_is_eq}
-use Rattle.std.proofs.lemmas.Bool.{lt-leb}
 use Rattle.terms.specs.Equation.{Equation}
 use Rattle.terms.specs.Term.{Term}
 use Rattle.words.specs.Words.{Word, words, order_lists}
 use Rattle.words.specs.Rename.{canonical_terms, canonical_words}
 use Rattle.text.specs.Bytes.{ascii, after}
 use Rattle.text.specs.TermText.{write_term}
-use Rattle.text.specs.Answer.{refused, accepted, ◌>>=◌, require, fitting, field, values}
+use Rattle.text.specs.Answer.{refused, accepted, ◌>>=◌, fitting, field, values}
 use Rattle.text.specs.Job.{Job, read_job}
 use Rattle.text.specs.Words.{word_list}
 use Rattle.text.specs.Rename.{term_lines, word_lines, renamed_words, rename_text, rename_entry}
@@ -20,7 +19,6 @@ use Rattle.text.specs.Shared.{FourLines}
 use Rattle.text.specs.Theory.AtLeast.{Printable}
 use Rattle.text.specs.Theory.TermText.{write_term_least}
 use Rattle.text.specs.Theory.LineValues.{given, under, line_values, no_lines}
-use Rattle.text.specs.Theory.Accepted.{required_then}
 use Rattle.text.specs.Theory.Printed.{Values, list_least, dash_least}
 
 -- a job that is read is answered by its text, where there is room, and another is refused
@@ -32,18 +30,6 @@ rename_prints job room e = rw e
 pub rename_refuses : (job : List ℕ) (room : ℕ) {n : ℕ} → read_job job ≡ refused n → rename_entry job room ≡ refused n
 unfolding rename_entry ◌>>=◌
 rename_refuses job room e = rw e
-
-pub fitting_room : (room : ℕ) (t : List ℕ) → length t ≤ room → fitting room t ≡ accepted t
-unfolding fitting ◌>>=◌ require
-fitting_room room t h = rw (le-leb (length t) room h)
-
-pub fitting_only : (room : ℕ) (t : List ℕ) {u : List ℕ} → fitting room t ≡ accepted u → t ≡ u
-unfolding fitting
-fitting_only room t {u} e = rw e at (required_then (λ v. t ≡ v) 8 (leb (length t) room) (λ _. accepted t) (λ _. refl))
-
-pub fitting_short : (room : ℕ) (t : List ℕ) → room < length t → fitting room t ≡ refused 8
-unfolding fitting ◌>>=◌ require
-fitting_short room t h = rw (lt-leb (length t) room h)
 
 -- the values of four lines by their keys
 module _ {a b c d : List ℕ} (P : Values a b c d) where

@@ -27,7 +27,8 @@ use Rattle.text.specs.Claims.{job_numbers}
 use Rattle.text.specs.Shared.{Named, FourLines, Answers, HasName, EveryCall, Share, SharedName, SharedLines, SharedWords, Dashes, GivesBack}
 use Rattle.text.specs.Theory.Printed.{term_apart, list_apart, dash_apart}
 use Rattle.text.specs.Theory.JobText.{job_exact, passes_read}
-use Rattle.text.specs.Theory.RenameText.{rename_prints, rename_refuses, fitting_room, fitting_only, fitting_short, word_value, words_lines, agree, left_value, right_value, wleft_value, wright_value, text_lines}
+use Rattle.text.specs.Theory.Accepted.{fitting_room, fitting_only, fitting_short}
+use Rattle.text.specs.Theory.RenameText.{rename_prints, rename_refuses, word_value, words_lines, agree, left_value, right_value, wleft_value, wright_value, text_lines}
 use Rattle.text.specs.Theory.Entry.{Numbered, read_numbered, rename_claims}
 
 -- equations that share a name get the same four lines

@@ -1,11 +1,10 @@
 // RENAME: the equation and its lists of words, each with the v letters renamed so that it is the least.
 ghost use Rattle.std.specs.Prelude.{◌≡◌, List, ◌++◌, ◌≤◌, length};
-ghost use Rattle.std.proofs.Math.Dec.{compare_is_eq};
 ghost use Rattle.terms.specs.Term.{Term, size};
 ghost use Rattle.terms.specs.Letters.{letters, rising, variables};
 ghost use Rattle.terms.specs.Equation.{Equation};
 ghost use Rattle.terms.specs.Held.{IsRun};
-ghost use Rattle.words.specs.Words.{Word, words, order_lists};
+ghost use Rattle.words.specs.Words.{Word, words};
 ghost use Rattle.words.specs.Rename.{canonical_terms};
 ghost use Rattle.text.specs.Answer.{fitting};
 ghost use Rattle.text.specs.Rename.{term_lines, renamed_words};
@@ -20,7 +19,8 @@ use search::search::LARGEST;
 use words::candidate;
 use words::candidate::canonical_terms;
 use words::candidate::words::canonical_words;
-use words::normal_form::{ROOM, compare_lists, words_of};
+use words::normal_form::ROOM;
+use words::same::same_words;
 
 // The answer, from the renamed equation and the renamed lists of words, which there are where the sides' words differ.
 #[derive(Clone, Copy)]
@@ -48,23 +48,11 @@ impl<'a> Text for Renamed<'a> {
     }
 }
 
-// Whether the words of two terms agree. Not inlined, so that its lists do not lie beside the caller's on the stack.
-#[inline(never)]
-pub fn same_words(sides: Sides<'_>) -> bool
-    ensures { (s t : Term) → IsRun sides.entry.left.now s → IsRun sides.entry.right.now t → size s ≤ 31 → size t ≤ 31 → result ≡ compare_is_eq (order_lists (words s) (words t)) }
-{
-    let mut a = [0u32; ROOM];
-    let mut b = [0u32; ROOM];
-    let m = words_of(sides.left, &mut a);
-    let n = words_of(sides.right, &mut b);
-    compare_lists(&a[..m], &b[..n]).order.is_eq()
-}
-
 // The lists of words renamed, where they differ.
 fn renamed_lists<'a>(sides: Sides<'_>, lists: &'a mut candidate::Equation<'_>) -> Option<Sides<'a>>
     ensures { (s t : Term) → IsRun sides.entry.left.now s → IsRun sides.entry.right.now t → size s ≤ 31 → size t ≤ 31 → length (rising (variables (letters s ++ letters t))) ≤ 6 → 5508 ≤ lists.old.room → renamed.Renamed (words s) (words t) result }
 {
-    if same_words(sides) {
+    if same_words(sides.left, sides.right) {
         return None;
     }
     canonical_words(sides.left, sides.right, lists);

@@ -156,7 +156,7 @@ pub fn read_find(s: &[u8], rights: &mut [u32]) -> Result<Read, Refusal>
     }
 }
 
-// The job of WORDS and RENAME, which has one right side.
+// The job of WORDS, RENAME and SAME, which has one right side.
 pub fn read_job(s: &[u8], rights: &mut [u32]) -> Result<Read, Refusal>
     requires { SLOT ≤ length rights.old }
     ensures { ReadsJob s.now result rights.new }
