@@ -1,19 +1,12 @@
 -- The lists of an entry, as they are made.
-use Rattle.std.proofs.Common.{◌≡◌, ℕ, ◌≤◌, Bool, true, false, List, length, sym, ap, ◌∙◌, inl, inr, arith}
-use lib.Dec.{compare_is_eq}
-use Rattle.terms.specs.Term.{Term, size}
-use Rattle.terms.specs.Held.{IsRun}
-use Rattle.words.specs.Words.{words, order_lists}
+use Rattle.std.proofs.Common.{◌≡◌, ℕ, Bool, true, false, List, length, sym, ap, ◌∙◌, inl, inr, arith}
+use Rattle.words.specs.Words.{words}
 use Rattle.words.specs.Candidate.{Sides, nothing, CanonicalTerms}
-use Rattle.words.specs.WordLists.{CanonicalWords}
+use Rattle.words.specs.WordLists.{CanonicalWords, SameWords}
 use Rattle.catalogue.specs.Texts.{lines_by}
 use Rattle.catalogue.specs.Promises.{MakesLists}
 use Rattle.catalogue.specs.declared.kind.Key.TheVariants.{Raw, Words}
 use Rattle.catalogue.specs.Theory.Lists.{raw_lists, raw_room, agreed_lists, different_lists, words_room}
-
--- whether the words of two terms agree
-abbrev Agree : (xs ys : List ℕ) → Bool → Type 0
-Agree xs ys b = (s t : Term) → IsRun xs s → IsRun ys t → size s ≤ 31 → size t ≤ 31 → b ≡ compare_is_eq (order_lists (words s) (words t))
 
 module _ {xs ys : List ℕ} {room : ℕ} {e : Sides} where
   -- the renamed sides
@@ -28,7 +21,7 @@ module _ {xs ys : List ℕ} {room : ℕ} {e : Sides} where
       }
 
   -- nothing where the words agree
-  pub nothing_made : (b : Bool) → Agree xs ys b → b ≡ true → e ≡ (nothing room).sides → MakesLists Words xs ys room e
+  pub nothing_made : (b : Bool) → SameWords xs ys b → b ≡ true → e ≡ (nothing room).sides → MakesLists Words xs ys room e
   unfolding lines_by
   nothing_made b A h K =
       record {
@@ -38,7 +31,7 @@ module _ {xs ys : List ℕ} {room : ℕ} {e : Sides} where
       }
 
   -- otherwise the renamed lists of words
-  pub lists_made : (b : Bool) → Agree xs ys b → b ≡ false → CanonicalWords xs ys room e → MakesLists Words xs ys room e
+  pub lists_made : (b : Bool) → SameWords xs ys b → b ≡ false → CanonicalWords xs ys room e → MakesLists Words xs ys room e
   unfolding lines_by
   lists_made b A h C =
       record {

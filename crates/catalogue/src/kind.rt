@@ -3,9 +3,9 @@ ghost use Rattle.std.specs.Prelude.{◌≡◌};
 ghost use Rattle.catalogue.specs.Promises.{number_of, MakesLists};
 
 use text::answer::Sides;
-use text::answer::rename::same_words;
 use words::candidate::words::canonical_words;
 use words::candidate::{Equation, canonical_terms};
+use words::same::same_words;
 
 // Each with the number that stands for it in a place.
 #[derive(Clone, Copy, PartialEq, Eq)]
@@ -31,7 +31,7 @@ pub fn lists_of(key: Key, sides: Sides<'_>, lists: &mut Equation<'_>)
     let Sides { left, right } = sides;
     match key {
         Key::Raw => canonical_terms(left, right, lists),
-        Key::Words if same_words(Sides { left, right }) => lists.clear(),
+        Key::Words if same_words(left, right) => lists.clear(),
         Key::Words => canonical_words(left, right, lists),
     }
 }

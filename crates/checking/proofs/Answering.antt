@@ -6,7 +6,7 @@ use Rattle.text.specs.Bytes.{ascii}
 use Rattle.text.specs.Entry.{Call, Gives}
 use Rattle.text.specs.Refusal.{number_returned}
 use Rattle.text.specs.declared.refusal.Refusal.{Refusal}
-use Rattle.text.specs.Theory.RenameText.{fitting_only}
+use Rattle.text.specs.Theory.Accepted.{fitting_only}
 use Rattle.text.proofs.Entries.{call_of}
 use Rattle.checking.specs.Check.{good, check}
 use Rattle.checking.specs.Judged.{Judges}

@@ -10,7 +10,8 @@ use Rattle.text.specs.Job.{Job}
 use Rattle.text.specs.Rename.{term_lines, word_lines, rename_text}
 use Rattle.text.specs.Theory.AtLeast.{Printable}
 use Rattle.text.specs.Theory.Printed.{fields_apart}
-use Rattle.text.specs.Theory.RenameText.{rename_prints, fitting_room, fitting_only, words_lines, left_value, right_value, wleft_value, wright_value, printable_values, text_lines}
+use Rattle.text.specs.Theory.Accepted.{fitting_room, fitting_only}
+use Rattle.text.specs.Theory.RenameText.{rename_prints, words_lines, left_value, right_value, wleft_value, wright_value, printable_values, text_lines}
 use Rattle.catalogue.specs.Catalogue.{Entry}
 use Rattle.catalogue.specs.Texts.{Key, raw, worded, key_name, Kind, lines_by, read_put}
 use Rattle.catalogue.specs.Claims.{lines_under, PutOf, OneKind}
