@@ -1,10 +1,11 @@
-// The six entries, each over the function below with the same contract. Hosts call them as C functions, which are in the crate
+// The seven entries, each over the function below with the same contract. Hosts call them as C functions, which are in the crate
 // puvainy_c: no crate can call those, so both stand.
 #![tactic(auto)]
 
 ghost use Rattle.std.specs.Prelude.{length};
 ghost use Rattle.text.specs.Words.{words_entry};
 ghost use Rattle.text.specs.Rename.{rename_entry};
+ghost use Rattle.text.specs.Same.{same_entry};
 ghost use Rattle.text.specs.Entry.{Call, FindCall};
 ghost use Rattle.checking.specs.Claims.{CheckCall};
 ghost use Rattle.catalogue.specs.Texts.{put_text, withdraw_text};
@@ -54,4 +55,11 @@ pub fn puvainy_withdraw(text: &[u8], catalogue: &mut [u32]) -> usize
     ensures { SentCall (withdraw_text text.now) catalogue.old result catalogue.new }
 {
     withdraw(text, catalogue)
+}
+
+// SAME.
+pub fn puvainy_same(job: &[u8], output: &mut [u8]) -> usize
+    ensures { Call (same_entry job.now (length output.old)) output.old result output.new }
+{
+    entry::same(job, output)
 }

@@ -5,6 +5,7 @@
 ghost use Rattle.std.specs.Prelude.{length};
 ghost use Rattle.text.specs.Words.{words_entry};
 ghost use Rattle.text.specs.Rename.{rename_entry};
+ghost use Rattle.text.specs.Same.{same_entry};
 ghost use Rattle.text.specs.Entry.{Call, FindCall};
 ghost use Rattle.checking.specs.Claims.{CheckCall};
 ghost use Rattle.catalogue.specs.Texts.{put_text, withdraw_text};
@@ -56,4 +57,12 @@ pub extern "C" fn puvainy_withdraw(text: &[u8], catalogue: &mut [u32]) -> usize
     ensures { SentCall (withdraw_text text.now) catalogue.old result catalogue.new }
 {
     puvainy::puvainy_withdraw(text, catalogue)
+}
+
+// SAME.
+#[unsafe(no_mangle)]
+pub extern "C" fn puvainy_same(job: &[u8], output: &mut [u8]) -> usize
+    ensures { Call (same_entry job.now (length output.old)) output.old result output.new }
+{
+    puvainy::puvainy_same(job, output)
 }
