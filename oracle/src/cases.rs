@@ -5,6 +5,7 @@ mod check;
 mod fixed;
 mod many;
 mod parted;
+mod same;
 
 use crate::plain::job;
 use crate::{About, Call, Entry, Given, PROGRAM_ROOM, PROGRAM_SLOTS, checked};
@@ -124,7 +125,8 @@ macro_rules! none {
 use none;
 
 /// The cases about these, or about all if none is said: those of document 01 with the examples of its table of
-/// refusals and of where lists part, those for several right sides, those for CHECK, and those with c letters.
+/// refusals and of where lists part, those for several right sides, those for CHECK, those with c letters, and those
+/// for SAME.
 pub fn cases(about: &[About]) -> Vec<Case> {
     let is_meant = |one: About| one.is_among(about);
     let mut all = Vec::new();
@@ -143,6 +145,9 @@ pub fn cases(about: &[About]) -> Vec<Case> {
     }
     if is_meant(About::Fixed) {
         all.extend(fixed::cases());
+    }
+    if is_meant(About::Same) {
+        all.extend(same::cases());
     }
     all
 }

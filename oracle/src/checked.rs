@@ -67,7 +67,7 @@ fn of_job(call: &Call) -> Result<Given, Box<Difference>> {
 }
 
 /// Holds an answer to a job, slots and room enough, to the Rust's: without the `cut` lines of FIND's nones, and
-/// without the last line of WORDS where it says no, which is held to the Rust's lists.
+/// without the last line of WORDS where it says no, which is held to the Rust's lists. SAME's is held to WORDS too.
 pub fn beside_rust(call: &Call, whole: &Given) -> Result<(), Box<Difference>> {
     let shared = whole.clone().map(|text| match call.entry {
         Entry::Words => last_line_off(&text).0.to_vec(),
@@ -77,6 +77,7 @@ pub fn beside_rust(call: &Call, whole: &Given) -> Result<(), Box<Difference>> {
     same(call, what, &shared, &rust::answer(call.entry, &call.job))?;
     match (call.entry, whole) {
         (Entry::Words, Ok(text)) => words::hold(call, text),
+        (Entry::Same, _) => words::hold_first(call, whole),
         _ => Ok(()),
     }
 }

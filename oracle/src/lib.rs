@@ -11,21 +11,33 @@ pub mod play;
 pub mod rust;
 pub mod tally;
 
-/// The entries: three take a job, CHECK takes a derivation.
+/// The entries: CHECK takes a derivation, the others a job.
 #[derive(Clone, Copy, Debug, Eq, PartialEq)]
 pub enum Entry {
     Find,
     Words,
     Rename,
     Check,
+    Same,
 }
 
 impl Entry {
-    pub const ALL: [Entry; 4] = [Entry::Find, Entry::Words, Entry::Rename, Entry::Check];
-    pub const OF_JOBS: [Entry; 3] = [Entry::Find, Entry::Words, Entry::Rename];
+    pub const ALL: [Entry; 5] = [
+        Entry::Find,
+        Entry::Words,
+        Entry::Rename,
+        Entry::Check,
+        Entry::Same,
+    ];
+    pub const OF_JOBS: [Entry; 4] = [Entry::Find, Entry::Words, Entry::Rename, Entry::Same];
 
     pub fn name(self) -> &'static str {
-        ["find", "words", "rename", "check"][self as usize]
+        ["find", "words", "rename", "check", "same"][self as usize]
+    }
+
+    /// The number that stands for it in lists. 5 and 6 are those of PUT and WITHDRAW.
+    pub fn number(self) -> usize {
+        [1, 2, 3, 4, 7][self as usize]
     }
 
     pub fn named(name: &str) -> Option<Entry> {
@@ -34,13 +46,14 @@ impl Entry {
 }
 
 /// What a call is about: a job of one right side or of several, some of which may be wrong, a
-/// derivation for CHECK, or any of these with c letters.
+/// derivation for CHECK, any of these with c letters, or a job for SAME, with c letters or without.
 #[derive(Clone, Copy, Debug, Eq, PartialEq)]
 pub enum About {
     One,
     Many,
     Check,
     Fixed,
+    Same,
 }
 
 impl About {
@@ -76,6 +89,11 @@ pub enum Ask {
 impl Ask {
     pub fn name(self) -> &'static str {
         ["put", "withdraw"][self as usize]
+    }
+
+    /// The number that stands for it in lists.
+    pub fn number(self) -> usize {
+        [5, 6][self as usize]
     }
 }
 

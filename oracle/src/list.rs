@@ -6,7 +6,7 @@ use std::io::{self, Write};
 
 use crate::{Call, Given, Sent};
 
-/// Writes a call: entry (1 FIND, 2 WORDS, 3 RENAME, 4 CHECK), slots, room, job's length; then the job.
+/// Writes a call: entry (1 FIND, 2 WORDS, 3 RENAME, 4 CHECK, 7 SAME), slots, room, job's length; then the job.
 pub fn write_call(out: &mut impl Write, call: &Call) -> io::Result<()> {
     writeln!(out, "{}", header(call))?;
     out.write_all(&call.job)
@@ -25,7 +25,7 @@ pub fn write_record(out: &mut impl Write, call: &Call, given: &Given) -> io::Res
 }
 
 fn header(call: &Call) -> String {
-    let entry = call.entry as usize + 1;
+    let entry = call.entry.number();
     format!("{entry} {} {} {}", call.slots, call.room, call.job.len())
 }
 
@@ -42,6 +42,6 @@ pub fn write_returned(out: &mut impl Write, sent: &Sent, number: usize) -> io::R
 }
 
 fn sent_header(sent: &Sent) -> String {
-    let entry = sent.ask as usize + 5;
+    let entry = sent.ask.number();
     format!("{entry} 0 0 {}", sent.text.len())
 }

@@ -2,7 +2,9 @@
 
 mod names;
 mod parted;
+mod places;
 mod plays;
+mod same;
 
 use std::collections::BTreeMap;
 use std::fmt;
@@ -14,6 +16,7 @@ use crate::{Call, Entry, Given};
 pub use names::NameTally;
 use parted::Parted;
 pub use plays::PlayTally;
+use same::Same;
 
 /// How often each key was counted.
 type Counts = BTreeMap<String, usize>;
@@ -28,6 +31,7 @@ pub struct Tally {
     paths: BTreeMap<usize, usize>,
     cuts: Cuts,
     parted: Parted,
+    same: Same,
     /// The step lines of good derivations.
     chains: BTreeMap<usize, usize>,
 }
@@ -79,6 +83,7 @@ impl Tally {
                 let lines = values(&call.job, "step=").count();
                 *self.chains.entry(lines).or_default() += 1;
             }
+            Entry::Same => self.same.count(&call.job, text),
         }
         let blocks = outcomes(text);
         if blocks.len() > 1 {
@@ -105,6 +110,7 @@ impl Tally {
         add(&mut self.paths, other.paths);
         self.cuts.add(&other.cuts);
         self.parted.add(&other.parted);
+        self.same.add(&other.same);
         add(&mut self.chains, other.chains);
     }
 }
@@ -115,8 +121,7 @@ fn add<K: Ord>(counts: &mut BTreeMap<K, usize>, others: BTreeMap<K, usize>) {
     }
 }
 
-/// `refused N`, `proved`, `none`, `several` for several blocks, `good` for CHECK, or `answered` for WORDS and
-/// RENAME.
+/// `refused N`, `proved`, `none`, `several` for several blocks, `good` for CHECK, or `answered` for the others.
 fn outcome(given: &Given) -> String {
     match given {
         Err(number) => format!("refused {number}"),
@@ -170,6 +175,7 @@ impl fmt::Display for Tally {
         )?;
         writeln!(out, "{}", self.cuts)?;
         writeln!(out, "{}", self.parted)?;
+        writeln!(out, "{}", self.same)?;
         let lines: usize = self.chains.iter().map(|(lines, count)| lines * count).sum();
         let most = self.chains.keys().max().unwrap_or(&0);
         writeln!(

@@ -139,11 +139,17 @@ fn both_rules_for_cut_differ_often() {
 }
 
 #[test]
-fn two_of_five_calls_of_a_mixed_list_are_of_one_right_side() {
+fn a_third_of_a_mixed_list_is_of_one_right_side() {
     let shares = |about| KINDS.iter().filter(move |kind| kind.about == about);
     let sum = |about| shares(about).map(|kind| kind.share).sum::<usize>();
-    let all = [About::One, About::Many, About::Check, About::Fixed];
-    assert_eq!(all.map(sum), [1_000, 500, 500, 500]);
+    let all = [
+        About::One,
+        About::Many,
+        About::Check,
+        About::Fixed,
+        About::Same,
+    ];
+    assert_eq!(all.map(sum), [1_000, 500, 500, 500, 500]);
 }
 
 #[test]

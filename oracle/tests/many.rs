@@ -96,7 +96,7 @@ fn right_lines_stand_behind_left_and_before_the_limits() {
         let is_good = at == 1 || at == 2;
         assert_eq!(given(Entry::Find, moved.concat()).is_ok(), is_good, "{at}");
     }
-    for entry in [Entry::Words, Entry::Rename] {
+    for entry in [Entry::Words, Entry::Rename, Entry::Same] {
         assert_eq!(given(entry, good.clone()), Err(1));
     }
 }

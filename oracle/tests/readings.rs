@@ -114,6 +114,7 @@ fn length_counts_the_whole_text() {
         (Entry::Find, 4_096),
         (Entry::Words, 1_024),
         (Entry::Rename, 1_024),
+        (Entry::Same, 1_024),
     ] {
         let of_length = |length: usize| {
             let left = "0".repeat(length - bytes);
@@ -177,6 +178,9 @@ fn lists_and_renamings() {
             ["+ v2 * v1 v9", "v1"],
             "same=no\nleft=v1\nright=v1 v9;v2\ndiffer=0\n",
         ),
+        (Entry::Same, ["0", "* 0 v3"], "same=yes\n"),
+        (Entry::Same, ["1", "0"], "same=no\n"),
+        (Entry::Same, ["+ v2 * v1 v9", "v1"], "same=no\n"),
         (
             Entry::Rename,
             ["+ v9 * 0 v4", "1"],

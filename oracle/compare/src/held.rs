@@ -39,6 +39,7 @@ impl Buffers {
             Entry::Words => entries::words(job, output),
             Entry::Rename => entries::rename(job, output),
             Entry::Check => entries::check(job, output),
+            Entry::Same => entries::same(job, output),
         };
         self.number_fault(number, due)
             .or_else(|| self.output_fault(dirt, due))

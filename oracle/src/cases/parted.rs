@@ -112,7 +112,7 @@ fn no(name: &'static str, sides: &[String; 2], lists: [Vec<&str>; 2], place: usi
 }
 
 /// The product of sums of 1, so many in each.
-fn product(widths: &[usize]) -> String {
+pub fn product(widths: &[usize]) -> String {
     let sums: Vec<String> = widths.iter().map(|&width| sum_of("1", width)).collect();
     "* ".repeat(sums.len() - 1) + &sums.join(" ")
 }

@@ -18,6 +18,7 @@ mod plays;
 mod puts;
 mod random;
 mod refused;
+mod same;
 mod searched;
 mod spoilt;
 mod tables;
@@ -35,6 +36,8 @@ pub use random::Random;
 pub struct Kind {
     pub name: &'static str,
     pub about: About,
+    /// Whether it draws c letters.
+    pub has_c: bool,
     pub share: usize,
     pub what: &'static str,
     make: Make,
@@ -55,6 +58,7 @@ const fn one(name: &'static str, share: usize, what: &'static str, make: Make) -
     Kind {
         name,
         about: About::One,
+        has_c: false,
         share,
         what,
         make,
@@ -79,14 +83,30 @@ const fn check(name: &'static str, share: usize, what: &'static str, make: Make)
 const fn fixed(name: &'static str, share: usize, what: &'static str, make: Make) -> Kind {
     Kind {
         about: About::Fixed,
+        has_c: true,
         ..one(name, share, what, make)
     }
 }
 
-/// The kinds; the shares of those with one right side make a thousand, of those with several, of those for CHECK and
-/// of those with c letters five hundred each.
+const fn same(name: &'static str, share: usize, what: &'static str, make: Make) -> Kind {
+    Kind {
+        about: About::Same,
+        ..one(name, share, what, make)
+    }
+}
+
+/// A kind for SAME that draws c letters.
+const fn same_c(name: &'static str, share: usize, what: &'static str, make: Make) -> Kind {
+    Kind {
+        has_c: true,
+        ..same(name, share, what, make)
+    }
+}
+
+/// The kinds; the shares of those with one right side make a thousand, of those with several, of those for CHECK, of
+/// those with c letters and of those for SAME five hundred each.
 #[rustfmt::skip]
-pub const KINDS: [Kind; 74] = [
+pub const KINDS: [Kind; 87] = [
     one("lines", 60, "malformed lines, keys, digits and lengths", broken::lines),
     one("sides", 80, "a side that is no term", refused::sides),
     one("nodes", 40, "sides of 29 nodes and more", refused::nodes),
@@ -161,6 +181,19 @@ pub const KINDS: [Kind; 74] = [
     fixed("c-twofold", 10, "a letter of a law that meets two terms", bent::twofold),
     fixed("c-terms", 15, "a side or a result that is no term", unread::terms),
     fixed("c-names", 15, "five to eight v letters in all terms, and c letters", measured::names),
+    same("yes", 80, "the same words by other terms", same::yes),
+    same("counts", 90, "counts of words that differ", same::counts),
+    same("early", 45, "as many words, lists that part at the first", same::early),
+    same("late", 65, "as many words, lists with common words in front", same::late),
+    same("few-words", 40, "no word or one on a side", same::few),
+    same("line-room", 40, "no room, or about the length of the line", same::room),
+    same("same-faults", 45, "refusals 2 to 6, several reasons", same::faults),
+    same("same-lines", 35, "malformed lines, damaged texts, several right lines", same::lines),
+    same_c("c-yes", 10, "the same words by other terms", same::yes),
+    same_c("c-counts", 10, "counts of words that differ", same::counts),
+    same_c("c-early", 10, "as many words, lists that part at the first", same::early),
+    same_c("c-late", 15, "as many words, lists with common words in front", same::late),
+    same_c("c-faults", 15, "refusals 2 to 6, several reasons", same::faults),
 ];
 
 /// Which calls to make.
@@ -204,8 +237,8 @@ impl Plan {
     pub fn call(&self, index: u64) -> (usize, Call) {
         let mut random = Random::new(self.seed, index);
         let kind = self.kind.unwrap_or_else(|| self.by_share(&mut random));
-        let Kind { about, make, .. } = KINDS[kind];
-        random = random.with_c(about == About::Fixed);
+        let Kind { has_c, make, .. } = KINDS[kind];
+        random = random.with_c(has_c);
         let mut call = make(&mut random);
         call.job.truncate(self.most_bytes);
         call.slots = call.slots.min(self.most_slots);

@@ -13,7 +13,7 @@ use crate::plain::{
 };
 
 /// The atoms of each factor of a product of sums.
-type Factors = Vec<Vec<u16>>;
+pub type Factors = Vec<Vec<u16>>;
 
 /// A product of sums, and a side whose words mostly begin as its words do, in any order. In some calls the room is
 /// about what the answer takes, with its last line or without.
@@ -53,7 +53,7 @@ fn sides(random: &mut Random, pool: &[u16]) -> Sides {
 }
 
 /// Up to sixteen atoms; in three of four calls they make 324, 288 or 243 words if none is 0.
-fn factors(random: &mut Random, pool: &[u16]) -> Factors {
+pub fn factors(random: &mut Random, pool: &[u16]) -> Factors {
     let mut widths = match random.below(4) {
         0 => vec![4, 3, 3, 3, 3],
         1 => vec![4, 4, 3, 3, 2],
@@ -65,7 +65,7 @@ fn factors(random: &mut Random, pool: &[u16]) -> Factors {
     widths.into_iter().map(&mut atoms).collect()
 }
 
-fn product(random: &mut Random, factors: &Factors) -> Term {
+pub fn product(random: &mut Random, factors: &Factors) -> Term {
     let factors = factors.iter().map(|atoms| {
         let atoms = atoms.iter().map(|&atom| vec![atom]).collect();
         joined(random, atoms, &[SUM])
@@ -75,7 +75,7 @@ fn product(random: &mut Random, factors: &Factors) -> Term {
 }
 
 /// An atom dropped or another in its place, two factors exchanged, or other factors.
-fn changed(random: &mut Random, pool: &[u16], factors: &Factors) -> Factors {
+pub fn changed(random: &mut Random, pool: &[u16], factors: &Factors) -> Factors {
     let mut new = factors.clone();
     let (factor, at) = spot(random, factors);
     match random.below(6) {
@@ -111,7 +111,7 @@ fn greatest(atoms: &[u16]) -> usize {
 }
 
 /// The term and a word more, if there is room for one; in half of the calls it begins with the greatest letter.
-fn with_word(random: &mut Random, pool: &[u16], term: &Term) -> Term {
+pub fn with_word(random: &mut Random, pool: &[u16], term: &Term) -> Term {
     let most = (MOST_NODES - term.size()) / 2;
     if most == 0 {
         return term.clone();
@@ -128,7 +128,7 @@ fn with_word(random: &mut Random, pool: &[u16], term: &Term) -> Term {
 }
 
 /// 0, or 0 times a term.
-fn wordless(random: &mut Random, pool: &[u16]) -> Term {
+pub fn wordless(random: &mut Random, pool: &[u16]) -> Term {
     let mut parts = vec![vec![ZERO]];
     if random.percent(50) {
         parts.push(term_up_to(random, 15, pool).run().to_vec());

@@ -3,7 +3,7 @@
 use super::term::{Term, v_letters_of};
 use crate::Entry;
 
-/// The bytes of a job of WORDS or RENAME, and of one of FIND.
+/// The bytes of a job of WORDS, RENAME or SAME, and of one of FIND.
 pub const MOST_BYTES: usize = 1024;
 pub const MOST_FIND_BYTES: usize = 4096;
 /// The right sides of a job of FIND; the others have one.

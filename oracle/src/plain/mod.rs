@@ -11,6 +11,7 @@ pub mod nones;
 pub mod parted;
 pub mod proof;
 pub mod rename;
+pub mod same;
 pub mod search;
 pub mod stored;
 pub mod term;
@@ -83,6 +84,7 @@ fn block(entry: Entry, equation: &Equation, limits: &Limits, slots: usize) -> Op
     let (text, noted) = match entry {
         Entry::Words => (words::words_text(equation), 0),
         Entry::Rename => (rename::rename_text(equation), 0),
+        Entry::Same => (same::same_line(equation).to_owned(), 0),
         Entry::Check => unreachable!("CHECK takes no job"),
         Entry::Find => {
             let (left, right) = equation.oriented();

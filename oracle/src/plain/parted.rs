@@ -11,6 +11,12 @@ pub struct Said<'a> {
     pub place: Option<usize>,
 }
 
+/// The first line of an answer.
+pub fn first_line(answer: &[u8]) -> &[u8] {
+    let mut lines = answer.split_inclusive(|&byte| byte == b'\n');
+    lines.next().unwrap_or_default()
+}
+
 /// The answer without its last line, and that line, where it says no. Another answer has no such line.
 pub fn last_line_off(answer: &[u8]) -> (&[u8], &[u8]) {
     if !answer.starts_with(b"same=no\n") {

@@ -36,6 +36,7 @@ pub fn block(entry: Entry, equation: &Equation, limits: &Limits) -> String {
         Entry::Find => find_text(&equation, limits),
         Entry::Words => words_text(&equation),
         Entry::Rename => rename_text(&equation),
+        Entry::Same => same_line(&equation),
         Entry::Check => unreachable!("CHECK takes no job"),
     }
 }
@@ -106,6 +107,15 @@ fn words_text(equation: &EquationCandidate) -> String {
     };
     let (left, right) = (show_words(&left), show_words(&right));
     format!("same={same}\nleft={left}\nright={right}\n")
+}
+
+/// The line that the Rust's own question of the words gives.
+fn same_line(equation: &EquationCandidate) -> String {
+    let same = match equation.semiring_normalize() {
+        Some(_) => "no",
+        None => "yes",
+    };
+    format!("same={same}\n")
 }
 
 /// How many first words the word lists have in common; nothing where they are the same. The Rust prints no such line.

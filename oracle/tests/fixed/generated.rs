@@ -7,7 +7,7 @@ use oracle::plain::job::{Equation, Job, MOST_LETTERS};
 use oracle::plain::term::{is_c, letters_of, v_letters_of};
 use oracle::plain::words::words;
 use oracle::play::play;
-use oracle::{About, Call, Entry, Given, checked};
+use oracle::{Call, Entry, Given, checked};
 
 fn made(name: &str, count: u64) -> Vec<(Call, Given)> {
     let kind = KINDS.iter().position(|kind| kind.name == name);
@@ -49,10 +49,10 @@ fn kinds_have_c_letters_and_the_others_do_not() {
             ..Plan::default()
         };
         let count = plan.calls().filter(|(_, call)| has_c(&call.job)).count();
-        match kind.about {
-            About::Fixed => assert!(count > 40, "{}: {count}", kind.name),
+        match kind.has_c {
+            true => assert!(count > 40, "{}: {count}", kind.name),
             // damage may make a c of another byte
-            _ => assert!(count < 5, "{}: {count}", kind.name),
+            false => assert!(count < 5, "{}: {count}", kind.name),
         }
     }
 }
