@@ -3,13 +3,14 @@ use Rattle.std.specs.Prelude.{◌≡◌, ℕ, ◌+◌, ◌*◌, ◌%◌, ◌<◌
 use Rattle.text.specs.Entry.{Call, FindCall}
 use Rattle.text.specs.Words.{words_entry}
 use Rattle.text.specs.Rename.{rename_entry}
+use Rattle.text.specs.Same.{same_entry}
 use Rattle.checking.specs.Check.{check as check-entry}
 use Rattle.catalogue.specs.Texts.{put_text, withdraw_text}
 use Rattle.catalogue.specs.Stored.{SentCall}
 use Rattle.replay.specs.Dirt.{bytes, due}
 use Rattle.replay.specs.declared.record.Record.{Record}
 use Rattle.replay.specs.declared.record.Entry.{Entry}
-use Rattle.replay.specs.declared.record.Entry.TheVariants.{Find, Words, Rename, Check, Put, Withdraw, Other}
+use Rattle.replay.specs.declared.record.Entry.TheVariants.{Find, Words, Rename, Check, Put, Withdraw, Same, Other}
 use Rattle.replay.specs.declared.call.Buffers.{Buffers}
 use Rattle.replay.specs.declared.call.Fault.{Fault}
 use Rattle.replay.specs.declared.call.Fault.TheVariants.{Number, Output, Workspace, Catalogue, Buffers as TooSmall}
@@ -50,6 +51,7 @@ Made Rename job out work cat r out' work' cat' = Call (rename_entry job (length 
 Made Check job out work cat r out' work' cat' = Call (check-entry job (length out)) out r out' × (work' ≡ work) × (cat' ≡ cat)
 Made Put job out work cat r out' work' cat' = SentCall (put_text job) cat r cat' × (out' ≡ out) × (work' ≡ work)
 Made Withdraw job out work cat r out' work' cat' = SentCall (withdraw_text job) cat r cat' × (out' ≡ out) × (work' ≡ work)
+Made Same job out work cat r out' work' cat' = Call (same_entry job (length out)) out r out' × (work' ≡ work) × (cat' ≡ cat)
 Made (Other n) job out work cat r out' work' cat' = Call (check-entry job (length out)) out r out' × (work' ≡ work) × (cat' ≡ cat)
 
 -- the first that is not as due of a call: its number (r where d is due), its output, its workspace, the catalogue

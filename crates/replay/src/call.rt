@@ -73,6 +73,7 @@ fn made(
         Entry::Rename => puvainy::puvainy_rename(job, output),
         Entry::Put => puvainy::puvainy_put(job, catalogue),
         Entry::Withdraw => puvainy::puvainy_withdraw(job, catalogue),
+        Entry::Same => puvainy::puvainy_same(job, output),
         Entry::Check | Entry::Other(_) => puvainy::puvainy_check(job, output),
     }
 }

@@ -14,6 +14,7 @@ pub enum Entry {
     Check,
     Put,
     Withdraw,
+    Same,
     // Any other number; such a call is made of CHECK.
     Other(usize),
 }
@@ -29,6 +30,7 @@ impl From<usize> for Entry {
             4 => Entry::Check,
             5 => Entry::Put,
             6 => Entry::Withdraw,
+            7 => Entry::Same,
             _ => Entry::Other(number),
         }
     }
@@ -46,6 +48,7 @@ impl From<Entry> for usize {
             Entry::Check => 4,
             Entry::Put => 5,
             Entry::Withdraw => 6,
+            Entry::Same => 7,
             Entry::Other(number) => number,
         }
     }

@@ -7,7 +7,7 @@ use crate::record::Record;
 use std::fmt;
 use text::refusal::ANSWERED;
 
-const ROWS: usize = 7;
+const ROWS: usize = 8;
 
 const COLUMNS: usize = 16;
 
@@ -95,7 +95,9 @@ impl Tally {
     }
 }
 
-const NAMES: [&str; 6] = ["find", "words", "rename", "check", "put", "withdraw"];
+const NAMES: [&str; 7] = [
+    "find", "words", "rename", "check", "put", "withdraw", "same",
+];
 
 impl fmt::Display for Tally {
     fn fmt<W: fmt::Write>(&self, f: &mut fmt::Formatter<W>) -> fmt::Result {
