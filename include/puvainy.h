@@ -1,4 +1,4 @@
-/* Puvainy's six entries. The library is target/staticlib/libpuvainy.a, written by
+/* Puvainy's seven entries. The library is target/staticlib/libpuvainy.a, written by
  * `.ci/archive`.
  *
  * Each entry is proved for every text and for buffers of any length and contents. It keeps no pointer
@@ -97,6 +97,7 @@
  *     puvainy_check                  1 to 4, 11, 12, 8
  *     puvainy_put                    99, 1 to 6, 13, 15
  *     puvainy_withdraw               99, 1, 14
+ *     puvainy_same                   1 to 6, 8
  *
  * The order of terms: v letters by number, then c letters by number, then 0, 1, sums, products; two sums or
  * two products by their left parts, then by their right parts.
@@ -141,11 +142,11 @@
  * `wright`: vN is N + 1, cN is 1001 + N, and 0 stands behind each word; both are empty where the words agree.
  *
  * Stack: at most 120,000 bytes for puvainy_find, 100,000 for puvainy_words, 190,000 for puvainy_rename,
- * 40,000 for puvainy_check, 190,000 for puvainy_put and 20,000 for puvainy_withdraw on x86-64 (the macros
- * below). That is more than the frames of the deepest calls take together, with a path of 16 lines and terms
- * 15 deep. puvainy_check takes 35,032 bytes, for one line as for a text of 8,182 bytes, and some 2,200 more
- * where the names of memcpy and memset are bound in that call. The gate makes the calls of examples/deep.calls
- * on stacks of just these figures (examples/stack.c). A thread with 256 KiB has enough.
+ * 40,000 for puvainy_check, 190,000 for puvainy_put, 20,000 for puvainy_withdraw and 90,000 for puvainy_same
+ * on x86-64 (the macros below). That is more than the frames of the deepest calls take together, with a path of
+ * 16 lines and terms 15 deep. puvainy_check takes 35,032 bytes, for one line as for a text of 8,182 bytes, and
+ * some 2,200 more where the names of memcpy and memset are bound in that call. The gate makes the calls of
+ * examples/deep.calls on stacks of just these figures (examples/stack.c). A thread with 256 KiB has enough.
  */
 #ifndef PUVAINY_H
 #define PUVAINY_H
@@ -189,6 +190,7 @@ extern "C" {
 #define PUVAINY_CHECK_STACK 40000
 #define PUVAINY_PUT_STACK 190000
 #define PUVAINY_WITHDRAW_STACK 20000
+#define PUVAINY_SAME_STACK 90000
 
 /* A shortest chain of lines from the smaller side to the larger, with its proof text, or that there
  * is none within the limits; of several right sides this for each. A none ends with the line `cut=yes`
@@ -229,6 +231,13 @@ size_t puvainy_put(const uint8_t *text, size_t text_len,
  * free. */
 size_t puvainy_withdraw(const uint8_t *text, size_t text_len,
                         uint32_t *catalogue, size_t catalogue_len);
+
+/* Whether both sides have the same words: the one line `same=yes` or `same=no` and byte 10, so 109 or 108. It is the
+ * first line of puvainy_words' answer to the job, and no other part of that answer is made: 8 bytes of output hold
+ * `same=no`, 9 hold either. Where the sides have different numbers of words these are counted and not listed; else
+ * the lists are compared up to the first word at which they differ. */
+size_t puvainy_same(const uint8_t *job, size_t job_len,
+                    uint8_t *output, size_t output_len);
 
 #ifdef __cplusplus
 }
