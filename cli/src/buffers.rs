@@ -95,9 +95,11 @@ mod tests {
         let find = include_bytes!("../../docs/guide/archive.answer");
         let words = include_bytes!("../../docs/guide/archive.words");
         let rename = include_bytes!("../../docs/guide/archive.rename");
+        let same = include_bytes!("../../docs/guide/archive.same");
         assert_eq!(ask(Entry::Find), find);
         assert_eq!(ask(Entry::Words), words);
         assert_eq!(ask(Entry::Rename), rename);
+        assert_eq!(ask(Entry::Same), same);
         assert_eq!(buffers.ask(Entry::Check, DERIVATION), Ok(GOOD));
         assert_eq!(buffers.ask(Entry::Check, job), Err(1));
     }
@@ -192,7 +194,7 @@ mod tests {
         let mut none = Buffers::new(0, Room::Bytes(0));
         for entry in Entry::ALL {
             let text = match entry {
-                Entry::Find | Entry::Words | Entry::Rename => CASE_A,
+                Entry::Find | Entry::Words | Entry::Rename | Entry::Same => CASE_A,
                 Entry::Check => DERIVATION,
             };
             assert_eq!(none.ask(entry, b""), Err(1));

@@ -29,6 +29,7 @@ unsafe extern "C" {
         catalogue: *mut u32,
         catalogue_len: usize,
     ) -> usize;
+    fn puvainy_same(job: *const u8, job_len: usize, output: *mut u8, output_len: usize) -> usize;
 }
 
 /// FIND: what the call returns, `ANSWER` plus the answer's length or the number of a refusal.
@@ -69,4 +70,10 @@ pub fn withdraw(text: &[u8], catalogue: &mut [u32]) -> usize {
     let count = catalogue.len();
     // SAFETY: pointers and lengths are those of two slices.
     unsafe { puvainy_withdraw(text.as_ptr(), text.len(), catalogue.as_mut_ptr(), count) }
+}
+
+/// SAME: what the call returns, `ANSWER` plus the answer's length or the number of a refusal, as of WORDS.
+pub fn same(job: &[u8], output: &mut [u8]) -> usize {
+    // SAFETY: pointers and lengths are those of two slices.
+    unsafe { puvainy_same(job.as_ptr(), job.len(), output.as_mut_ptr(), output.len()) }
 }

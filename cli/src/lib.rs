@@ -44,10 +44,17 @@ pub enum Entry {
     Words,
     Rename,
     Check,
+    Same,
 }
 
 impl Entry {
-    pub const ALL: [Entry; 4] = [Entry::Find, Entry::Words, Entry::Rename, Entry::Check];
+    pub const ALL: [Entry; 5] = [
+        Entry::Find,
+        Entry::Words,
+        Entry::Rename,
+        Entry::Check,
+        Entry::Same,
+    ];
 
     pub fn name(self) -> &'static str {
         match self {
@@ -55,6 +62,7 @@ impl Entry {
             Entry::Words => "words",
             Entry::Rename => "rename",
             Entry::Check => "check",
+            Entry::Same => "same",
         }
     }
 
@@ -66,7 +74,7 @@ impl Entry {
     pub fn most_job(self) -> usize {
         match self {
             Entry::Find => MOST_FIND_JOB,
-            Entry::Words | Entry::Rename => MOST_JOB,
+            Entry::Words | Entry::Rename | Entry::Same => MOST_JOB,
             Entry::Check => MOST_DERIVATION,
         }
     }
@@ -75,7 +83,7 @@ impl Entry {
     pub fn most_rights(self) -> usize {
         match self {
             Entry::Find => MOST_RIGHTS,
-            Entry::Words | Entry::Rename | Entry::Check => 1,
+            Entry::Words | Entry::Rename | Entry::Check | Entry::Same => 1,
         }
     }
 
@@ -86,6 +94,7 @@ impl Entry {
             Entry::Words => entries::words(job, output),
             Entry::Rename => entries::rename(job, output),
             Entry::Check => entries::check(job, output),
+            Entry::Same => entries::same(job, output),
         }
     }
 }

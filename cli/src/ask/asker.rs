@@ -23,7 +23,7 @@ impl Asker {
     pub fn new(asking: Arc<Asking>) -> Asker {
         let slots = match asking.entry {
             Entry::Find => asking.slots,
-            Entry::Words | Entry::Rename | Entry::Check => 0,
+            Entry::Words | Entry::Rename | Entry::Check | Entry::Same => 0,
         };
         Asker {
             buffers: Buffers::new(slots, asking.room),

@@ -3,7 +3,7 @@
 /// A block: its lines, of which the first says `answer=`.
 pub struct Block<'a>(Vec<&'a str>);
 
-/// The blocks of an answer; none of one that WORDS or RENAME gave.
+/// The blocks of an answer; none of one that WORDS, RENAME or SAME gave.
 pub fn blocks(answer: &[u8]) -> Vec<Block<'_>> {
     let mut blocks: Vec<Block> = Vec::new();
     for line in str::from_utf8(answer).unwrap_or_default().lines() {

@@ -6,7 +6,7 @@ use super::*;
 use crate::refusals::JOBS as ROWS;
 
 /// The entries that take a job.
-const ENTRIES: [Entry; 3] = [Entry::Find, Entry::Words, Entry::Rename];
+const ENTRIES: [Entry; 4] = [Entry::Find, Entry::Words, Entry::Rename, Entry::Same];
 
 /// A job that each of them accepts, and others that a small damage makes one of too many v letters, of equal sides, or over a bound.
 const JOB: &str = "left=+ * v0 v1 0\nright=* v0 v1\nsteps=3\nsize=9\ndepth=4\nnodes=1000\n";
@@ -181,7 +181,7 @@ fn of_several_right_sides_the_place_of_each_fault_is_told() {
     let job = THREE.replacen("=+ 0 v1\n", &more, 1);
     let due = (Fault::Rights, "line 18 (right 17)".to_owned());
     assert_eq!(told(Entry::Find, &job), due);
-    for entry in [Entry::Words, Entry::Rename] {
+    for entry in [Entry::Words, Entry::Rename, Entry::Same] {
         let due = |place: &str| (Fault::Second, place.to_owned());
         assert_eq!(told(entry, THREE), due("line 3"));
         let behind = JOB.replacen("size", "right=0\nsize", 1);

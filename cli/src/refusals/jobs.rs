@@ -12,8 +12,8 @@ pub const JOBS: [Row; 29] = [
     row(
         1,
         Fault::Long,
-        "the job has over 4,096 bytes, or of WORDS or RENAME over 1,024",
-        "write nothing but the job's lines, of which at most 16 are right lines, with WORDS and RENAME one, and no space or 0 that is not needed",
+        "the job has over 4,096 bytes, or of WORDS, RENAME or SAME over 1,024",
+        "write nothing but the job's lines, of which at most 16 are right lines, with WORDS, RENAME and SAME one, and no space or 0 that is not needed",
     ),
     row(
         1,
@@ -42,7 +42,7 @@ pub const JOBS: [Row; 29] = [
     row(
         1,
         Fault::Second,
-        "WORDS and RENAME take one right line",
+        "WORDS, RENAME and SAME take one right line",
         "ask each right side in a job of its own",
     ),
     row(

@@ -1,4 +1,4 @@
-//! The words that put jobs to an entry: find, words, rename.
+//! The words that put jobs to an entry: find, words, rename, same.
 
 use std::ffi::OsString;
 
@@ -29,6 +29,12 @@ pub const RENAME: Word = word(
     |words| run(&RENAME, Entry::Rename, words),
 );
 
+pub const SAME: Word = word(
+    "same",
+    "whether both plans have the same words, in one line: the first that words prints for the job",
+    |words| run(&SAME, Entry::Same, words),
+);
+
 /// A word that asks an entry.
 const fn word(name: &'static str, does: &'static str, run: Run) -> Word {
     Word {
@@ -47,7 +53,8 @@ A job is read from each FILE, or from standard input if none is named (or by the
 to standard output; of several FILEs each after a line `# FILE`, in the order given. What is wrong with a
 refused job, and what to do about it and about a none, is said on standard error; so is, by words and with
 names, the word at which the lists part. A job of find has 1 to 16 lines right=, one behind the other, and
-gets a block of the answer for each; one of words or rename has one such line.
+gets a block of the answer for each; one of words, rename or same has one such line. A none and a no are
+answers: go by the lines printed, not by the exit status.
 
   --slots N     slots for the terms that are noted, 0 to 65535 (65535 unless said); only find uses them
   --room N      bytes of room for an answer, 0 to 33554432 (as many as it needs unless said)

@@ -25,13 +25,14 @@ pub struct Word {
 /// Does what the words behind its name ask.
 type Run = fn(Vec<OsString>) -> Result<Status, Failure>;
 
-pub const WORDS: [&Word; 7] = [
+pub const WORDS: [&Word; 8] = [
     &jobs::FIND,
     &jobs::WORDS,
     &jobs::RENAME,
     &check::CHECK,
     &changes::PUT,
     &changes::WITHDRAW,
+    &jobs::SAME,
     &draw::DRAW,
 ];
 

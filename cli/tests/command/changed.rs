@@ -2,7 +2,7 @@
 
 use std::fs;
 
-use crate::common::{Folder, Gave, puvainy, puvainy_on, stored};
+use crate::common::{Folder, Gave, guide_from, puvainy, puvainy_on, stored};
 
 /// The bytes of a catalogue's file.
 const BYTES: u64 = 1_384_452;
@@ -28,10 +28,7 @@ fn refused(gave: Gave, number: usize, said: &str) {
 
 /// The guide's sections about catalogues.
 fn sections() -> String {
-    let guide = stored("../guide.md");
-    let begin = guide.find("\n## A catalogue for training\n").unwrap();
-    let end = guide.find("\n## Asking by the command\n").unwrap();
-    guide[begin..end].to_owned()
+    guide_from("A catalogue for training", "Asking by the command")
 }
 
 /// A put under that number.

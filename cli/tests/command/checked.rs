@@ -1,6 +1,6 @@
 //! Derivations put to CHECK.
 
-use crate::common::{Gave, puvainy, puvainy_on, shell, stored};
+use crate::common::{Gave, guide_from, puvainy, puvainy_on, shell, stored};
 
 const GOOD: &str = "answer=good\n";
 
@@ -13,10 +13,7 @@ fn refused(gave: Gave, number: usize, said: &str) {
 
 /// The guide's sections about derivations.
 fn sections() -> String {
-    let guide = stored("../guide.md");
-    let begin = guide.find("\n## Checking a derivation\n").unwrap();
-    let end = guide.find("\n## A catalogue for training\n").unwrap();
-    guide[begin..end].to_owned()
+    guide_from("Checking a derivation", "A catalogue for training")
 }
 
 #[test]

@@ -3,6 +3,7 @@
 use std::io::Write;
 use std::path::{Path, PathBuf};
 use std::process::{Command, Output, Stdio};
+use std::str::Split;
 
 /// The command.
 const PUVAINY: &str = env!("CARGO_BIN_EXE_puvainy");
@@ -31,6 +32,44 @@ pub fn sides<'a>(text: &'a str, keys: [&str; 2]) -> [&'a str; 2] {
 /// Both ways to set the sides of an equation beside another's.
 pub fn both_ways([left, right]: [&str; 2]) -> [[&str; 2]; 2] {
     [[left, right], [right, left]]
+}
+
+/// The guide from one section on, up to another.
+pub fn guide_from(section: &str, other: &str) -> String {
+    let guide = stored("../guide.md");
+    let place = |title| guide.find(&format!("\n## {title}\n")).unwrap();
+    guide[place(section)..place(other)].to_owned()
+}
+
+/// Every side of a job of the guide, each once.
+pub fn plans() -> Vec<String> {
+    let lines = shell("cat *.job").printed;
+    let sides = lines.lines().filter_map(|line| line.split_once('='));
+    let sides = sides.filter(|(key, _)| matches!(*key, "left" | "right"));
+    let mut plans: Vec<_> = sides.map(|(_, side)| side.to_owned()).collect();
+    plans.sort();
+    plans.dedup();
+    plans
+}
+
+/// A job of two plans, for an entry that does not go by the limits.
+pub fn job_of([left, right]: [&str; 2]) -> String {
+    format!("left={left}\nright={right}\nsteps=0\nsize=0\ndepth=0\nnodes=0\n")
+}
+
+/// The guide's rule to count the words of a plan.
+fn count(items: &mut Split<char>) -> usize {
+    match items.next().unwrap() {
+        "0" => 0,
+        "+" => count(items) + count(items),
+        "*" => count(items) * count(items),
+        _ => 1,
+    }
+}
+
+/// How many words each of two plans has, by the guide's rule.
+pub fn counts(plans: [&str; 2]) -> [usize; 2] {
+    plans.map(|plan| count(&mut plan.split(' ')))
 }
 
 /// A picture's row of a job, or of a name: its text, and the colours of its letters.

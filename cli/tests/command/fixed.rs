@@ -1,15 +1,12 @@
 //! The guide's examples of letters for fixed tables.
 
-use crate::common::{Folder, drawn, puvainy, puvainy_on, sides, stored, value};
+use crate::common::{Folder, drawn, guide_from, puvainy, puvainy_on, sides, stored, value};
 
 const KEYS: [&str; 2] = ["left", "right"];
 
 /// The guide's section about these letters.
 fn section() -> String {
-    let guide = stored("../guide.md");
-    let begin = guide.find("\n## Letters for fixed tables\n").unwrap();
-    let end = guide.find("\n## Checking a derivation\n").unwrap();
-    guide[begin..end].to_owned()
+    guide_from("Letters for fixed tables", "Checking a derivation")
 }
 
 /// What stands in back quotes in each row of the table that begins so.
@@ -170,6 +167,7 @@ fn what_is_no_c_letter_is_refused_by_2() {
             ("find", &job),
             ("words", &job),
             ("rename", &job),
+            ("same", &job),
             ("check", &derivation),
         ];
         for (word, text) in texts {

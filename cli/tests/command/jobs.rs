@@ -77,7 +77,7 @@ fn a_text_that_is_no_job_is_refused() {
     );
     assert!(
         large.said.contains(
-            "the whole text: the job has over 4,096 bytes, or of WORDS or RENAME over 1,024; "
+            "the whole text: the job has over 4,096 bytes, or of WORDS, RENAME or SAME over 1,024; "
         ),
         "{}",
         large.said

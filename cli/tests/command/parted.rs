@@ -2,16 +2,13 @@
 
 use puvainy::{Buffers, Entry, Room};
 
-use crate::common::{drawn, puvainy, puvainy_on, shell, sides, stored, value};
+use crate::common::{drawn, guide_from, job_of, plans, puvainy, puvainy_on, sides, stored, value};
 
 const KEYS: [&str; 2] = ["left", "right"];
 
 /// The guide's section about the line `differ`.
 fn section() -> String {
-    let guide = stored("../guide.md");
-    let begin = guide.find("\n## Which word parts two plans\n").unwrap();
-    let end = guide.find("\n## RENAME\n").unwrap();
-    guide[begin..end].to_owned()
+    guide_from("Which word parts two plans", "RENAME")
 }
 
 /// The words of a list, each as the numbers of its letters, by which words are ordered; `1` has none, and `0` is no words.
@@ -57,25 +54,13 @@ fn whole(answer: &str) -> String {
     format!("same={same}\nleft={left}\nright={right}\n{last}")
 }
 
-/// Every side of a job of the guide, each once.
-fn plans() -> Vec<String> {
-    let lines = shell("cat *.job").printed;
-    let sides = lines.lines().filter_map(|line| line.split_once('='));
-    let sides = sides.filter(|(key, _)| KEYS.contains(key));
-    let mut plans: Vec<_> = sides.map(|(_, side)| side.to_owned()).collect();
-    plans.sort();
-    plans.dedup();
-    plans
-}
-
 /// What WORDS answers of every two plans of the guide's jobs that it does not refuse together.
 fn answers() -> Vec<String> {
     let (plans, mut buffers) = (plans(), Buffers::new(0, Room::Grows));
     let mut answers = Vec::new();
     for (index, left) in plans.iter().enumerate() {
         for right in &plans[..index] {
-            let job = format!("left={left}\nright={right}\nsteps=0\nsize=0\ndepth=0\nnodes=0\n");
-            let asked = buffers.ask(Entry::Words, job.as_bytes());
+            let asked = buffers.ask(Entry::Words, job_of([left, right]).as_bytes());
             answers.extend(asked.map(|answer| str::from_utf8(answer).unwrap().to_owned()));
         }
     }
@@ -194,8 +179,7 @@ fn a_plan_beside_0_has_its_own_list() {
     assert_eq!(sides(&stored("year.words"), KEYS)[0], own);
     let mut count = 0;
     for plan in plans() {
-        let job = format!("left={plan}\nright=0\nsteps=0\nsize=0\ndepth=0\nnodes=0\n");
-        let gave = puvainy_on(&["words"], job.as_bytes()).printed;
+        let gave = puvainy_on(&["words"], job_of([&plan, "0"]).as_bytes()).printed;
         if value(&gave, "same") == Some("no") {
             let due = [Some("0"); 2];
             assert_eq!(

@@ -169,10 +169,10 @@ fn the_advice_for_one_right_side_leaves_the_others_as_they_are() {
 }
 
 #[test]
-fn words_and_rename_take_one_right_side() {
-    for word in ["words", "rename"] {
+fn words_rename_and_same_take_one_right_side() {
+    for word in ["words", "rename", "same"] {
         let gave = puvainy(&[word, "drafts.job"]);
-        let said = "drafts.job: line 3: WORDS and RENAME take one right line; \
+        let said = "drafts.job: line 3: WORDS, RENAME and SAME take one right line; \
                     ask each right side in a job of its own (refusal 1)";
         refused(gave, 1, said);
     }
@@ -195,9 +195,9 @@ fn a_right_line_out_of_its_place_or_too_many_is_told() {
         &format!("{}\nsteps", "\nright=v0".repeat(500)),
         1,
     );
-    for word in ["find", "words", "rename"] {
-        let said = "standard input: the whole text: the job has over 4,096 bytes, or of WORDS or RENAME over 1,024; \
-                    write nothing but the job's lines, of which at most 16 are right lines, with WORDS and RENAME one, \
+    for word in ["find", "words", "rename", "same"] {
+        let said = "standard input: the whole text: the job has over 4,096 bytes, or of WORDS, RENAME or SAME over 1,024; \
+                    write nothing but the job's lines, of which at most 16 are right lines, with WORDS, RENAME and SAME one, \
                     and no space or 0 that is not needed (refusal 1)";
         refused(puvainy_on(&[word], long.as_bytes()), 1, said);
     }
@@ -239,7 +239,12 @@ fn the_most_bytes_are_4096_for_find_and_1024_for_the_others() {
             &format!("right={}", "+".repeat(bytes - rest.len())),
         )
     };
-    for (word, most) in [("find", 4096), ("words", 1024), ("rename", 1024)] {
+    for (word, most) in [
+        ("find", 4096),
+        ("words", 1024),
+        ("rename", 1024),
+        ("same", 1024),
+    ] {
         for (bytes, number) in [(most, 2), (most + 1, 1)] {
             assert_eq!(job(bytes).len(), bytes);
             let gave = puvainy_on(&[word], job(bytes).as_bytes());

@@ -1,13 +1,15 @@
 //! The guide's examples of equations with and without a shared name.
 
-use crate::common::{both_ways, drawn, puvainy, puvainy_on, shell, sides, stored, value};
+use crate::common::{
+    both_ways, drawn, guide_from, puvainy, puvainy_on, shell, sides, stored, value,
+};
 
 /// The guide's section about names.
 fn section() -> String {
-    let guide = stored("../guide.md");
-    let begin = guide.find("\n## What a shared name tells, and what it does not\n");
-    let end = guide.find("\n## Letters for fixed tables\n").unwrap();
-    guide[begin.unwrap()..end].to_owned()
+    guide_from(
+        "What a shared name tells, and what it does not",
+        "Letters for fixed tables",
+    )
 }
 
 /// A row of its table: the job's name, and in twos its plans, RENAME's first lines and its last.

@@ -19,7 +19,12 @@ fn failed(gave: Gave, said: &str) {
 
 #[test]
 fn an_answer_is_0_from_a_file_and_from_standard_input() {
-    for (word, ending) in [("find", "answer"), ("words", "words"), ("rename", "rename")] {
+    for (word, ending) in [
+        ("find", "answer"),
+        ("words", "words"),
+        ("rename", "rename"),
+        ("same", "same"),
+    ] {
         let due = stored(&format!("archive.{ending}"));
         let named = puvainy(&[word, "archive.job"]);
         assert_eq!((named.status, &named.printed), (Some(0), &due));
@@ -43,7 +48,7 @@ fn a_none_is_0() {
 
 #[test]
 fn a_refusal_is_1_with_its_two_lines_and_a_sentence() {
-    for word in ["find", "words", "rename"] {
+    for word in ["find", "words", "rename", "same"] {
         let gave = puvainy(&[word, "refused-2.job"]);
         assert_eq!(
             (gave.status, gave.printed.as_str()),
@@ -86,10 +91,10 @@ fn what_cannot_be_read_is_2() {
 fn a_wrong_call_is_2() {
     failed(
         puvainy(&[]),
-        "what shall be done? Name one of find, words, rename, check, put, withdraw, draw, or --help",
+        "what shall be done? Name one of find, words, rename, check, put, withdraw, same, draw, or --help",
     );
     let words = "there is no command \"fnd\": \
-                 name one of find, words, rename, check, put, withdraw, draw, or --help";
+                 name one of find, words, rename, check, put, withdraw, same, draw, or --help";
     failed(puvainy(&["fnd", "archive.job"]), words);
     let option = "there is no option --slot here; --help shows those there are";
     failed(puvainy(&["find", "--slot", "4", "archive.job"]), option);
@@ -112,6 +117,7 @@ fn an_output_that_is_closed_full_or_unread_is_2() {
     for call in [
         "find archive.job",
         "words archive.job",
+        "same archive.job",
         "check archive.derivation",
         "draw archive.answer",
         "--help",
@@ -173,7 +179,7 @@ fn help_and_version_are_0() {
     let whole = puvainy(&["--help"]);
     assert_eq!((whole.status, whole.said.as_str()), (Some(0), ""));
     for word in [
-        "find", "words", "rename", "check", "put", "withdraw", "draw",
+        "find", "words", "rename", "check", "put", "withdraw", "same", "draw",
     ] {
         let usage = match word {
             "put" | "withdraw" => format!("puvainy {word} --catalogue FILE ["),
