@@ -14,6 +14,7 @@ use crate::check;
 use crate::find::{self, Timed};
 use crate::lists::{ALIKE, MANY_WORDS};
 use crate::ours::Workspace;
+use crate::same;
 use crate::table::{head, row};
 
 unsafe extern "C" {
@@ -29,8 +30,9 @@ struct Release {
     find: Find,
     words: Lists,
     rename: Lists,
-    /// Not in every earlier release.
+    /// These two are not in every earlier release.
     check: Option<Lists>,
+    same: Option<Lists>,
 }
 
 impl Release {
@@ -54,6 +56,7 @@ impl Release {
                 words: as_lists(named("puvainy_words")?),
                 rename: as_lists(named("puvainy_rename")?),
                 check: named("puvainy_check").map(as_lists),
+                same: named("puvainy_same").map(as_lists),
             })
         }
     }
@@ -65,15 +68,14 @@ impl Release {
             workspace.numbers.as_mut_ptr(),
         );
         assert!(slots * SLOT <= workspace.numbers.len() && PROGRAM_ROOM <= workspace.output.len());
+        let later = |entry: Option<Lists>| entry.expect("the release has it");
         unsafe {
             match entry {
                 Entry::Find => (self.find)(text, length, out, PROGRAM_ROOM, numbers, slots * SLOT),
                 Entry::Words => (self.words)(text, length, out, PROGRAM_ROOM),
                 Entry::Rename => (self.rename)(text, length, out, PROGRAM_ROOM),
-                Entry::Check => {
-                    let check = self.check.expect("the release has it");
-                    check(text, length, out, PROGRAM_ROOM)
-                }
+                Entry::Check => later(self.check)(text, length, out, PROGRAM_ROOM),
+                Entry::Same => later(self.same)(text, length, out, PROGRAM_ROOM),
             }
         }
     }
@@ -114,10 +116,21 @@ pub fn rows(before: Option<&str>, now: Option<&str>, workspace: &mut Workspace) 
     ] {
         one(what, entry, &job.text(), 0, 100, releases, workspace);
     }
+    later(releases, workspace);
+}
+
+/// The entries that came in later, each if both releases have it.
+fn later(releases: [&Release; 2], workspace: &mut Workspace) {
     if releases.iter().all(|release| release.check.is_some()) {
         let text = check::derivation(&check::REGROUPED, workspace);
         let what = "CHECK, 16 lines on terms of 31 nodes";
         one(what, Entry::Check, &text, 0, 100, releases, workspace);
+    }
+    if releases.iter().all(|release| release.same.is_some()) {
+        for (what, job) in same::JOBS {
+            let (what, text) = (format!("SAME, {what}"), job.text());
+            one(&what, Entry::Same, &text, 0, 100, releases, workspace);
+        }
     }
 }
 

@@ -37,7 +37,7 @@ const ALIKE_FIXED: Job = Job {
 };
 
 /// Lists of 324 words of five letters that part at word 0, and at word 243.
-const EARLY: Job = Job {
+pub const EARLY: Job = Job {
     left: "* + v0 + v1 + v2 v3 * + v0 + v1 v2 * + v3 + v4 v5 * + v0 + v1 v2 + v3 + v4 v5",
     right: "* + v1 + v2 + v3 v4 * + v0 + v1 v2 * + v3 + v4 v5 * + v0 + v1 v2 + v3 + v4 v5",
     limits: [0; 4],
@@ -50,7 +50,12 @@ const LATE: Job = Job {
 
 pub fn rows(workspace: &mut Workspace) {
     head("Rust", "ours");
-    words("WORDS, 324 words a side", &MANY_WORDS, workspace);
+    words(
+        "WORDS, 324 words a side",
+        Entry::Words,
+        &MANY_WORDS,
+        workspace,
+    );
     rename(
         "RENAME, six letters, 324 words a side",
         &MANY_WORDS,
@@ -99,15 +104,16 @@ fn beside(what: &str, entry: Entry, rounds: usize, pair: [Job; 2], workspace: &m
     row(what, rounds, || call(&texts[0]), || call(&texts[1]));
 }
 
-fn words(name: &str, job: &Job, workspace: &mut Workspace) {
+/// An entry beside the Rust's making of both lists, with their comparison.
+pub fn words(name: &str, entry: Entry, job: &Job, workspace: &mut Workspace) {
     let text = job.text();
     let equation = job.equation();
-    compare(Entry::Words, &text, workspace);
+    compare(entry, &text, workspace);
     row(
         name,
         200,
         || black_box(&equation).semiring_normalize(),
-        || workspace.call(Entry::Words, black_box(&text), 0, PROGRAM_ROOM),
+        || workspace.call(entry, black_box(&text), 0, PROGRAM_ROOM),
     );
 }
 
@@ -130,6 +136,7 @@ fn rename(name: &str, job: &Job, workspace: &mut Workspace) {
     );
 }
 
+/// Our answer held to the oracle's.
 fn compare(entry: Entry, text: &[u8], workspace: &mut Workspace) {
     let call = Call {
         entry: oracle::Entry::named(entry.name()).expect("the oracle has it"),

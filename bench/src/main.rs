@@ -1,8 +1,8 @@
-//! FIND, WORDS and RENAME beside the Rust, CHECK beside FIND, and PUT beside RENAME, in one process, on the same jobs; WORDS and RENAME with c
-//! letters beside the same without. Each pair's answers are compared first.
+//! FIND, WORDS, RENAME and SAME beside the Rust, SAME beside WORDS, CHECK beside FIND, and PUT beside RENAME, in one process, on the same jobs;
+//! WORDS and RENAME with c letters beside the same without. Each pair's answers are compared first.
 //!
-//! With an argument, one part alone: `find`, `many`, `lists`, `check`, `put`, `noted`, or `ours`, the search at the largest limits on our side, for
-//! a profiler.
+//! With an argument, one part alone: `find`, `many`, `lists`, `same`, `check`, `put`, `noted`, or `ours`, the search at the largest limits on our
+//! side, for a profiler.
 //! `beside BEFORE NOW` times the entries of two releases, each a shared library.
 
 mod beside;
@@ -14,6 +14,7 @@ mod many;
 mod noted;
 mod ours;
 mod put;
+mod same;
 mod table;
 
 fn main() {
@@ -24,6 +25,7 @@ fn main() {
             find::rows(&mut workspace);
             many::rows(&mut workspace);
             lists::rows(&mut workspace);
+            same::rows(&mut workspace);
             check::rows(&mut workspace);
             put::rows(&mut workspace);
             noted::rows(&mut workspace);
@@ -31,6 +33,7 @@ fn main() {
         Some("find") => find::rows(&mut workspace),
         Some("many") => many::rows(&mut workspace),
         Some("lists") => lists::rows(&mut workspace),
+        Some("same") => same::rows(&mut workspace),
         Some("check") => check::rows(&mut workspace),
         Some("put") => put::rows(&mut workspace),
         Some("noted") => noted::rows(&mut workspace),
@@ -41,7 +44,7 @@ fn main() {
         }
         Some(other) => {
             eprintln!(
-                "bench: no part is called {other}: find, many, lists, check, put, noted, ours or beside BEFORE NOW"
+                "bench: no part is called {other}: find, many, lists, same, check, put, noted, ours or beside BEFORE NOW"
             );
             std::process::exit(2);
         }
