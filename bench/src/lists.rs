@@ -48,14 +48,11 @@ const LATE: Job = Job {
     limits: [0; 4],
 };
 
+const WORDS: &str = "WORDS, 324 words a side";
+
 pub fn rows(workspace: &mut Workspace) {
     head("Rust", "ours");
-    words(
-        "WORDS, 324 words a side",
-        Entry::Words,
-        &MANY_WORDS,
-        workspace,
-    );
+    words(WORDS, Entry::Words, &MANY_WORDS, workspace);
     rename(
         "RENAME, six letters, 324 words a side",
         &MANY_WORDS,
@@ -64,12 +61,7 @@ pub fn rows(workspace: &mut Workspace) {
     rename("RENAME, the same, letters alike", &ALIKE, workspace);
     head("v letters", "c letters");
     for (what, entry, rounds, pair) in [
-        (
-            "WORDS, 324 words a side",
-            Entry::Words,
-            200,
-            [MANY_WORDS, MANY_WORDS_FIXED],
-        ),
+        (WORDS, Entry::Words, 200, [MANY_WORDS, MANY_WORDS_FIXED]),
         (
             "RENAME, six v letters, 324 words a side",
             Entry::Rename,
