@@ -192,7 +192,7 @@ fn ends(run: &[u32]) -> usize
 }
 
 // Which of two lists of words comes first, word by word, and where they part: the lists are runs as `words_of` writes them.
-// They are mostly the same, or the same for long: so they are compared by fours.
+// They often agree for long: so they are compared by fours.
 pub fn compare_lists(a: &[u32], b: &[u32]) -> Parting
     ensures { ComparesLists a.now b.now result }
 {

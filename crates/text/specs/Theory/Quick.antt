@@ -27,9 +27,8 @@ use Rattle.text.specs.Theory.Entry.{read_numbered, each_in, same_claims}
 use Rattle.text.specs.Theory.Parted.{told}
 
 -- whether the words are the same, of the two terms
-module _ (s t : Term) where
-  same_reflects : Reflects (words s ≡ words t) (same_words s t)
-  same_reflects = rw (same_words_lists s t) (tie_reflects list_order (words s) (words t))
+same_reflects : (s t : Term) → Reflects (words s ≡ words t) (same_words s t)
+same_reflects s t = rw (same_words_lists s t) (tie_reflects list_order (words s) (words t))
 
 -- a yes and a no are different lines
 lines_apart : field "same=" (ascii "yes") ≡ field "same=" (ascii "no") → ⊥
