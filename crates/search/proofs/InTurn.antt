@@ -16,7 +16,6 @@ use Rattle.search.specs.Place.{subterm_at, placed, lines_at, gather}
 use Rattle.search.specs.Coded.{law_at, law_of, direction_of, numbered_law, numbered_direction}
 use Rattle.search.specs.Bound.{BackAsForward, Repeats, BindsLaw}
 use Rattle.search.specs.Spliced.{Tries, Outgrows}
-use Rattle.search.specs.Search.{Noted}
 use Rattle.search.specs.Ordered.{none, unknown, joined}
 use Rattle.search.specs.Resulted.{tried_by, most_nodes, Adds, Resulted}
 use Rattle.search.specs.Theory.Positions.{gather_snoc, gather_map, lines_in_order}
@@ -29,14 +28,14 @@ use Rattle.search.specs.declared.slots.Step.{Step}
 use Rattle.search.proofs.Unknown.{unknown_joined}
 use Rattle.search.proofs.Trying.{tries_nothing}
 use Rattle.search.proofs.Firsts.{tries_outgrown}
-use Rattle.search.proofs.Resulting.{joined_append, adds_none, adds_then, adds_same, adds_as, adds_nothing}
-use Rattle.search.proofs.Repeating.{back_lost}
+use Rattle.search.proofs.Resulting.{allowed_append, joined_append, adds_none, adds_then, adds_same, adds_as, adds_nothing}
+use Rattle.search.proofs.Repeating.{Again, back_again, back_lost}
 
 -- lines in turn: those of f at 0, at 1, .. below n
 abbrev pub in_turn : (ℕ → Term → List Line) → ℕ → Term → List Line
 in_turn f n t = gather (λ i. f i t) n
 
-turns_last : (f : ℕ → Term → List Line) (n : ℕ) (t : Term) → in_turn f (n + 1) t ≡ in_turn f n t ++ f n t
+pub turns_last : (f : ℕ → Term → List Line) (n : ℕ) (t : Term) → in_turn f (n + 1) t ≡ in_turn f n t ++ f n t
 turns_last f n t = rw add-one (gather_snoc (λ i. f i t) n)
 
 module _ {ws : List ℕ} {noted : ℕ} {xs : List ℕ} {room deep parent : ℕ} (f : ℕ → Term → List Line) {res order : List ℕ} {count : ℕ} where
@@ -68,20 +67,21 @@ direction_in_turn i j h = let e : j ≡ (2 * i + j) % 2 = omega arith in go j h 
     go (suc ℕ.zero) h = refl
     go (suc (suc j)) h = absurd (omega arith)
 
-twenty_steps : (place parent : ℕ) (t : Term) → lines_at semiring t place ≡ in_turn (step_lines place parent) 20 t
+pub twenty_steps : (place parent : ℕ) (t : Term) → lines_at semiring t place ≡ in_turn (step_lines place parent) 20 t
 unfolding lines_at root_lines gather semiring law_at
 twenty_steps place parent t =
     let u = subterm_at t place in
     gather_map (placed t place) (λ n. at_root u (law_of (numbered_law (n / 2))) (direction_of (numbered_direction (n % 2)))) 20
 
-back_odd : (n : ℕ) → numbered_direction n ≡ Back → 1 ≤ n
+pub back_odd : (n : ℕ) → numbered_direction n ≡ Back → 1 ≤ n
 back_odd ℕ.zero e = absurd (let z : ◌≡◌ {A = ℕ} 0 1 = cc in omega arith)
 back_odd (suc n) e = omega arith
 
--- the second of a law's two steps, where it makes back what it makes forward: its line is lost
-back_again : (place parent n k : ℕ) → n ≡ k + 1 → k % 2 ≡ 0 → BackAsForward (law_of (numbered_law (n / 2))) → (ns : List Noted) (t : Term) (m : Limits) (ys : List Line)
-    → joined ns ys (allowed m (in_turn (step_lines place parent) (n + 1) t)) ≡ joined ns ys (allowed m (in_turn (step_lines place parent) n t))
-back_again place parent n k e z f ns t m ys =
+-- the second of a law's two steps, where it makes back what it makes forward: what holds of the lines with those of the step before and without
+pub by_again : (place parent n k : ℕ) → n ≡ k + 1 → k % 2 ≡ 0 → BackAsForward (law_of (numbered_law (n / 2))) → (t : Term) (m : Limits)
+    → (P : List Line → List Line → Type 0) → ((xs fs bs : List Line) → Again fs bs → P ((xs ++ fs) ++ bs) (xs ++ fs))
+    → P (allowed m (in_turn (step_lines place parent) (n + 1) t)) (allowed m (in_turn (step_lines place parent) n t))
+by_again place parent n k e z f t m P g =
     let steps = step_lines place parent in
     let u = subterm_at t place in
     let w = law_of (numbered_law (n / 2)) in
@@ -89,11 +89,9 @@ back_again place parent n k e z f ns t m ys =
     let o : n % 2 ≡ 1 = omega arith in
     let first : steps k t ≡ map (placed t place) (at_root u w forward) = rw (h, z) in
     let second : steps n t ≡ map (placed t place) (at_root u w back) = rw o in
-    let ys' = joined ns ys (allowed m (in_turn steps k t)) in
-    let j : joined ns ys (allowed m (in_turn steps n t)) ≡ joined ns ys' (allowed m (steps k t)) = rw (e, turns_last steps k t) (joined_append ns m ys (in_turn steps k t) (steps k t)) in
-    ap (λ l. joined ns ys (allowed m l)) (turns_last steps n t)
-    ∙ joined_append ns m ys (in_turn steps n t) (steps n t)
-    ∙ rw (j, first, second) (back_lost ns m ys' t place w f)
+    let before : allowed m (in_turn steps n t) ≡ allowed m (in_turn steps k t) ++ allowed m (steps k t) = rw (e, turns_last steps k t) (allowed_append m (in_turn steps k t) (steps k t)) in
+    rw (turns_last steps n t, allowed_append m (in_turn steps n t) (steps n t), before, first, second)
+    (g (allowed m (in_turn steps k t)) (allowed m (map (placed t place) (at_root u w forward))) (allowed m (map (placed t place) (at_root u w back))) (back_again m t place w f))
 
 module _ {ws : List ℕ} {noted : ℕ} {xs : List ℕ} {room deep parent : ℕ} (place n : ℕ) {res order : List ℕ} {count : ℕ} {res₁ order₁ : List ℕ} {r₁ : ℕ}
     (A : Adds ws noted xs room deep parent (in_turn (step_lines place parent) n) n res order count res₁ order₁ r₁) where
@@ -125,7 +123,12 @@ module _ {ws : List ℕ} {noted : ℕ} {xs : List ℕ} {room deep parent : ℕ} 
     step_repeated b R e =
         let (k, f) = R.exact e in
         let o = back_odd (n % 2) (sym q ∙ k) in
-        adds_same (in_turn (step_lines place parent) (n + 1)) (n + 1) (back_again place parent n (n - 1) (omega arith) (omega arith) (rw p at f)) (omega arith) A
+        adds_same (in_turn (step_lines place parent) (n + 1)) (n + 1)
+        (λ ns t m ys.
+        by_again place parent n (n - 1) (omega arith) (omega arith) (rw p at f) t m (λ us vs. joined ns ys us ≡ joined ns ys vs)
+        (λ us fs bs a. joined_append ns ys (us ++ fs) bs ∙ rw (joined_append ns ys us fs) (back_lost ns (joined ns ys us) a)))
+        (omega arith)
+        A
 
   pub steps_all : 20 ≤ n → n ≤ 20 → Adds ws noted xs room deep parent (λ t. lines_at semiring t place) 20 res order count res₁ order₁ r₁
   steps_all h k =

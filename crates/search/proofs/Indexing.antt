@@ -1,11 +1,11 @@
 -- A slot noted: it is written, and the index leads to it. What is said of the index is what three stores to it leave.
 use Prim.Native.Nat.{ℕ, ◌+◌, ◌*◌, ◌≤◌, ◌<◌}
 use native.Mathlib.Omega.{arith}
-use native.Mathlib.Nat.{add-zero, eq-or-lt_of_le, le_of_suc-le-suc}
+use native.Mathlib.Nat.{eq-or-lt_of_le, le_of_suc-le-suc}
 use mathlib.Core.Path.{◌≡◌, refl, sym, ap, ◌∙◌}
 use mathlib.Core.Logic.{◌⊎◌, inl, inr}
 use mathlib.Core.List.{List, [], ◌∷◌, ◌++◌}
-use lib.ListN.{length, get_or, set, length-set, length-append, get_or-append}
+use lib.ListN.{length, set, length-set, length-append, get_or-append}
 use lib.Seq.{get_or_at, get_or-set_same, get_or-set_other, take-set-le, drop-set-lt}
 use Rattle.terms.specs.Term.{Term, zero}
 use Rattle.terms.specs.Run.{run}
@@ -14,12 +14,13 @@ use Rattle.terms.specs.Theory.Order.{below?}
 use Rattle.terms.proofs.Positions.{front_getD}
 use Rattle.terms.proofs.Held.{front_holds}
 use Rattle.search.specs.Index.{SLOT, slots_of, hash, bucket, head_of, next_of, hash_of, Newest}
-use Rattle.search.specs.Runs.{Spells, origin_of, value_of, term_at, home, Runs, Enters}
+use Rattle.search.specs.Runs.{Spells, origin_of, value_of, term_at, home, Runs, Rewrites, Enters}
 use Rattle.search.specs.declared.slots.Origin.{Origin}
 use Rattle.search.proofs.Hashing.{hash_small, bucket_small}
-use Rattle.search.proofs.Writing.{run_kept, origin_kept, value_kept}
+use Rattle.search.proofs.Origins.{origin_same}
+use Rattle.search.proofs.Writing.{run_kept, origin_kept, value_kept, behind_kept, run_stays}
 
-equal? : (a b : ℕ) → (a ≡ b) ⊎ (a ≡ b → ⊥)
+pub equal? : (a b : ℕ) → (a ≡ b) ⊎ (a ≡ b → ⊥)
 equal? a b = go (below? a b) (below? b a)
   where
     go : (a < b) ⊎ (b ≤ a) → (b < a) ⊎ (a ≤ b) → (a ≡ b) ⊎ (a ≡ b → ⊥)
@@ -45,9 +46,8 @@ module _ (ws : List ℕ) (j i v : ℕ) (low : 5 ≤ i) (high : i < 8) where
 
   origin_stored : (k : ℕ) → origin_of (set ws (SLOT * j + i) v) k ≡ origin_of ws k
   origin_stored k =
-      let n : (p : ℕ) → p < 4 → get_or (set ws (SLOT * j + i) v) (SLOT * k + 1 + p) 0 ≡ get_or ws (SLOT * k + 1 + p) 0 =
-      λ p h. get_or-set_other ws (SLOT * j + i) (SLOT * k + 1 + p) v 0 (λ e. omega arith) in
-      rw (rw add-zero at (n 0 (omega arith)), n 1 (omega arith), n 2 (omega arith), n 3 (omega arith))
+      origin_same ws (set ws (SLOT * j + i) v) (SLOT * k + 1)
+      (λ p h. get_or-set_other ws (SLOT * j + i) (SLOT * k + 1 + p) v 0 (λ e. omega arith))
 
   value_stored : (k : ℕ) → value_of (set ws (SLOT * j + i) v) k ≡ value_of ws k
   value_stored k = get_or-set_other ws (SLOT * j + i) (SLOT * k + 39) v 0 (λ e. omega arith)
@@ -127,7 +127,7 @@ module _ {ws ws' : List ℕ} {count : ℕ} {xs : List ℕ} {o : Origin} {v : ℕ
   linked_long : length linked ≡ length ws
   linked_long = length-set hashed (SLOT * count + 7) E.older ∙ hashed_long
 
-  long : length ws' ≡ length ws
+  pub long : length ws' ≡ length ws
   long = ap length E.links ∙ length-set linked (SLOT * b + 6) count ∙ linked_long
 
   inside : SLOT * b + 6 < length ws
@@ -231,6 +231,23 @@ module _ {ws ws' : List ℕ} (ts : List Term) (t : Term) {xs : List ℕ} {o : Or
 
   pub entered : Runs ws' more
   entered = record { spelled = spells; index = record { head = heads; next = nexts; hashed = hashes } }
+
+-- an origin and a value are written: runs and index stay
+module _ {ws ws' : List ℕ} {j : ℕ} {o : Origin} {v : ℕ} (E : Rewrites ws ws' j o v) (ts : List Term) (R : Runs ws ts) where
+  home_stays : (k : ℕ) → home ws ts k ≡ home ws' ts k
+  home_stays k = rw E.size refl
+
+  pub rewritten : Runs ws' ts
+  rewritten =
+      record {
+        spelled = λ k h. run_stays E k (term_at ts k) (R.spelled k h);
+        index =
+            record {
+              head = λ k h. rw (E.size, behind_kept E (home ws ts k) 6 (omega arith) (omega arith)) (newest_still (λ i p. home_stays i) (R.index.head k h));
+              next = λ k h. rw (E.size, behind_kept E k 7 (omega arith) (omega arith)) (newest_still (λ i p. home_stays i) (R.index.next k h));
+              hashed = λ k h. behind_kept E k 5 (omega arith) (omega arith) ∙ R.index.hashed k h;
+            };
+      }
 
 -- no slot
 pub no_runs : (ws : List ℕ) → Runs ws []

@@ -25,6 +25,7 @@ use Rattle.search.proofs.Writing.{run_kept, origin_kept}
 use Rattle.search.proofs.Noting.{looked_up}
 use Rattle.search.proofs.Rising.{rising_inserted}
 use Rattle.search.proofs.Unknown.{unknown_in, unknown_out}
+use Rattle.search.proofs.Sorting.{line_goes}
 
 named_insert : {t : Term} {from : ℕ} {res : List ℕ} {n : ℕ} {ks : List ℕ} {ys : List Line} (p k : ℕ) (x : Line) → k < n → Result t from res k x → Named t from res n ks ys
     → Named t from res n (take p ks ++ (k ∷ drop p ks)) (take p ys ++ (x ∷ drop p ys))
@@ -64,7 +65,7 @@ module _ (ws : List ℕ) (noted : ℕ) (xs : List ℕ) (s : Step) (res order : L
         record {
           low = omega arith;
           high = omega arith;
-          sorts = λ ns t ys x W c h m O. rw (one_more ns ys x W c h) (rw (rw e at (S.goes t s.parent count ys x O h)) O);
+          sorts = λ ns t ys x W c h m O. rw (one_more ns ys x W c h) (rw (rw e at (line_goes S O x h)) O);
         }
 
     -- ks are the numbers of the slots with that of the new one put in at p
@@ -86,7 +87,7 @@ module _ (ws : List ℕ) (noted : ℕ) (xs : List ℕ) (s : Step) (res order : L
             sorts = λ ns t ys x K c h m O.
                 rw (one_more ns ys x K c h)
                 (record {
-                  named = rw ((rw e at (S.goes t s.parent count ys x O h)).1, named)
+                  named = rw ((rw e at (line_goes S O x h)).1, named)
                       (named_insert p count x (omega arith)
                       (record { run = W.run x.result h; step = s; origin = W.origin; parent = refl; marks = m })
                       (named_kept res' (count + 1) (omega arith) W.kept O.named));

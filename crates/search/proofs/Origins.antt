@@ -21,10 +21,12 @@ origin_back ws at (From s) e =
     let d : law_number s.law + 1 - 1 ≡ law_number s.law = omega arith in
     rw (rw add-zero at (e 0 (omega arith)), e 1 (omega arith), e 2 (omega arith), e 3 (omega arith), ne_eqb (law_number s.law + 1) 0 (λ q. omega arith), d, law_read_back, direction_read_back)
 
--- where the first n numbers of two lists agree
+-- where the four numbers of two lists agree
+pub origin_same : (xs ys : List ℕ) (at : ℕ) → ((k : ℕ) → k < 4 → get_or ys (at + k) 0 ≡ get_or xs (at + k) 0) → origin_at ys at ≡ origin_at xs at
+origin_same xs ys at e = rw (rw add-zero at (e 0 (omega arith)), e 1 (omega arith), e 2 (omega arith), e 3 (omega arith))
+
 pub origin_front : (xs ys : List ℕ) (n at : ℕ) → take n ys ≡ take n xs → at + 4 ≤ n → origin_at ys at ≡ origin_at xs at
-origin_front xs ys n at e h =
-    rw (front_getD xs ys n at e (omega arith), front_getD xs ys n (at + 1) e (omega arith), front_getD xs ys n (at + 2) e (omega arith), front_getD xs ys n (at + 3) e (omega arith))
+origin_front xs ys n at e h = origin_same xs ys at (λ k p. front_getD xs ys n (at + k) e (omega arith))
 
 -- what a row of stores left at its k-th place
 pub get_d_sets : (xs : List ℕ) (i : ℕ) (vs : List ℕ) (k : ℕ) → i + length vs ≤ length xs → k < length vs → get_or (sets xs i vs) (i + k) 0 ≡ get_or vs k 0

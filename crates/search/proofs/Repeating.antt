@@ -53,41 +53,53 @@ module _ (x y : Line) (e : y.result ≡ x.result) where
       (λ c. rw (insert_gt lost by_result {x = x} {y = z} zs c)
       (insert_gt lost by_result {x = y} {y = z} (inserted x zs) (rw e c) ∙ ap (λ l. z ∷ l) (inserted_twice zs)))
 
-  joined_twice : (ns : List Noted) (m : Limits) (ys : List Line)
-      → joined ns (joined ns ys (allowed m (x ∷ []))) (allowed m (y ∷ [])) ≡ joined ns ys (allowed m (x ∷ []))
-  unfolding allowed unknown
-  joined_twice ns m ys =
-      told (within m x.result)
-      (λ h.
-      rw (allowed_in m x [] h, allowed_in m y [] (rw e h))
-      (told (is_noted x.result ns)
+  pub joined_twice : (ns : List Noted) (ys : List Line) → joined ns (joined ns ys (x ∷ [])) (y ∷ []) ≡ joined ns ys (x ∷ [])
+  unfolding unknown
+  joined_twice ns ys =
+      told (is_noted x.result ns)
       (λ k. rw (unknown_out ns x [] k, unknown_out ns y [] (rw e k)))
-      (λ k. rw (unknown_in ns x [] k, unknown_in ns y [] (rw e k)) (inserted_twice ys))))
-      (λ h. rw (allowed_out m x [] h, allowed_out m y [] (rw e h)))
+      (λ k. rw (unknown_in ns x [] k, unknown_in ns y [] (rw e k)) (inserted_twice ys))
 
 -- the line back after the line forward
 
-module _ (ns : List Noted) (m : Limits) (ys : List Line) (t : Term) (i : ℕ) (w : law.Law) where
+-- no lines, or one with the law and the result of another
+pub data Again : List Line → List Line → Type 0 where
+  nothing : Again [] []
+  once : (x y : Line) → y.law ≡ x.law → y.result ≡ x.result → Again (x ∷ []) (y ∷ [])
+
+module _ (m : Limits) (t : Term) (i : ℕ) (w : law.Law) where
+  allowed_again : (x y : Line) → y.law ≡ x.law → y.result ≡ x.result → Again (allowed m (x ∷ [])) (allowed m (y ∷ []))
+  unfolding allowed
+  allowed_again x y n e =
+      told (within m x.result)
+      (λ h. rw (allowed_in m x [] h, allowed_in m y [] (rw e h)) (once x y n e))
+      (λ h. rw (allowed_out m x [] h, allowed_out m y [] (rw e h)) nothing)
+
   -- the line at a place, by what the law makes there
   abbrev made : line.Direction → Option Term → List Line
   made d o = map (placed t i) (changed (subterm_at t i) w d o)
 
-  made_twice : (o : Option Term) → joined ns (joined ns ys (allowed m (made forward o))) (allowed m (made back o)) ≡ joined ns ys (allowed m (made forward o))
-  unfolding changed placed allowed unknown
-  made_twice none = refl
-  made_twice (some u) = go (same u (subterm_at t i))
+  made_again : (o : Option Term) → Again (allowed m (made forward o)) (allowed m (made back o))
+  unfolding changed placed allowed
+  made_again none = nothing
+  made_again (some u) = go (same u (subterm_at t i))
     where
       root : line.Direction → Line
       root d = record { law = w.name; direction = d; place = []; result = u }
 
-      go : (b : Bool) → joined ns (joined ns ys (allowed m (map (placed t i) (cond b [] (root forward ∷ []))))) (allowed m (map (placed t i) (cond b [] (root back ∷ []))))
-          ≡ joined ns ys (allowed m (map (placed t i) (cond b [] (root forward ∷ []))))
-      go true = refl
-      go false = joined_twice (placed t i (root forward)) (placed t i (root back)) refl ns m ys
+      go : (b : Bool) → Again (allowed m (map (placed t i) (cond b [] (root forward ∷ [])))) (allowed m (map (placed t i) (cond b [] (root back ∷ []))))
+      go true = nothing
+      go false = allowed_again (placed t i (root forward)) (placed t i (root back)) refl refl
 
   abbrev lines_of : line.Direction → List Line
   lines_of d = map (placed t i) (at_root (subterm_at t i) w d)
 
-  pub back_lost : BackAsForward w → joined ns (joined ns ys (allowed m (lines_of forward))) (allowed m (lines_of back)) ≡ joined ns ys (allowed m (lines_of forward))
+  pub back_again : BackAsForward w → Again (allowed m (lines_of forward)) (allowed m (lines_of back))
   unfolding at_root
-  back_lost f = rw (f (subterm_at t i)) (made_twice (rewrite (from forward w) (to forward w) (subterm_at t i)))
+  back_again f = rw (f (subterm_at t i)) (made_again (rewrite (from forward w) (to forward w) (subterm_at t i)))
+
+-- so its result is in its place already
+pub back_lost : (ns : List Noted) (ys : List Line) {fs bs : List Line} → Again fs bs → joined ns (joined ns ys fs) bs ≡ joined ns ys fs
+unfolding unknown
+back_lost ns ys nothing = refl
+back_lost ns ys (once x y n e) = joined_twice x y e ns ys

@@ -24,7 +24,7 @@ use Rattle.search.specs.Place.{subterm_at, placed}
 use Rattle.search.specs.Coded.{law_of, direction_of}
 use Rattle.search.specs.Spliced.{kept, tried, Gives, Tries}
 use Rattle.search.specs.Search.{Noted}
-use Rattle.search.specs.Slots.{Marks, Slots}
+use Rattle.search.specs.Slots.{Marks}
 use Rattle.search.specs.Ordered.{Ordered, unknown, joined, Keeps}
 use Rattle.search.specs.Resulted.{tried_by, TooDeep, Adds}
 use Rattle.search.specs.declared.search.Law.{Law}
@@ -44,7 +44,7 @@ module _ (m : Limits) where
   unfolding allowed
   allowed_out x xs e = rw (e, allowed)
 
-  allowed_append : (xs ys : List Line) → allowed m (xs ++ ys) ≡ allowed m xs ++ allowed m ys
+  pub allowed_append : (xs ys : List Line) → allowed m (xs ++ ys) ≡ allowed m xs ++ allowed m ys
   unfolding allowed
   allowed_append [] ys = refl
   allowed_append (x ∷ xs) ys = go (within m x.result) (allowed_append xs ys)
@@ -105,7 +105,7 @@ changed_member t w d (some u) z k = go (same u t) k
     go true k = absurd (not-in-nil k)
     go false k = let e = only_one k in (ap (λ x. x.law) e, ap (λ x. x.direction) e)
 
-line_marks : (s : Step) (t : Term) → s.place < size t → (z : Line) → z ∈ tried_by s t → Marks s t z
+pub line_marks : (s : Step) (t : Term) → s.place < size t → (z : Line) → z ∈ tried_by s t → Marks s t z
 unfolding placed at_root
 line_marks s t h z k =
     let u = subterm_at t s.place in
@@ -122,10 +122,8 @@ line_marks s t h z k =
 
 -- lines one after another
 
-pub joined_append : (ns : List Noted) (m : Limits) (ys xs zs : List Line) → joined ns ys (allowed m (xs ++ zs)) ≡ joined ns (joined ns ys (allowed m xs)) (allowed m zs)
-joined_append ns m ys xs zs =
-    rw (allowed_append m xs zs, unknown_append ns (allowed m xs) (allowed m zs))
-    (foldl-append (λ l x. insert lost by_result x l) ys (unknown ns (allowed m xs)) (unknown ns (allowed m zs)))
+pub joined_append : (ns : List Noted) (ys xs zs : List Line) → joined ns ys (xs ++ zs) ≡ joined ns (joined ns ys xs) zs
+joined_append ns ys xs zs = rw (unknown_append ns xs zs) (foldl-append (λ l x. insert lost by_result x l) ys (unknown ns xs) (unknown ns zs))
 
 module _ {ws : List ℕ} {noted : ℕ} {xs : List ℕ} {room deep from : ℕ} where
   pub adds_none : (res order : List ℕ) (count : ℕ) → Adds ws noted xs room deep from (λ t. []) 0 res order count res order count
@@ -140,7 +138,7 @@ module _ {ws : List ℕ} {noted : ℕ} {xs : List ℕ} {room deep from : ℕ} wh
         low = omega (arith, A.low, B.low);
         high = omega (arith, A.high, B.high);
         exact = λ ns t m ys S c h s d O.
-            rw (joined_append ns m ys (new t) (new' t)) (B.exact ns t m (joined ns ys (allowed m (new t))) S c h s d (A.exact ns t m ys S c h s d O));
+            rw (allowed_append m (new t) (new' t), joined_append ns ys (allowed m (new t)) (allowed m (new' t))) (B.exact ns t m (joined ns ys (allowed m (new t))) S c h s d (A.exact ns t m ys S c h s d O));
       }
 
   -- other lines that give the same results
@@ -161,69 +159,83 @@ module _ {ws : List ℕ} {noted : ℕ} {xs : List ℕ} {room deep from : ℕ} wh
 pub tries_within : {w : Law} {d : Direction} {xs : List ℕ} {at room : ℕ} {out : List ℕ} {f : Answer ℕ} {k : ℕ} → Tries w d xs at room out f → f ≡ Some k → k ≤ room
 tries_within T e = (rw e at T).within.1
 
+-- what holds of the lines that the limits allow, by the line that is tried
+module _ (s : Step) (xs : List ℕ) (room : ℕ) (out : List ℕ) (f : Answer ℕ) (inside : s.place < length xs) (T : Tries s.law s.direction xs s.place room out f)
+    (t : Term) (m : Limits) (h : IsRun xs t) (e : m.size ≡ room) (P : List Line → Type 0) where
+  by_tried : ((zs : List Line) → Gives out f zs → ((z : Line) → z ∈ zs → Marks s t z) → P (allowed m zs)) → P (allowed m (tried_by s t))
+  unfolding tried
+  by_tried g =
+      let i : s.place < size t = omega (arith, size_of h) in
+      rw (← (ap (λ z. allowed m (kept z (tried_by s t))) (sym e) ∙ allowed_kept m (tried_by s t)))
+      (g (kept room (tried_by s t)) (T.exact t h i) (λ z k. line_marks s t i z (kept_member room (tried_by s t) z k)))
+
+  pub by_nothing : f ≡ None → P [] → P (allowed m (tried_by s t))
+  unfolding allowed
+  by_nothing q p = by_tried (λ zs G M. go zs (rw q at G))
+    where
+      go : (zs : List Line) → Gives out None zs → P (allowed m zs)
+      go [] G = p
+      go (z ∷ zs) G = absurd G
+
+  module _ (k : ℕ) (q : f ≡ Some k) (whole : length out ≡ room) where
+    -- one line, whose result stands at the front of the buffer
+    by_line : ((x : Line) → size x.result ≤ m.size → IsRun (take k out) x.result → Marks s t x → P (allowed m (x ∷ []))) → P (allowed m (tried_by s t))
+    by_line g = by_tried (λ zs G M. go zs (rw q at G) M)
+      where
+        go : (zs : List Line) → Gives out (Some k) zs → ((z : Line) → z ∈ zs → Marks s t z) → P (allowed m zs)
+        go [] G M = absurd G
+        go (x ∷ []) G M = g x (omega (arith, size_of G, length-take-le k out (omega (arith, tries_within T q)), tries_within T q)) G (M x (here refl))
+        go (x ∷ y ∷ zs) G M = absurd G
+
+    module _ (deep : ℕ) (d : m.depth ≡ deep) (b : Bool) (D : TooDeep (take k out) deep b) where
+      pub by_too_deep : b ≡ true → P [] → P (allowed m (tried_by s t))
+      unfolding allowed
+      by_too_deep r p =
+          by_line
+          (λ x z H M.
+          let g = ltb-true deep (depth x.result) (sym (D.exact x.result H) ∙ r) in rw (allowed_out m x [] (within_deep m x.result (omega (arith, g, d)))) p)
+
+      pub by_one : b ≡ false → ((x : Line) → IsRun (take k out) x.result → Marks s t x → P (x ∷ [])) → P (allowed m (tried_by s t))
+      unfolding allowed
+      by_one r p =
+          by_line
+          (λ x z H M.
+          let g = ltb-false deep (depth x.result) (sym (D.exact x.result H) ∙ r) in rw (allowed_in m x [] (within_both m x.result z (omega (arith, g, d)))) (p x H M))
+
 module _ (ws : List ℕ) (noted : ℕ) (s : Step) (xs : List ℕ) (room deep : ℕ) (out res order : List ℕ) (count : ℕ) (f : Answer ℕ) (inside : s.place < length xs)
     (T : Tries s.law s.direction xs s.place room out f) where
   -- the slots have the results with those of zs
-  abbrev Gains : List ℕ → List ℕ → ℕ → List Noted → Term → Limits → List Line → List Line → Type 0
-  Gains res' order' r ns t m ys zs =
-      Ordered t s.parent res count (take count order) ys → Ordered t s.parent res' r (take r order') (joined ns ys (allowed m zs))
-
-  -- the line that is tried decides what the limits allow
-  by_tried : (res' order' : List ℕ) (r : ℕ) → count ≤ r → r ≤ count + 1
-      → ((ns : List Noted) (t : Term) (m : Limits) (ys : List Line) → Slots ws ns → length ns ≡ noted → m.size ≡ room → m.depth ≡ deep
-      → (zs : List Line) → Gives out f zs → ((z : Line) → z ∈ zs → Marks s t z) → Gains res' order' r ns t m ys zs)
-      → Adds ws noted xs room deep s.parent (tried_by s) 1 res order count res' order' r
-  unfolding tried
-  by_tried res' order' r low high g =
-      record {
-        low = low;
-        high = high;
-        exact = λ ns t m ys S c h e d O.
-            let i : s.place < size t = omega (arith, size_of h) in
-            rw (← (ap (λ z. allowed m (kept z (tried_by s t))) (sym e) ∙ allowed_kept m (tried_by s t)))
-            (g ns t m ys S c e d (kept room (tried_by s t)) (T.exact t h i) (λ z k. line_marks s t i z (kept_member room (tried_by s t) z k)) O);
-      }
+  abbrev Gains : List ℕ → List ℕ → ℕ → List Noted → Term → List Line → List Line → Type 0
+  Gains res' order' r ns t ys zs = Ordered t s.parent res count (take count order) ys → Ordered t s.parent res' r (take r order') (joined ns ys zs)
 
   pub adds_nothing : f ≡ None → Adds ws noted xs room deep s.parent (tried_by s) 1 res order count res order count
-  unfolding allowed unknown
-  adds_nothing e = by_tried res order count (omega arith) (omega arith) (λ ns t m ys S c q d zs G M. go ns t m ys zs (rw e at G))
-    where
-      go : (ns : List Noted) (t : Term) (m : Limits) (ys zs : List Line) → Gives out None zs → Gains res order count ns t m ys zs
-      go ns t m ys [] G O = O
-      go ns t m ys (z ∷ zs) G O = absurd G
+  unfolding unknown
+  adds_nothing q =
+      record {
+        low = omega arith;
+        high = omega arith;
+        exact = λ ns t m ys S c h e d. by_nothing s xs room out f inside T t m h e (Gains res order count ns t ys) q (λ O. O);
+      }
 
-  module _ (k : ℕ) (e : f ≡ Some k) (whole : length out ≡ room) where
-    -- one line, whose result stands at the front of the buffer
-    by_line : (res' order' : List ℕ) (r : ℕ) → count ≤ r → r ≤ count + 1
-        → ((ns : List Noted) (t : Term) (m : Limits) (ys : List Line) (x : Line) → Slots ws ns → length ns ≡ noted → m.depth ≡ deep → size x.result ≤ m.size
-        → IsRun (take k out) x.result → Marks s t x → Gains res' order' r ns t m ys (x ∷ []))
+  module _ (k : ℕ) (q : f ≡ Some k) (whole : length out ≡ room) (b : Bool) (D : TooDeep (take k out) deep b) where
+    pub adds_too_deep : b ≡ true → Adds ws noted xs room deep s.parent (tried_by s) 1 res order count res order count
+    unfolding unknown
+    adds_too_deep r =
+        record {
+          low = omega arith;
+          high = omega arith;
+          exact = λ ns t m ys S c h e d. by_too_deep s xs room out f inside T t m h e (Gains res order count ns t ys) k q whole deep d b D r (λ O. O);
+        }
+
+    pub adds_kept : b ≡ false → (res' order' : List ℕ) (r : ℕ) → Keeps ws noted (take k out) s res order res' order' count r
         → Adds ws noted xs room deep s.parent (tried_by s) 1 res order count res' order' r
-    by_line res' order' r low high g = by_tried res' order' r low high (λ ns t m ys S c q d zs G M. go ns t m ys S c q d zs (rw e at G) M)
-      where
-        go : (ns : List Noted) (t : Term) (m : Limits) (ys : List Line) → Slots ws ns → length ns ≡ noted → m.size ≡ room → m.depth ≡ deep
-            → (zs : List Line) → Gives out (Some k) zs → ((z : Line) → z ∈ zs → Marks s t z) → Gains res' order' r ns t m ys zs
-        go ns t m ys S c q d [] G M = absurd G
-        go ns t m ys S c q d (x ∷ []) G M =
-            g ns t m ys x S c d (omega (arith, size_of G, length-take-le k out (omega (arith, tries_within T e)), tries_within T e)) G (M x (here refl))
-        go ns t m ys S c q d (x ∷ y ∷ zs) G M = absurd G
-
-    module _ (b : Bool) (D : TooDeep (take k out) deep b) where
-      pub adds_too_deep : b ≡ true → Adds ws noted xs room deep s.parent (tried_by s) 1 res order count res order count
-      unfolding allowed unknown
-      adds_too_deep h =
-          by_line res order count (omega arith) (omega arith)
-          (λ ns t m ys x S c d z H M O.
-          let g = ltb-true deep (depth x.result) (sym (D.exact x.result H) ∙ h) in
-          rw (allowed_out m x [] (within_deep m x.result (omega (arith, g, d)))) O)
-
-      pub adds_kept : b ≡ false → (res' order' : List ℕ) (r : ℕ) → Keeps ws noted (take k out) s res order res' order' count r
-          → Adds ws noted xs room deep s.parent (tried_by s) 1 res order count res' order' r
-      unfolding allowed
-      adds_kept h res' order' r K =
-          by_line res' order' r K.low K.high
-          (λ ns t m ys x S c d z H M O.
-          let g = ltb-false deep (depth x.result) (sym (D.exact x.result H) ∙ h) in
-          rw (allowed_in m x [] (within_both m x.result z (omega (arith, g, d)))) (K.sorts ns t ys x S c H M O))
+    adds_kept g res' order' r K =
+        record {
+          low = K.low;
+          high = K.high;
+          exact = λ ns t m ys S c h e d.
+              by_one s xs room out f inside T t m h e (Gains res' order' r ns t ys) k q whole deep d b D g (λ x H M. K.sorts ns t ys x S c H M);
+        }
 
 -- whether a result is too deep
 

@@ -1,21 +1,21 @@
--- Looking for the place of a result among those in term order.
+-- Looking for the place of a term among others in term order, as `spot_of` does, and of a result among the results.
 use Prim.Native.Nat.{ℕ, suc, ◌+◌, ◌≤◌, ◌<◌}
 use native.Mathlib.Omega.{arith}
 use native.Mathlib.Numerals.{add-one}
-use mathlib.Core.Path.{◌≡◌, refl, sym, ap, ◌∙◌}
+use mathlib.Core.Path.{◌≡◌, refl, sym, ap, subst, ◌∙◌}
 use mathlib.Core.Logic.{◌⊎◌, inl, inr}
-use mathlib.Core.List.{List, [], ◌∷◌, ◌++◌}
-use lib.ListN.{length, take, drop, get_or, take-append-drop, drop_of_length-le}
+use mathlib.Core.List.{List, [], ◌∷◌, ◌++◌, map}
+use lib.ListN.{length, take, drop, get_or, length-map, get_or-map, take-append-drop, drop_of_length-le}
 use lib.Seq.{drop-cons, take-suc, append_snoc}
-use Rattle.std.specs.Prelude.{Result as Answer, Ok, Err, None}
+use Rattle.std.specs.Prelude.{Result as Answer, Ok, Err, Option, None}
 use Rattle.std.specs.Result.{result_err}
 use Rattle.std.specs.Ordering.{ordering_index}
 use Rattle.std.specs.List.Sorted.{IsBinarySearchResult, IsSearchInRange}
 use Rattle.std.proofs.lemmas.List.Sorted.{IsNonDecreasingBy-from_default}
 use Rattle.terms.specs.Compare.{Ordering, lt, eq, gt, order_numbers}
-use Rattle.terms.specs.Term.{Term, order}
+use Rattle.terms.specs.Term.{Term, zero, order}
 use Rattle.terms.specs.Held.{IsRun}
-use Rattle.terms.specs.Sort.{lost, insert, repeat}
+use Rattle.terms.specs.Sort.{lost, insert, repeat, Sorted}
 use Rattle.terms.specs.Promises.{ordering_of}
 use Rattle.terms.specs.Theory.Order.{cases, flip_lt, flip_gt, below?}
 use Rattle.terms.specs.Theory.TermOrder.{term_order}
@@ -24,9 +24,9 @@ use Rattle.terms.specs.Theory.Insert.{insert_lt, insert_eq, insert_gt}
 use Rattle.std.specs.declared.cmp.Ordering as answered
 use Rattle.std.specs.declared.cmp.Ordering.TheVariants.{Less, Equal, Greater}
 use Rattle.search.specs.Line.{Line, by_result}
-use Rattle.search.specs.Ordered.{Result, Named, Ordered, none, more, inserted, answer, judged, Goes, Spotted}
-use Rattle.search.specs.Runs.{shown}
-use Rattle.search.proofs.Rising.{rising_at, goes_past}
+use Rattle.search.specs.Ordered.{Result, Named, Ordered, none, more, answer, judged, Spelled, Goes, Spotted}
+use Rattle.search.specs.Runs.{Spells, term_at, shown}
+use Rattle.search.proofs.Rising.{terms_rise, rising_at, goes_past, goes_keyed}
 use Rattle.search.proofs.Tracing.{spelled_shown}
 pub use Rattle.search.proofs.Rising.{line_at}
 
@@ -48,34 +48,37 @@ module _ {t : Term} {from : ℕ} {res : List ℕ} {n : ℕ} where
 
 -- what the code answers
 
+abbrev inserted : Term → List Term → List Term
+inserted = insert lost order
+
 order_back : (o : Ordering) → o ≡ ordering_of (answer o)
 order_back lt = refl
 order_back eq = refl
 order_back gt = refl
 
--- the lines that ks names, in term order, and one with the run xs
-module _ {t : Term} {from n : ℕ} {res ks xs : List ℕ} {ys : List Line} (x : Line) (O : Ordered t from res n ks ys) (hx : IsRun xs x.result) where
+-- the terms that ks names, in term order, and one with the run xs
+module _ {res ks xs : List ℕ} {ts : List Term} (t : Term) (S : Spelled res ks ts) (R : Sorted lost order ts) (hx : IsRun xs t) where
   abbrev verdict : ℕ → answered.Ordering
   verdict p = judged res xs (get_or ks p 0)
 
-  told : (p : ℕ) → p < length ks → by_result (line_at ys p) x ≡ ordering_of (verdict p)
+  told : (p : ℕ) → p < length ks → order (term_at ts p) t ≡ ordering_of (verdict p)
   told p h =
       let o = order_numbers (shown res (get_or ks p 0)) xs in
-      sym (order_of (spelled_shown (ordered_at O p h).1.run) hx) ∙ order_back o
+      sym (order_of (spelled_shown (S.spells p h)) hx) ∙ order_back o
 
-  -- a line before one that is not behind x is before x
+  -- a term before one that is not behind t is before t
   rises : (i j : ℕ) → i ≤ j → j < length ks → ordering_index (verdict i) ≤ ordering_index (verdict j)
   rises i j h k = go (below? i j)
     where
-      earlier : i < j → by_result (line_at ys i) (line_at ys j) ≡ lt
-      earlier q = rising_at ys O.rising i j q (omega (arith, ordered_length O))
+      earlier : i < j → order (term_at ts i) (term_at ts j) ≡ lt
+      earlier q = rising_at (λ u. u) zero ts R i j q (omega (arith, S.count))
 
       least : (c : answered.Ordering) → ordering_of c ≡ lt → ordering_index c ≤ ordering_index (verdict j)
       least Less e = omega arith
       least Equal e = absurd (let z : ◌≡◌ {A = ℕ} 0 1 = cc in omega arith)
       least Greater e = absurd (let z : ◌≡◌ {A = ℕ} 0 1 = cc in omega arith)
 
-      first : by_result (line_at ys i) x ≡ lt → ordering_index (verdict i) ≤ ordering_index (verdict j)
+      first : order (term_at ts i) t ≡ lt → ordering_index (verdict i) ≤ ordering_index (verdict j)
       first e = least (verdict i) (sym (told i (omega arith)) ∙ e)
 
       last : (c d : answered.Ordering) → ordering_of d ≡ gt → ordering_index c ≤ ordering_index d
@@ -87,64 +90,77 @@ module _ {t : Term} {from n : ℕ} {res ks xs : List ℕ} {ys : List Line} (x : 
 
       go : (i < j) ⊎ (j ≤ i) → ordering_index (verdict i) ≤ ordering_index (verdict j)
       go (inl q) =
-          cases (by_result (line_at ys j) x)
+          cases (order (term_at ts j) t)
           (λ e. first (term_order.transitive (earlier q) e))
-          (λ e. first (ap (λ u. order (line_at ys i).result u) (sym (term_order.tie e)) ∙ earlier q))
+          (λ e. first (ap (order (term_at ts i)) (sym (term_order.tie e)) ∙ earlier q))
           (λ e. last (verdict i) (verdict j) (sym (told j k) ∙ e))
       go (inr q) = let e : i ≡ j = omega arith in rw e (omega arith)
 
   module _ (p : ℕ) where
-    next : p < length ks → drop p ys ≡ line_at ys p ∷ drop (p + 1) ys
-    next h = rw add-one (drop-cons ys p (line_at [] 0) (omega (arith, ordered_length O)))
+    next : p < length ks → drop p ts ≡ term_at ts p ∷ drop (p + 1) ts
+    next h = rw add-one (drop-cons ts p zero (omega (arith, S.count)))
 
-    front : p < length ks → take (p + 1) ys ≡ take p ys ++ (line_at ys p ∷ [])
-    front h = rw add-one (take-suc ys p (line_at [] 0) (omega (arith, ordered_length O)))
+    front : p < length ks → take (p + 1) ts ≡ take p ts ++ (term_at ts p ∷ [])
+    front h = rw add-one (take-suc ts p zero (omega (arith, S.count)))
 
     module _ (h : p < length ks) where
-      past : (by_result x (line_at ys p) ≡ lt → ⊥) → inserted x ys ≡ take p ys ++ inserted x (line_at ys p ∷ drop (p + 1) ys)
-      past f = goes_past x ys O.rising p (omega (arith, ordered_length O)) f ∙ ap (λ l. take p ys ++ inserted x l) (next h)
+      past : (order t (term_at ts p) ≡ lt → ⊥) → inserted t ts ≡ take p ts ++ inserted t (term_at ts p ∷ drop (p + 1) ts)
+      past f = goes_past (λ u. u) zero t ts R p (omega (arith, S.count)) f ∙ ap (λ l. take p ts ++ inserted t l) (next h)
 
-      is_here : verdict p ≡ Equal → Goes None x ys
+      is_here : verdict p ≡ Equal → Goes order None t ts
       unfolding repeat
       is_here v =
-          let e : by_result x (line_at ys p) ≡ eq =
-          ap (λ u. order u (line_at ys p).result) (sym (term_order.tie (told p h ∙ ap ordering_of v))) ∙ term_order.reflexive (line_at ys p).result in
+          let e : order t (term_at ts p) ≡ eq =
+          ap (λ u. order u (term_at ts p)) (sym (term_order.tie (told p h ∙ ap ordering_of v))) ∙ term_order.reflexive (term_at ts p) in
           past (λ f. let z : ◌≡◌ {A = ℕ} 0 1 = cc in omega arith)
-          ∙ rw (insert_eq lost by_result {x = x} {y = line_at ys p} (drop (p + 1) ys) e, ← (next h)) (take-append-drop p ys)
+          ∙ rw (insert_eq lost order (drop (p + 1) ts) e, ← (next h)) (take-append-drop p ts)
 
-      goes_behind : verdict p ≡ Less → inserted x ys ≡ take (p + 1) ys ++ inserted x (drop (p + 1) ys)
+      goes_behind : verdict p ≡ Less → inserted t ts ≡ take (p + 1) ts ++ inserted t (drop (p + 1) ts)
       goes_behind v =
-          let e : by_result x (line_at ys p) ≡ gt = flip_lt term_order (told p h ∙ ap ordering_of v) in
+          let e : order t (term_at ts p) ≡ gt = flip_lt term_order (told p h ∙ ap ordering_of v) in
           past (λ f. let z : ◌≡◌ {A = ℕ} 0 1 = cc in omega arith)
-          ∙ rw (insert_gt lost by_result {x = x} {y = line_at ys p} (drop (p + 1) ys) e, front h)
-          (sym (append_snoc (take p ys) (line_at ys p) (inserted x (drop (p + 1) ys))))
+          ∙ rw (insert_gt lost order (drop (p + 1) ts) e, front h)
+          (sym (append_snoc (take p ts) (term_at ts p) (inserted t (drop (p + 1) ts))))
 
-      before_it : verdict p ≡ Greater → inserted x (drop p ys) ≡ x ∷ drop p ys
+      before_it : verdict p ≡ Greater → inserted t (drop p ts) ≡ t ∷ drop p ts
       before_it v =
-          let e : by_result x (line_at ys p) ≡ lt = flip_gt term_order (told p h ∙ ap ordering_of v) in
-          rw (next h) (insert_lt lost by_result {x = x} {y = line_at ys p} (drop (p + 1) ys) e)
+          let e : order t (term_at ts p) ≡ lt = flip_gt term_order (told p h ∙ ap ordering_of v) in
+          rw (next h) (insert_lt lost order (drop (p + 1) ts) e)
 
   -- behind those before the p-th
-  seeks : (p : ℕ) → p ≤ length ks → ((k : ℕ) → k < p → verdict k ≡ Less) → inserted x ys ≡ take p ys ++ inserted x (drop p ys)
+  seeks : (p : ℕ) → p ≤ length ks → ((k : ℕ) → k < p → verdict k ≡ Less) → inserted t ts ≡ take p ts ++ inserted t (drop p ts)
   seeks ℕ.zero h f = refl
   seeks (suc p) h f = rw add-one at (goes_behind p (omega arith) (f p (omega arith)))
 
-  leaves : (p : ℕ) → (p < length ks → verdict p ≡ Greater) → inserted x (drop p ys) ≡ x ∷ drop p ys
+  leaves : (p : ℕ) → (p < length ks → verdict p ≡ Greater) → inserted t (drop p ts) ≡ t ∷ drop p ts
   unfolding insert
   leaves p f = go (below? p (length ks))
     where
-      go : (p < length ks) ⊎ (length ks ≤ p) → inserted x (drop p ys) ≡ x ∷ drop p ys
+      go : (p < length ks) ⊎ (length ks ≤ p) → inserted t (drop p ts) ≡ t ∷ drop p ts
       go (inl q) = before_it p q (f q)
-      go (inr q) = let m : length ys ≤ p = omega (arith, ordered_length O) in rw (drop_of_length-le ys m)
+      go (inr q) = let m : length ts ≤ p = omega (arith, S.count) in rw (drop_of_length-le ts m)
 
 -- what a binary search answers
 module _ (res ks xs : List ℕ) where
   pub spotted : (r : Answer ℕ ℕ) → IsSearchInRange r (length ks) → IsBinarySearchResult (judged res xs) ks r → Spotted res ks xs (result_err r)
-  spotted (Ok p) h v = record { within = tt; goes = λ t from n ys x O hx. is_here x O hx p h (v 0) }
+  spotted (Ok p) h v = record { within = tt; goes = λ ts t S R hx. is_here t S R hx p h (v 0) }
   spotted (Err p) h v =
       record {
         within = h;
-        goes = λ t from n ys x O hx.
-            let (b, a) = v (IsNonDecreasingBy-from_default (λ k. ordering_index (judged res xs k)) ks 0 (rises x O hx)) in
-            (omega (arith, ordered_length O), seeks x O hx p h (λ k q. b k 0 (omega arith) q) ∙ ap (λ l. take p ys ++ l) (leaves x O hx p (λ q. a p 0 (omega arith) q)));
+        goes = λ ts t S R hx.
+            let (b, a) = v (IsNonDecreasingBy-from_default (λ k. ordering_index (judged res xs k)) ks 0 (rises t S R hx)) in
+            (omega (arith, S.count), seeks t S R hx p h (λ k q. b k 0 (omega arith) q) ∙ ap (λ l. take p ts ++ l) (leaves t S R hx p (λ q. a p 0 (omega arith) q)));
       }
+
+-- and where a line goes among those that ks names
+pub line_goes : {t : Term} {from n : ℕ} {res ks xs : List ℕ} {ys : List Line} {r : Option ℕ} → Spotted res ks xs r → Ordered t from res n ks ys → (x : Line) → IsRun xs x.result
+    → Goes by_result r x ys
+line_goes {res = res} {ks = ks} {ys = ys} {r = r} P O x hx =
+    goes_keyed (λ y. y.result) x r ys (P.goes (map (λ y. y.result) ys) x.result S (terms_rise (λ y. y.result) ys O.rising) hx)
+  where
+    S : Spelled res ks (map (λ y. y.result) ys)
+    S =
+        record {
+          count = ordered_length O ∙ sym (length-map ys (λ y. y.result));
+          spells = λ p h. subst (Spells res (get_or ks p 0)) (sym (get_or-map (λ y. y.result) ys p (line_at [] 0))) (ordered_at O p h).1.run;
+        }

@@ -155,7 +155,7 @@ fresh_unknown ns (x ∷ xs) =
 pub fresh_rest : (ns : List Noted) (trail : List Line) (xs : List Line) (j : ℕ) → Rising xs → Fresh ns xs j → Fresh (ns ++ (entry trail (line_at xs j) ∷ [])) xs (j + 1)
 fresh_rest ns trail xs j s f p h k =
     noted_without (line_at xs p).result (entry trail (line_at xs j)) ns
-    (told_apart (line_at xs p).result (line_at xs j).result (λ e. irreflexive term_order (rising_at xs s j p (omega arith) k) (sym e)))
+    (told_apart (line_at xs p).result (line_at xs j).result (λ e. irreflexive term_order (rising_at (λ x. x.result) (line_at [] 0) xs s j p (omega arith) k) (sym e)))
     ∙ f p (omega arith) k
 
 -- what is noted stays so, and one noted term more makes noted what it is itself

@@ -1,14 +1,14 @@
 -- The results of an opened term in slots like those of noted terms, and the numbers of their slots in term order.
-use Rattle.std.specs.Prelude.{ℕ, ◌+◌, ◌≤◌, ◌<◌, ◌≡◌, true, false, List, [], ◌∷◌, ◌++◌, length, take, drop, Option, Some, None}
+use Rattle.std.specs.Prelude.{ℕ, ◌+◌, ◌≤◌, ◌<◌, ◌≡◌, true, false, List, [], ◌∷◌, ◌++◌, length, take, drop, get_or, Option, Some, None}
 use Rattle.std.specs.declared.cmp.Ordering as answered
 use Rattle.std.specs.declared.cmp.Ordering.TheVariants.{Less, Equal, Greater}
 use Rattle.terms.specs.Compare.{Ordering, lt, eq, gt, order_numbers}
-use Rattle.terms.specs.Term.{Term}
+use Rattle.terms.specs.Term.{Term, order}
 use Rattle.terms.specs.Held.{IsRun}
 use Rattle.terms.specs.Sort.{lost, insert, insert_all, Sorted}
 use Rattle.search.specs.Line.{Line, by_result}
 use Rattle.search.specs.Search.{Noted, is_noted}
-use Rattle.search.specs.Runs.{Spells, origin_of, shown}
+use Rattle.search.specs.Runs.{Spells, origin_of, term_at, shown}
 use Rattle.search.specs.Slots.{Marks, Slots}
 use Rattle.search.specs.declared.slots.Step.{Step}
 use Rattle.search.specs.declared.slots.Origin.TheVariants.{From}
@@ -56,19 +56,24 @@ judged res xs k = answer (order_numbers (shown res k) xs)
 
 -- what the functions promise
 
--- where a line goes among others
-abbrev pub Goes : Option ℕ → Line → List Line → Type 0
-Goes (Some p) x ys = (p ≤ length ys) × (inserted x ys ≡ take p ys ++ (x ∷ drop p ys))
-Goes None x ys = inserted x ys ≡ ys
+-- each number names a slot that spells the term at its place
+pub record Spelled (res ks : List ℕ) (ts : List Term) : Type 0 where
+  pub count : length ks ≡ length ts
+  pub spells : (p : ℕ) → p < length ks → Spells res (get_or ks p 0) (term_at ts p)
+
+-- where an item goes among others: behind the first p of them, or nowhere, since it is there
+abbrev pub Goes : {A : Type 0} → (A → A → Ordering) → Option ℕ → A → List A → Type 0
+Goes o (Some p) x ys = (p ≤ length ys) × (insert lost o x ys ≡ take p ys ++ (x ∷ drop p ys))
+Goes o None x ys = insert lost o x ys ≡ ys
 
 abbrev pub SpotWithin : ℕ → Option ℕ → Type 0
 SpotWithin n (Some p) = p ≤ n
 SpotWithin n None = Unit {0}
 
--- of `spot_of`
+-- of `spot_of`: where a term goes among those whose slots ks names
 pub record Spotted (res ks xs : List ℕ) (r : Option ℕ) : Type 0 where
   pub within : SpotWithin (length ks) r
-  pub goes : (t : Term) (from n : ℕ) (ys : List Line) (x : Line) → Ordered t from res n ks ys → IsRun xs x.result → Goes r x ys
+  pub goes : (ts : List Term) (t : Term) → Spelled res ks ts → Sorted lost order ts → IsRun xs t → Goes order r t ts
 
 -- of `keep`: the first r slots have the results, in term order; ws has `noted` terms
 pub record Keeps (ws : List ℕ) (noted : ℕ) (xs : List ℕ) (s : Step) (res order res' order' : List ℕ) (count r : ℕ) : Type 0 where

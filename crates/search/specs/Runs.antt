@@ -1,6 +1,6 @@
 -- Terms in the first slots of a workspace, 40 numbers to a slot, and the index over them. Number 0 of a slot is the length of its term's
 -- run, 1 to 4 are the term's origin, 5 to 7 are of the index, the run stands from 8 on, and 39 is a value to which the search gives a meaning.
-use Rattle.std.specs.Prelude.{ℕ, ◌+◌, ◌*◌, ◌≤◌, ◌<◌, ◌≡◌, Bool, true, ◌↔◌, cond, List, [], leb, length, take, drop, get_or, set, Option, Some, None}
+use Rattle.std.specs.Prelude.{ℕ, ◌+◌, ◌*◌, ◌≤◌, ◌<◌, ◌≡◌, Bool, true, ◌⊎◌, ◌↔◌, cond, List, [], leb, length, take, drop, get_or, set, Option, Some, None}
 use Rattle.terms.specs.Lists.{◌∈◌}
 use Rattle.terms.specs.Term.{Term, zero, size, same}
 use Rattle.terms.specs.Run.{run}
@@ -94,6 +94,13 @@ pub record Writes (before after : List ℕ) (k : ℕ) (xs : List ℕ) (o : Origi
   pub kept : take (SLOT * k) after ≡ take (SLOT * k) before
   pub index : (j i : ℕ) → 6 ≤ i → i ≤ 7 → get_or after (SLOT * j + i) 0 ≡ get_or before (SLOT * j + i) 0
   pub run : (t : Term) → IsRun xs t → Spells after k t
+  pub origin : origin_of after k ≡ o
+  pub value : value_of after k ≡ v
+
+-- of `write_origin`: slot k has another origin and value, and all other numbers stay
+pub record Rewrites (before after : List ℕ) (k : ℕ) (o : Origin) (v : ℕ) : Type 0 where
+  pub size : length after ≡ length before
+  pub kept : (i : ℕ) → (i ≤ SLOT * k) ⊎ ((SLOT * k + 5 ≤ i) × (i ≡ SLOT * k + 39 → ⊥)) → get_or after i 0 ≡ get_or before i 0
   pub origin : origin_of after k ≡ o
   pub value : value_of after k ≡ v
 

@@ -33,15 +33,16 @@ fn compare_at(slots: &[u32], k: u32, s: &[u32]) -> Ordering
     term::compare(slots::run_of(slots, k), s)
 }
 
-// The place of a run among the results in the slots that `order` names, by halving the part where it may go: none where it is there.
-fn spot_of(res: &[u32], order: &[u32], s: &[u32]) -> Option<usize>
+// The place of a run among those in the slots that `order` names, which are in term order, by halving the part where it may go: none where
+// it is there.
+pub fn spot_of(res: &[u32], order: &[u32], s: &[u32]) -> Option<usize>
     ensures { Spotted res.now order.now s.now result }
 {
     order.binary_search_by(|&k| compare_at(res, k, s)).err()
 }
 
 // Whether the term of a run is deeper than a limit. A term of n nodes is at most half of n deep, so that most runs are not walked.
-fn too_deep(s: &[u32], limit: usize) -> bool
+pub fn too_deep(s: &[u32], limit: usize) -> bool
     ensures { TooDeep s.now limit result }
 {
     limit < s.len() / 2 && limit < term::depth(s)

@@ -6,7 +6,7 @@
 // Nothing is cleared beforehand: a head counts only if it leads to a noted slot of its bucket.
 ghost use Rattle.std.specs.Prelude.{◌≡◌, ◌+◌, ◌*◌, ◌≤◌, ◌<◌, length, MatchOption};
 ghost use Rattle.search.specs.Index.{SLOT, slots_of};
-ghost use Rattle.search.specs.Runs.{value_of, Originates, Shows, Heads, Compares, Seeks, Finds, Writes, HoldsRun, Enters};
+ghost use Rattle.search.specs.Runs.{value_of, Originates, Shows, Heads, Compares, Seeks, Finds, Rewrites, Writes, HoldsRun, Enters};
 ghost use Rattle.search.specs.Slots.{Starts, Notes};
 
 use crate::index;
@@ -205,9 +205,18 @@ pub fn write_slot(ws: &mut [u32], k: usize, run: SlotRun<'_>, o: Origin, value: 
     let at = SLOT * k;
     let s = run.numbers;
     ws[at] = s.len() as u32;
+    write_origin(ws, k, o, value);
+    ws[at + RUN..at + RUN + s.len()].copy_from_slice(s);
+}
+
+// Writes what the term in a slot comes from, and its value: its run stays, and what is of the index.
+pub fn write_origin(ws: &mut [u32], k: usize, o: Origin, value: u32)
+    requires { SLOT * k + SLOT ≤ length ws.old }
+    ensures { Rewrites ws.old ws.new k o value }
+{
+    let at = SLOT * k;
     ws[at + ORIGIN..at + HASH].copy_from_slice(&o.numbers());
     ws[at + VALUE] = value;
-    ws[at + RUN..at + RUN + s.len()].copy_from_slice(s);
 }
 
 // Writes a slot with the hash of its run; it is in no index.

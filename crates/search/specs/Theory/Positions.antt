@@ -57,7 +57,7 @@ module _ {A : Type 0} where
   gather_snoc f ℕ.zero = append-nil (f 0)
   gather_snoc f (suc n) = rw (gather_snoc (λ i. f (suc i)) n) (sym (append_assoc (f 0) (gather (λ i. f (suc i)) n) (f (suc n))))
 
-  gather_add : (f : ℕ → List A) (m n : ℕ) → gather f (m + n) ≡ gather f m ++ gather (λ i. f (m + i)) n
+  pub gather_add : (f : ℕ → List A) (m n : ℕ) → gather f (m + n) ≡ gather f m ++ gather (λ i. f (m + i)) n
   unfolding gather
   gather_add f ℕ.zero n = simp zero-add
   gather_add f (suc m) n =
