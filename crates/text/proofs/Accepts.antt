@@ -41,22 +41,22 @@ use Rattle.text.specs.Theory.FindJobs.{all_kept}
 
 -- a number that is taken for 4,097 is above every limit's largest, as 4,097 is
 
-cap_leb : (n k : ℕ) → k ≤ 4096 → leb (min n 4097) k ≡ leb n k
+pub cap_leb : (n k : ℕ) → k ≤ 4096 → leb (min n 4097) k ≡ leb n k
 cap_leb n k h =
     ⊎_elim
     (λ l. lt-leb (min n 4097) k (omega arith) ∙ sym (lt-leb n k l))
     (λ l. le-leb (min n 4097) k (omega arith) ∙ sym (le-leb n k l))
     (below? k n)
 
-in_range_capped : (m : Limits) → in_range (capped m) ≡ in_range m
+pub in_range_capped : (m : Limits) → in_range (capped m) ≡ in_range m
 unfolding in_range
 in_range_capped m =
     rw (cap_leb m.steps 16 (omega arith), cap_leb m.size 31 (omega arith), cap_leb m.depth 15 (omega arith), cap_leb m.nodes 4096 (omega arith))
 
-cap_small : (n : ℕ) → n ≤ 4096 → min n 4097 ≡ n
+pub cap_small : (n : ℕ) → n ≤ 4096 → min n 4097 ≡ n
 cap_small n h = omega arith
 
-capped_small : (m : Limits) → in_range m ≡ true → capped m ≡ m
+pub capped_small : (m : Limits) → in_range m ≡ true → capped m ≡ m
 capped_small m e =
     let r = in_range_true m (subst T (sym e) tt) in
     λ i. record {
@@ -190,7 +190,7 @@ found : (p : Term → Term → Bool) {xs rights : List ℕ} {n : ℕ} {f b : Boo
     → {s : Term} {ts : List Term} → IsRun xs s → HeldRuns rights ts → length ts ≡ n → every (p s) ts ≡ b
 found p h k {s} {ts} u v e = sym (h s ts u v e) ∙ k
 
-ranged : (m : limits.Limits) (y : Limits) {g b : Bool} → g ≡ in_range (limits_of m) → limits_of m ≡ capped y → g ≡ b → in_range y ≡ b
+pub ranged : (m : limits.Limits) (y : Limits) {g b : Bool} → g ≡ in_range (limits_of m) → limits_of m ≡ capped y → g ≡ b → in_range y ≡ b
 ranged m y i e h = sym (in_range_capped y) ∙ ap in_range (sym e) ∙ sym i ∙ h
 
 small_enough : (s : Term) (ts : List Term) → size s ≤ 31 → all_small ts ≡ true → (leb (size s) 31 && all_small ts) ≡ true

@@ -1,10 +1,10 @@
--- What the functions that put a block go by: letters, paths, and the line of a direct match.
+-- What the functions that put a path go by: letters, paths, and the line of a direct match.
 use Prim.Native.Nat.{ℕ, ◌≤◌}
 use native.Mathlib.Omega.{arith}
 use mathlib.Core.Path.{◌≡◌, refl, sym, ap, subst, ◌∙◌}
 use mathlib.Core.List.{List, [], ◌∷◌, ◌++◌}
 use lib.ListN.{length, take}
-use Rattle.terms.specs.Term.{Term, letter, zero, one, add, mul}
+use Rattle.terms.specs.Term.{Term, letter, zero, one, add, mul, size}
 use Rattle.terms.specs.Held.{IsRun}
 use Rattle.terms.specs.Letters.{letters, rising}
 use Rattle.terms.specs.Promises.{Fills, Lists}
@@ -22,29 +22,27 @@ use Rattle.search.specs.Slots.{noted_at, Starts, Notes}
 use Rattle.search.specs.Traced.{Traced, Traces}
 use Rattle.search.specs.declared.search.Law.{Law}
 use Rattle.search.specs.declared.search.Direction.TheVariants.{Forward}
-use Rattle.text.specs.Job.{Job}
 use Rattle.text.specs.Walk.{Walk}
-use Rattle.text.specs.Answering.{Sides, Led}
+use Rattle.text.specs.Answering.{Led}
 
--- the letters of an accepted job fill the front of 32 numbers
-module _ {left right names names' : List ℕ} {l : Option ℕ} {j : Job} (S : Sides left right j) (L : Lists left right names l names') where
-  filled : Fills (rising (letters j.left ++ letters j.right)) names l names'
-  filled = L.terms j.left j.right S.left_run S.right_run
+-- the letters of two terms of at most 31 nodes fill the front of 32 numbers
+module _ {left right names names' : List ℕ} {l : Option ℕ} {s t : Term} (left_run : IsRun left s) (right_run : IsRun right t) (small_s : size s ≤ 31) (small_t : size t ≤ 31)
+    (L : Lists left right names l names') where
+  filled : Fills (rising (letters s ++ letters t)) names l names'
+  filled = L.terms s t left_run right_run
 
   pub letters_fit : length names ≡ 32 → l ≡ None → ⊥
   letters_fit room e =
-      let f : Fills (rising (letters j.left ++ letters j.right)) names None names' = rw e at filled in
-      let fit = S.known.sides in
-      omega (arith, f.0, letters_few j.left j.right fit.small_left fit.small_right)
+      let f : Fills (rising (letters s ++ letters t)) names None names' = rw e at filled in
+      omega (arith, f.0, letters_few s t small_s small_t)
 
-  pub letters_listed : {n : ℕ} → l ≡ Some n → take n names' ≡ rising (letters j.left ++ letters j.right)
+  pub letters_listed : {n : ℕ} → l ≡ Some n → take n names' ≡ rising (letters s ++ letters t)
   letters_listed {n} e =
-      let f : Fills (rising (letters j.left ++ letters j.right)) names (Some n) names' = rw e at filled in
-      fills_front (rising (letters j.left ++ letters j.right)) names names' f
+      let f : Fills (rising (letters s ++ letters t)) names (Some n) names' = rw e at filled in
+      fills_front (rising (letters s ++ letters t)) names names' f
 
--- a path of at most 16 lines, read back from the slots
-module _ {ws path : List ℕ} {last : ℕ} {r : Option ℕ} {s : Term} {xs : List Line} (T : Traces ws last path r) (size : length path ≡ 16) (led : Led ws s last xs)
-    (short : length xs ≤ 16) where
+-- a path for whose slots there is room, read back from the slots
+module _ {ws path : List ℕ} {last : ℕ} {r : Option ℕ} {s : Term} {xs : List Line} (T : Traces ws last path r) (led : Led ws s last xs) (fits : length xs ≤ length path) where
   abbrev trail : List Line
   trail = (noted_at led.noted last).trail
 

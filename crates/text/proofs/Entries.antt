@@ -29,7 +29,7 @@ use Rattle.text.specs.Rename.{term_lines, renamed_words, rename_entry}
 use Rattle.text.specs.Same.{same_entry}
 use Rattle.text.specs.Entry.{returned, Call, Gives, AnswersJob, before_search, FindGives}
 use Rattle.text.specs.Theory.JobText.{job_accepted}
-use Rattle.text.specs.Theory.Entry.{among, Numbered, searched_numbered, each_in}
+use Rattle.text.specs.Theory.Entry.{among, Numbered, searched_numbered, Each, each_in}
 use Rattle.text.specs.declared.job.accept.Read.{Read}
 
 -- what is known of an accepted job
@@ -104,20 +104,22 @@ pub find_refused : (bs out work : List ℕ) {e : Refusal} → read_find bs ≡ r
 unfolding find ◌>>=◌
 find_refused bs out work h = record { gives = rw h (refl, refl); workspace = λ i. refl }
 
--- accepted jobs of FIND are refused by 7 or 8 at most, which are no numbers of refusals that come before the search
-early : {r : ℕ} → r ∈ before_search → (r < 100) × (7 ≤ r → r ≤ 8 → ⊥)
-early = each_in (λ n. (n < 100) × (7 ≤ n → n ≤ 8 → ⊥)) before_search (search arith depth 20)
+-- an answer, or a refusal by 7 or 8, has none of the numbers of refusals that come before a search
+module _ (ns : List ℕ) (apart : Each (λ n. (n < 100) × (7 ≤ n → n ≤ 8 → ⊥)) ns) where
+  early : {r : ℕ} → r ∈ ns → (r < 100) × (7 ≤ r → r ≤ 8 → ⊥)
+  early = each_in (λ n. (n < 100) × (7 ≤ n → n ≤ 8 → ⊥)) ns apart
 
-late : (a : Answer (List ℕ)) → Numbered (7 ∷ 8 ∷ []) a → returned a ∈ before_search → ⊥
-late (refused n) h i =
-    let k : (7 ≤ n) × (n ≤ 8) = each_in (λ m. (7 ≤ m) × (m ≤ 8)) (7 ∷ 8 ∷ []) (search arith) h in
-    (early i).1 k.0 k.1
-late (accepted t) h i = omega (arith, (early i).0)
+  pub late : (a : Answer (List ℕ)) → Numbered (7 ∷ 8 ∷ []) a → returned a ∈ ns → ⊥
+  late (refused n) h i =
+      let k : (7 ≤ n) × (n ≤ 8) = each_in (λ m. (7 ≤ m) × (m ≤ 8)) (7 ∷ 8 ∷ []) (search arith) h in
+      (early i).1 k.0 k.1
+  late (accepted t) h i = omega (arith, (early i).0)
 
+-- such are the answers to accepted jobs of FIND
 find_late : (bs : List ℕ) {js : List Job} (slots room : ℕ) → read_find bs ≡ accepted js → returned (find bs slots room) ∈ before_search → ⊥
 unfolding find ◌>>=◌
 find_late bs {js} slots room e =
-    rw e (late (◌>>=◌ (together slots js) (fitting room)) (searched_numbered (7 ∷ 8 ∷ []) (search among) (search among) slots room js))
+    rw e (late before_search (search arith depth 20) (◌>>=◌ (together slots js) (fitting room)) (searched_numbered (7 ∷ 8 ∷ []) (search among) (search among) slots room js))
 
 -- they are answered from left's run and those of the right sides
 module _ (bs : List ℕ) {rights xs : List ℕ} {j : Read} (h : Takes (read_find bs) j rights) (e : xs ≡ j.left) where

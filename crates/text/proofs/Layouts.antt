@@ -1,6 +1,5 @@
 -- The lines of a job, one after the other.
 use Prim.Native.Nat.{ℕ, ◌<◌}
-use Prim.Native.String.{String}
 use native.Mathlib.Omega.{arith}
 use mathlib.Core.Logic.{⊎_elim}
 use mathlib.Core.Option.{Option, none, some, bind}
@@ -17,9 +16,29 @@ use Rattle.text.specs.Layout.{keyed, limit_line, limit_lines}
 use Rattle.text.specs.FindJob.{Repeated, Layouts, layouts}
 use Rattle.text.specs.Reading.{Valued, Unkeyed, limited}
 use Rattle.text.specs.RightLines.{rights_in, RightsIn}
-use Rattle.text.specs.LayoutRead.{LimitAt, Unlimited, LimitedBy}
+use Rattle.text.specs.LayoutRead.{LimitRead, LimitAt, Unlimited, LimitedBy}
 use Rattle.text.proofs.Numbers.{allowed, too_large, malformed}
 use Rattle.text.proofs.RightLines.{all, all_none, all_some, values_read}
+
+-- the number that a limit's text is
+
+module _ (text : List ℕ) where
+  -- what a number that was read says of it
+  abbrev Told : Result ℕ NumberError → Type 0
+  Told (Ok n) = LimitRead text n
+  Told (Err TooLarge) = LimitRead text 4097
+  Told (Err Malformed) = read_number text ≡ none
+
+  limit_is : (o : Option ℕ) → read_number text ≡ o → Told (limited 4096 o)
+  limit_is none p = rw (malformed 4096) p
+  limit_is (some n) p =
+      ⊎_elim
+      (λ l. rw (too_large 4096 n l) (record { number = n; is = omega arith; read = p }))
+      (λ h. rw (allowed 4096 n h) (record { number = n; is = omega arith; read = p }))
+      (below? 4096 n)
+
+  pub limit_told : (x r : Result ℕ NumberError) → x ≡ limited 4096 (read_number text) → x ≡ r → Told r
+  limit_told x r p q = subst Told (sym p ∙ q) (limit_is (read_number text) refl)
 
 -- the line of one limit
 
@@ -29,29 +48,27 @@ module _ (s key : List ℕ) where
   no_limit h k e = rw (h k e)
 
   module _ (value rest : List ℕ) (v : Valued s key value rest) where
-    -- what a number says of the limit
-    abbrev Told : Result ℕ NumberError → Type 0
-    Told (Ok n) = LimitAt s key n rest
-    Told (Err TooLarge) = LimitAt s key 4097 rest
-    Told (Err Malformed) = Unlimited s key
-
-    limit_is : (n : ℕ) → read_number value ≡ some n → (k : String) → ascii k ≡ key → limit_line k s ≡ some (record { number = n; rest = rest })
+    pub foul_limit : read_number value ≡ none → Unlimited s key
     unfolding limit_line bind
-    limit_is n p k f = rw (v.parts k f, p)
+    foul_limit h k e = rw (v.parts k e, h)
 
-    limit_read : (o : Option ℕ) → read_number value ≡ o → Told (limited 4096 o)
+    pub limit_stated : {n : ℕ} → LimitRead value n → LimitAt s key n rest
     unfolding limit_line bind
-    limit_read none p = rw (malformed 4096) (λ k f. rw (v.parts k f, p))
-    limit_read (some n) p =
-        ⊎_elim
-        (λ l. rw (too_large 4096 n l) (record { shorter = omega (arith, v.shorter); number = n; is = omega arith; parts = limit_is n p }))
-        (λ h. rw (allowed 4096 n h) (record { shorter = omega (arith, v.shorter); number = n; is = omega arith; parts = limit_is n p }))
-        (below? 4096 n)
-
-    pub limit_told : (x r : Result ℕ NumberError) → x ≡ limited 4096 (read_number value) → x ≡ r → Told r
-    limit_told x r p q = subst Told (sym p ∙ q) (limit_read (read_number value) refl)
+    limit_stated l = record { shorter = omega (arith, v.shorter); number = l.number; is = l.is; parts = λ k e. rw (v.parts k e, l.read) }
 
 -- the lines of the limits
+
+-- a text ends here, or goes on
+module _ {A : Type 0} (x : A) where
+  pub ends : (bs : List ℕ) → length bs ≡ 0 → end x bs ≡ some x
+  unfolding end
+  ends [] h = refl
+  ends (b ∷ bs) h = absurd (omega (arith, h))
+
+  pub goes_on : (bs : List ℕ) → (length bs ≡ 0 → ⊥) → end x bs ≡ none
+  unfolding end
+  goes_on [] h = absurd (h refl)
+  goes_on (b ∷ bs) h = refl
 
 module _ (s : List ℕ) where
   pub no_steps : Unlimited s (ascii "steps=") → limit_lines s ≡ none
@@ -81,25 +98,15 @@ module _ (s : List ℕ) where
           unfolding limit_lines bind
           all_lines = rw (a.parts "steps=" refl) (rw (b.parts "size=" refl) (rw (c.parts "depth=" refl) (rw (d.parts "nodes=" refl))))
 
-          ends : (bs : List ℕ) → length bs ≡ 0 → end read bs ≡ some read
-          unfolding end
-          ends [] h = refl
-          ends (b ∷ bs) h = absurd (omega (arith, h))
-
-          goes_on : (bs : List ℕ) → (length bs ≡ 0 → ⊥) → end read bs ≡ none
-          unfolding end
-          goes_on [] h = absurd (h refl)
-          goes_on (b ∷ bs) h = refl
-
           pub more_lines : (length u ≡ 0 → ⊥) → limit_lines s ≡ none
-          more_lines h = all_lines ∙ goes_on u h
+          more_lines h = all_lines ∙ goes_on read u h
 
           pub limits_end : length u ≡ 0 → LimitedBy s (record { steps = m; size = n; depth = i; nodes = j })
           limits_end h =
               record {
                 limits = read;
                 is = λ k. record { steps = a.is k; size = b.is k; depth = c.is k; nodes = d.is k };
-                lines = all_lines ∙ ends u h;
+                lines = all_lines ∙ ends read u h;
               }
 
 -- all the lines

@@ -8,7 +8,7 @@ use Rattle.search.specs.Line as line
 use Rattle.search.specs.Searched.{limits_of}
 use Rattle.search.specs.declared.bounded_search.Limits.{Limits}
 use Rattle.text.specs.declared.job.written.Written.{Written}
-use Rattle.text.specs.Bytes.{ascii}
+use Rattle.text.specs.Bytes.{ascii, read_number}
 use Rattle.text.specs.Layout.{limit_line, limit_lines}
 use Rattle.text.specs.FindJob.{Layouts, layouts}
 use Rattle.text.specs.RightLines.{rights_in}
@@ -16,6 +16,16 @@ use Rattle.text.specs.RightLines.{rights_in}
 -- a number above 4,096, which no limit may be, is taken for 4,097
 abbrev pub capped : line.Limits → line.Limits
 capped m = record { steps = min m.steps 4097; size = min m.size 4097; depth = min m.depth 4097; nodes = min m.nodes 4097 }
+
+-- the text is a number, and n is what it is taken for
+pub record LimitRead (text : List ℕ) (n : ℕ) : Type 0 where
+  pub number : ℕ
+  pub is : n ≡ min number 4097
+  pub read : read_number text ≡ some number
+
+-- of `limit`
+abbrev pub ReadsLimit : List ℕ → answered.Option ℕ → Type 0
+ReadsLimit text o = MatchOption o (read_number text ≡ none) (λ n. LimitRead text n)
 
 -- the line of a limit with this key begins a text, its number is n, and what follows the line
 pub record LimitAt (s : List ℕ) (key : List ℕ) (n : ℕ) (rest : List ℕ) : Type 0 where

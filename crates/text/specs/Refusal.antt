@@ -20,6 +20,7 @@ number_of is.WrongSteps = 12
 number_of is.NumberTaken = 13
 number_of is.NumberUnknown = 14
 number_of is.CatalogueFull = 15
+number_of is.WeightOver = 16
 number_of is.NoCatalogue = 99
 
 -- 100 plus what was answered, or the refusal's number

@@ -35,6 +35,8 @@ pub enum Refusal {
     NumberUnknown = 14,
     // the catalogue has no place left
     CatalogueFull = 15,
+    // the cost or a weight is out of its range
+    WeightOver = 16,
     // the catalogue has not as many numbers as one has
     NoCatalogue = 99,
 }

@@ -1,5 +1,5 @@
 // A block of FIND's answer: what one search for all right sides says of one of them, as text.
-// Tests that no accepted job meets stand in place of requirements: letters past 32, runs longer than 31, a noted right side without a parent, and a search that stopped since all are noted, for a right side that is not.
+// Tests that no accepted job meets stand in place of requirements: runs longer than 31, a noted right side without a parent, and a search that stopped since all are noted, for a right side that is not.
 ghost use mathlib.Core.List.{List, [], ◌∷◌, flat_map};
 ghost use Rattle.std.specs.Prelude.{◌≡◌, ℕ, ◌≤◌, length};
 ghost use Rattle.terms.specs.Term.{Term};
@@ -11,7 +11,6 @@ ghost use Rattle.search.specs.Coded.{name_of};
 ghost use Rattle.text.specs.FindJob.{jobs_of};
 ghost use Rattle.text.specs.Job.{Job};
 ghost use Rattle.text.specs.Find.{outcome_text, block};
-ghost use Rattle.text.specs.Walk.{Walk};
 ghost use Rattle.text.specs.Answering as answering;
 ghost use Rattle.text.specs.Answering.{Led, Met, Unmet, Known, AllKnown};
 ghost use Rattle.text.specs.Writer.{Writes};
@@ -28,13 +27,9 @@ use search::replies::Reply;
 use search::search::{Direction, Law};
 use search::slots;
 use search::slots::{Origin, Runs, SLOT, SlotRun, Step};
-use terms::term;
 
 // The most lines of a path of an accepted job.
 const MOST_LINES: usize = 16;
-
-// The most letters of an accepted job, v and c together: two sides of 31 nodes have no more.
-const MOST_LETTERS: usize = 32;
 
 // What one search left: how it ended, whether it was cut, and the noted terms.
 #[derive(Clone, Copy)]
@@ -42,21 +37,6 @@ pub struct Searched<'a> {
     pub ended: Ended,
     pub cut: bool,
     pub ws: &'a [u32],
-}
-
-// A path was found: the proof text names all letters, v and c.
-fn put_walk(w: &mut Writer<'_>, sides: Sides<'_>, expanded: usize, lines: Lines<'_>)
-    ensures { (j : Job) (xs : List Line) (n : ℕ) → answering.Sides sides.entry.left.now sides.entry.right.now j → Walk lines.entry.ws.now lines.entry.path.now j.left xs → Writes (outcome_text semiring j (proved xs expanded n)) w.old w.new }
-{
-    let found = Found {
-        sides,
-        expanded,
-        lines,
-    };
-    let mut names = [0u32; MOST_LETTERS];
-    if let Some(n) = term::letters(sides.left, sides.right, &mut names) {
-        put_proved(w, found, &names[..n]);
-    }
 }
 
 // A path was found that leads to the term in slot `last`.
@@ -69,7 +49,12 @@ fn put_path(w: &mut Writer<'_>, sides: Sides<'_>, expanded: usize, last: u32, ws
             ws,
             path: &path[..n],
         };
-        put_walk(w, sides, expanded, lines);
+        let found = Found {
+            sides,
+            expanded,
+            lines,
+        };
+        put_proved(w, b"proved", found, b"");
     }
 }
 

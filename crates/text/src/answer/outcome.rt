@@ -1,16 +1,11 @@
 // The text of an outcome of the search, line by line.
-ghost use Rattle.std.specs.Prelude.{◌≡◌, List, ◌++◌, ℕ};
-ghost use Rattle.terms.specs.Term.{Term};
+ghost use Rattle.std.specs.Prelude.{◌≡◌, ◌≤◌, List, ◌++◌, ℕ};
+ghost use Rattle.terms.specs.Term.{Term, size};
 ghost use Rattle.terms.specs.Held.{IsRun};
 ghost use Rattle.terms.specs.Letters.{letters, rising};
-ghost use Rattle.search.specs.Law.{semiring};
 ghost use Rattle.search.specs.Line.{Line};
-ghost use Rattle.search.specs.Search.{proved, unproved};
-ghost use Rattle.search.specs.Cut as search-cut;
 ghost use Rattle.text.specs.Answer.{refused, printed};
-ghost use Rattle.text.specs.Job.{Job};
-ghost use Rattle.text.specs.Find.{outcome_text};
-ghost use Rattle.text.specs.Printing.{figures};
+ghost use Rattle.text.specs.Printing.{path_text, none_text, figures};
 ghost use Rattle.text.specs.Prints.{PrintsReturned};
 ghost use Rattle.text.specs.Walk.{Walk};
 ghost use Rattle.text.specs.Writer.{Writes};
@@ -21,6 +16,10 @@ use crate::put::{TermOf, Text, put_in_front};
 use crate::refusal::ANSWERED;
 use crate::step::{Lines, Uses, put_steps};
 use crate::writer::Writer;
+use terms::term;
+
+// The most letters of an accepted job, v and c together: two sides of 31 nodes have no more.
+const MOST_LETTERS: usize = 32;
 
 // A path that was found between two sides: its lines, and how many terms were opened till then. Where none was found there are no lines, and
 // sides and count go by themselves.
@@ -33,7 +32,7 @@ pub struct Found<'a> {
 
 // The text where no path is found.
 pub fn put_none(w: &mut Writer<'_>, sides: Sides<'_>, expanded: usize, cut: bool)
-    ensures { (j : Job) (n : ℕ) → IsRun sides.entry.left.now j.left → IsRun sides.entry.right.now j.right → cut ≡ search-cut.cut semiring j.limits j.left → Writes (outcome_text semiring j (unproved expanded n)) w.old w.new }
+    ensures { (s t : Term) → IsRun sides.entry.left.now s → IsRun sides.entry.right.now t → Writes (none_text s t expanded cut) w.old w.new }
 {
     w.line(b"answer=", b"none");
     w.line(b"left=", &TermOf(sides.left));
@@ -69,25 +68,37 @@ pub fn printed(number: usize, output: &mut [u8]) -> usize
     }
 }
 
-// How many lines a path has, how many terms were opened, and the laws used.
-fn put_figures(w: &mut Writer<'_>, found: Found<'_>)
-    ensures { (s : Term) (xs : List Line) → Walk found.entry.lines.ws.now found.entry.lines.path.now s xs → Writes (figures found.entry.expanded xs) w.old w.new }
+// How many lines a path has, what stands after that, how many terms were opened, and the laws used.
+fn put_figures<T: Text>(w: &mut Writer<'_>, found: Found<'_>, more: &T)
+    ensures { (s : Term) (xs : List Line) (m : List ℕ) → Walk found.entry.lines.ws.now found.entry.lines.path.now s xs → T.shows more.now m → Writes (figures m found.entry.expanded xs) w.old w.new }
 {
     let steps = found.lines.path.len();
     w.line(b"steps=", &steps);
+    more.put(w);
     w.line(b"expanded=", &found.expanded);
     w.line(b"uses=", &Uses(found.lines));
 }
 
-// The text where a path is found.
-pub fn put_proved(w: &mut Writer<'_>, found: Found<'_>, names: &[u32])
-    ensures { (j : Job) (xs : List Line) (n : ℕ) → IsRun found.entry.sides.left.now j.left → IsRun found.entry.sides.right.now j.right → Walk found.entry.lines.ws.now found.entry.lines.path.now j.left xs → names.now ≡ rising (letters j.left ++ letters j.right) → Writes (outcome_text semiring j (proved xs found.entry.expanded n)) w.old w.new }
+// The lines where a path is found.
+fn put_lines<T: Text>(w: &mut Writer<'_>, verdict: &[u8], found: Found<'_>, more: &T, names: &[u32])
+    ensures { (s t : Term) (xs : List Line) (m : List ℕ) → IsRun found.entry.sides.left.now s → IsRun found.entry.sides.right.now t → Walk found.entry.lines.ws.now found.entry.lines.path.now s xs → T.shows more.now m → names.now ≡ rising (letters s ++ letters t) → Writes (path_text verdict.now s t m xs found.entry.expanded) w.old w.new }
 {
     let lines = found.lines;
-    w.line(b"answer=", b"proved");
+    w.line(b"answer=", &verdict);
     w.line(b"left=", &TermOf(found.sides.left));
     w.line(b"right=", &TermOf(found.sides.right));
-    put_figures(w, found);
+    put_figures(w, found, more);
     put_steps(w, lines);
     w.line(b"proof=", &Proof { lines, names });
+}
+
+// The text where a path is found: what stands behind `answer=`, and which lines after `steps=`, is the caller's. The proof text names all letters, v
+// and c.
+pub fn put_proved<T: Text>(w: &mut Writer<'_>, verdict: &[u8], found: Found<'_>, more: &T)
+    ensures { (s t : Term) (xs : List Line) (m : List ℕ) → IsRun found.entry.sides.left.now s → IsRun found.entry.sides.right.now t → size s ≤ 31 → size t ≤ 31 → Walk found.entry.lines.ws.now found.entry.lines.path.now s xs → T.shows more.now m → Writes (path_text verdict.now s t m xs found.entry.expanded) w.old w.new }
+{
+    let mut names = [0u32; MOST_LETTERS];
+    if let Some(n) = term::letters(found.sides.left, found.sides.right, &mut names) {
+        put_lines(w, verdict, found, more, &names[..n]);
+    }
 }

@@ -51,7 +51,7 @@ pub struct Read {
 
 // Whether each limit is in its range.
 #[tactic(auto, unfolding(crate::specs::Job::in_range))]
-fn in_range(m: Limits) -> bool
+pub fn in_range(m: Limits) -> bool
     ensures { result ≡ in_range (limits_of m) }
 {
     m.steps <= MOST_STEPS && m.size <= MOST_SIZE && m.depth <= MOST_DEPTH && m.nodes <= MOST_NODES

@@ -1,6 +1,6 @@
 // The lines of a job: the sides as they are written, and the limits.
 ghost use Rattle.text.specs.RightLines.{RightsIn};
-ghost use Rattle.text.specs.LayoutRead.{LimitIn, LimitsIn, LaysOut};
+ghost use Rattle.text.specs.LayoutRead.{ReadsLimit, LimitIn, LimitsIn, LaysOut};
 
 use super::written::Written;
 use super::{NumberError, keyed, number};
@@ -12,17 +12,24 @@ const LARGEST: u32 = 4096;
 // What every larger number is taken for: it is out of each limit's range, too.
 const OVER: u32 = 4097;
 
-// The limit in the line with a key that begins a text, and what follows the line. A number too large is no reason to stop: a later line may be
-// malformed, which is refused first.
+// The number that a limit's text is. One too large is no reason to stop: a later line may be malformed, which is refused first.
+pub fn limit(text: &[u8]) -> Option<u32>
+    ensures { ReadsLimit text.now result }
+{
+    match number(text, LARGEST) {
+        Ok(n) => Some(n),
+        Err(NumberError::TooLarge) => Some(OVER),
+        Err(NumberError::Malformed) => None,
+    }
+}
+
+// The limit in the line with a key that begins a text, and what follows the line.
+#[tactic(auto, using(crate::proofs::Layouts::no_limit, crate::proofs::Layouts::foul_limit, crate::proofs::Layouts::limit_stated))]
 pub fn limit_line<'a>(s: &'a [u8], key: &[u8]) -> Option<(u32, &'a [u8])>
     ensures { LimitIn s.now key.now result }
 {
     let (value, rest) = keyed(s, key)?;
-    match number(value, LARGEST) {
-        Ok(n) => Some((n, rest)),
-        Err(NumberError::TooLarge) => Some((OVER, rest)),
-        Err(NumberError::Malformed) => None,
-    }
+    Some((limit(value)?, rest))
 }
 
 // The limits in the four lines that are a text.

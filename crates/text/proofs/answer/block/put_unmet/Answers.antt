@@ -2,6 +2,7 @@
 use mathlib.Core.Logic.{⊎_elim}
 use mathlib.Core.Path.{sym, ap}
 use Rattle.text.specs.Answer.{refused, printed}
+use Rattle.text.proofs.Outcomes.{none_put}
 use Rattle.text.proofs.Writing.{put_as}
 use Rattle.text.proofs.Blocks.{unmet_some, unmet_full, unmet_over}
 use Rattle.text.proofs.answer.block.put_unmet.Goals as goal
@@ -10,7 +11,7 @@ pub returns-in-Over : goal.returns-in-Over
 returns-in-Over c =
     λ j slots sides unmet.
     put_as (unmet_over sides unmet c.in-Over.is)
-    (c.put_none.ensures j _ sides.left_run sides.right_run (unmet.cut_is c.in-Over.is))
+    (none_put j _ _ (unmet.cut_is c.in-Over.is) (c.put_none.ensures j.left j.right sides.left_run sides.right_run))
 
 pub returns-in-All : goal.returns-in-All
 returns-in-All c =

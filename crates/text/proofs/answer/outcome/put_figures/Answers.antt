@@ -13,7 +13,8 @@ use Rattle.text.proofs.answer.outcome.put_figures.Goals as goal
 
 pub returns : goal.returns
 unfolding field ascii
-returns c =
-    λ s xs walk.
+returns g c =
+    λ s xs m walk more.
     then (c.line.ensures (number (length xs)) (ap number (sym (walk_count walk))))
-    (then (c.line-2.ensures (number c.args.found.expanded) refl) (c.line-3.ensures (parted (code ",") (uses semiring xs)) (s, xs, walk, refl)))
+    (then (c.put.ensures m more)
+    (then (c.line-2.ensures (number c.args.found.expanded) refl) (c.line-3.ensures (parted (code ",") (uses semiring xs)) (s, xs, walk, refl))))

@@ -1,22 +1,13 @@
--- `put_proved` meets its contract.
-use mathlib.Core.Path.{refl}
-use mathlib.Core.List.{flatten}
-use Rattle.search.specs.Law.{semiring}
-use Rattle.text.specs.Bytes.{ascii}
-use Rattle.text.specs.TermText.{write_term}
-use Rattle.text.specs.Answer.{field}
-use Rattle.text.specs.Proof.{proof}
-use Rattle.text.specs.Find.{outcome_lines, outcome_text}
-use Rattle.text.proofs.Writing.{then, put_last}
-use Rattle.text.proofs.Outcomes.{figures_then}
+-- `put_proved` meets its contract: no equation has more letters than there is room for.
+use Rattle.std.proofs.Common.{rules, refl}
+use Rattle.text.proofs.Answering.{letters_fit, letters_listed}
 use Rattle.text.proofs.answer.outcome.put_proved.Goals as goal
 
-pub returns : goal.returns
-unfolding outcome_text outcome_lines flatten field ascii
-returns c =
-    λ j xs n left right walk names.
-    then (c.line.ensures (ascii "proved") refl)
-    (then (c.line-2.ensures (write_term j.left) (j.left, left, refl))
-    (then (c.line-3.ensures (write_term j.right) (j.right, right, refl))
-    (figures_then c.args.found.expanded xs (c.put_figures.ensures j.left xs walk)
-    (then (c.put_steps.ensures j.left xs walk) (put_last (c.line-4.ensures (proof semiring j.left j.right xs) (j.left, j.right, xs, walk, names, refl)))))))
+pub returns-in_default : goal.returns-in_default
+returns-in_default g c = λ s t xs m left right small_s small_t walk more. absurd (letters_fit left right small_s small_t c.letters.ensures refl (search rules))
+
+pub returns-in-Some : goal.returns-in-Some
+returns-in-Some g c =
+    λ s t xs m left right small_s small_t walk more.
+    c.put_lines.ensures s t xs m left right walk more
+    (letters_listed left right small_s small_t c.letters.ensures c.in-Some.is)
