@@ -1,4 +1,4 @@
-// The seven entries, each over the function below with the same contract. Hosts call them as C functions, which are in the crate
+// The eight entries, each over the function below with the same contract. Hosts call them as C functions, which are in the crate
 // puvainy_c: no crate can call those, so both stand.
 #![tactic(auto)]
 
@@ -10,10 +10,12 @@ ghost use Rattle.text.specs.Entry.{Call, FindCall};
 ghost use Rattle.checking.specs.Claims.{CheckCall};
 ghost use Rattle.catalogue.specs.Texts.{put_text, withdraw_text};
 ghost use Rattle.catalogue.specs.Stored.{SentCall};
+ghost use Rattle.weigh.specs.Answered.{WeighCall};
 
 use catalogue::entry::{put, withdraw};
 use checking::entry::check;
 use text::entry;
+use weigh::entry::weigh;
 
 // FIND. The workspace holds the noted terms, 40 numbers to a slot.
 pub fn puvainy_find(job: &[u8], output: &mut [u8], workspace: &mut [u32]) -> usize
@@ -62,4 +64,11 @@ pub fn puvainy_same(job: &[u8], output: &mut [u8]) -> usize
     ensures { Call (same_entry job.now (length output.old)) output.old result output.new }
 {
     entry::same(job, output)
+}
+
+// WEIGH. The workspace holds the noted terms, as FIND's does.
+pub fn puvainy_weigh(job: &[u8], output: &mut [u8], workspace: &mut [u32]) -> usize
+    ensures { WeighCall job.now output.old workspace.old result output.new workspace.new }
+{
+    weigh(job, output, workspace)
 }

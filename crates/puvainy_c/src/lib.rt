@@ -10,6 +10,7 @@ ghost use Rattle.text.specs.Entry.{Call, FindCall};
 ghost use Rattle.checking.specs.Claims.{CheckCall};
 ghost use Rattle.catalogue.specs.Texts.{put_text, withdraw_text};
 ghost use Rattle.catalogue.specs.Stored.{SentCall};
+ghost use Rattle.weigh.specs.Answered.{WeighCall};
 
 // FIND. The workspace holds the noted terms, 40 numbers to a slot.
 #[unsafe(no_mangle)]
@@ -65,4 +66,12 @@ pub extern "C" fn puvainy_same(job: &[u8], output: &mut [u8]) -> usize
     ensures { Call (same_entry job.now (length output.old)) output.old result output.new }
 {
     puvainy::puvainy_same(job, output)
+}
+
+// WEIGH. The workspace holds the noted terms, as FIND's does.
+#[unsafe(no_mangle)]
+pub extern "C" fn puvainy_weigh(job: &[u8], output: &mut [u8], workspace: &mut [u32]) -> usize
+    ensures { WeighCall job.now output.old workspace.old result output.new workspace.new }
+{
+    puvainy::puvainy_weigh(job, output, workspace)
 }
