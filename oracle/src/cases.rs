@@ -6,6 +6,7 @@ mod fixed;
 mod many;
 mod parted;
 mod same;
+mod weigh;
 
 use crate::plain::job;
 use crate::{About, Call, Entry, Given, PROGRAM_ROOM, PROGRAM_SLOTS, checked};
@@ -125,8 +126,8 @@ macro_rules! none {
 use none;
 
 /// The cases about these, or about all if none is said: those of document 01 with the examples of its table of
-/// refusals and of where lists part, those for several right sides, those for CHECK, those with c letters, and those
-/// for SAME.
+/// refusals and of where lists part, those for several right sides, those for CHECK, those with c letters, those for
+/// SAME, and those for WEIGH.
 pub fn cases(about: &[About]) -> Vec<Case> {
     let is_meant = |one: About| one.is_among(about);
     let mut all = Vec::new();
@@ -148,6 +149,9 @@ pub fn cases(about: &[About]) -> Vec<Case> {
     }
     if is_meant(About::Same) {
         all.extend(same::cases());
+    }
+    if is_meant(About::Weigh) {
+        all.extend(weigh::cases());
     }
     all
 }

@@ -1,9 +1,11 @@
-//! The plain answer, compared with the Rust's on every job that passes the refusals before the search, with other
-//! judges on every derivation that passes 1 to 4, and with the Rust's lines on every put that passes 1 to 6.
+//! The plain answer, compared with the Rust's on every job that passes the refusals before the search, with distances
+//! over the Rust's lines on every such job of WEIGH, with other judges on every derivation that passes 1 to 4, and with
+//! the Rust's lines on every put that passes 1 to 6.
 
 mod cut;
 mod derived;
 mod kinds;
+mod weigh;
 mod words;
 
 use std::fmt;
@@ -14,6 +16,7 @@ use crate::plain::{self, Block, MOST_SLOTS, joined};
 use crate::{Call, Entry, Given, rust};
 
 pub use kinds::Judged;
+pub use weigh::beside_find;
 
 /// A call on which two answers differ.
 #[derive(Debug)]
@@ -47,10 +50,11 @@ fn of_job(call: &Call) -> Result<Given, Box<Difference>> {
     let blocks = plain::blocks(entry, job, usize::MAX);
     let whole = blocks.clone();
     let whole = whole.and_then(|blocks| joined(&blocks, usize::MAX));
-    beside_rust(call, &whole)?;
-    if entry == Entry::Find
-        && let Ok(blocks) = &blocks
-    {
+    match entry {
+        Entry::Weigh => weigh::hold(call, &whole, blocks.as_deref().ok().and_then(noted))?,
+        _ => beside_rust(call, &whole)?,
+    }
+    if let (Entry::Find, Ok(blocks)) = (entry, &blocks) {
         derived::hold_proved(call, &whole)?;
         cut::hold(call, blocks)?;
     }
@@ -66,9 +70,21 @@ fn of_job(call: &Call) -> Result<Given, Box<Difference>> {
     Ok(given)
 }
 
+/// The terms noted for the only block.
+fn noted(blocks: &[Option<Block>]) -> Option<usize> {
+    match blocks {
+        [Some(block)] => Some(block.noted),
+        _ => None,
+    }
+}
+
 /// Holds an answer to a job, slots and room enough, to the Rust's: without the `cut` lines of FIND's nones, and
-/// without the last line of WORDS where it says no, which is held to the Rust's lists. SAME's is held to WORDS too.
+/// without the last line of WORDS where it says no, which is held to the Rust's lists. SAME's is held to WORDS too,
+/// WEIGH's to distances over the Rust's lines.
 pub fn beside_rust(call: &Call, whole: &Given) -> Result<(), Box<Difference>> {
+    if call.entry == Entry::Weigh {
+        return weigh::hold(call, whole, None);
+    }
     let shared = whole.clone().map(|text| match call.entry {
         Entry::Words => last_line_off(&text).0.to_vec(),
         _ => without_cut(&text),

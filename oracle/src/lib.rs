@@ -11,7 +11,7 @@ pub mod play;
 pub mod rust;
 pub mod tally;
 
-/// The entries: CHECK takes a derivation, the others a job.
+/// The entries: CHECK takes a derivation, WEIGH a job of its own, the others a job.
 #[derive(Clone, Copy, Debug, Eq, PartialEq)]
 pub enum Entry {
     Find,
@@ -19,25 +19,28 @@ pub enum Entry {
     Rename,
     Check,
     Same,
+    Weigh,
 }
 
 impl Entry {
-    pub const ALL: [Entry; 5] = [
+    pub const ALL: [Entry; 6] = [
         Entry::Find,
         Entry::Words,
         Entry::Rename,
         Entry::Check,
         Entry::Same,
+        Entry::Weigh,
     ];
+    /// Those whose job has the six lines of document 01.
     pub const OF_JOBS: [Entry; 4] = [Entry::Find, Entry::Words, Entry::Rename, Entry::Same];
 
     pub fn name(self) -> &'static str {
-        ["find", "words", "rename", "check", "same"][self as usize]
+        ["find", "words", "rename", "check", "same", "weigh"][self as usize]
     }
 
     /// The number that stands for it in lists. 5 and 6 are those of PUT and WITHDRAW.
     pub fn number(self) -> usize {
-        [1, 2, 3, 4, 7][self as usize]
+        [1, 2, 3, 4, 7, 8][self as usize]
     }
 
     pub fn named(name: &str) -> Option<Entry> {
@@ -46,7 +49,7 @@ impl Entry {
 }
 
 /// What a call is about: a job of one right side or of several, some of which may be wrong, a
-/// derivation for CHECK, any of these with c letters, or a job for SAME, with c letters or without.
+/// derivation for CHECK, any of these with c letters, or a job for SAME or for WEIGH, with c letters or without.
 #[derive(Clone, Copy, Debug, Eq, PartialEq)]
 pub enum About {
     One,
@@ -54,6 +57,7 @@ pub enum About {
     Check,
     Fixed,
     Same,
+    Weigh,
 }
 
 impl About {

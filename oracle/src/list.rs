@@ -6,7 +6,7 @@ use std::io::{self, Write};
 
 use crate::{Call, Given, Sent};
 
-/// Writes a call: entry (1 FIND, 2 WORDS, 3 RENAME, 4 CHECK, 7 SAME), slots, room, job's length; then the job.
+/// Writes a call: entry (1 FIND, 2 WORDS, 3 RENAME, 4 CHECK, 7 SAME, 8 WEIGH), slots, room, job's length; then the job.
 pub fn write_call(out: &mut impl Write, call: &Call) -> io::Result<()> {
     writeln!(out, "{}", header(call))?;
     out.write_all(&call.job)

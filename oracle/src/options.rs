@@ -14,7 +14,9 @@ pub fn take(plan: &mut Plan, option: &str, rest: &mut Iter<&str>) -> Result<bool
         "--seed" => plan.seed = value(option, rest)?,
         "--count" => plan.count = value(option, rest)?,
         "--light" => plan.light = true,
-        "--one" | "--many" | "--check" | "--fixed" | "--same" => plan.about.extend(about(option)),
+        "--one" | "--many" | "--check" | "--fixed" | "--same" | "--weigh" => {
+            plan.about.extend(about(option));
+        }
         "--max-job" => plan.most_bytes = value(option, rest)?,
         "--max-slots" => plan.most_slots = value(option, rest)?,
         "--max-room" => plan.most_room = value(option, rest)?,
@@ -54,7 +56,7 @@ pub fn take_names(names: &mut Names, option: &str, rest: &mut Iter<&str>) -> Res
     Ok(true)
 }
 
-/// Which calls `--one`, `--many`, `--check`, `--fixed` or `--same` asks for.
+/// Which calls `--one`, `--many`, `--check`, `--fixed`, `--same` or `--weigh` asks for.
 pub fn about(option: &str) -> Option<About> {
     match option {
         "--one" => Some(About::One),
@@ -62,6 +64,7 @@ pub fn about(option: &str) -> Option<About> {
         "--check" => Some(About::Check),
         "--fixed" => Some(About::Fixed),
         "--same" => Some(About::Same),
+        "--weigh" => Some(About::Weigh),
         _ => None,
     }
 }

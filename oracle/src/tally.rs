@@ -5,6 +5,7 @@ mod parted;
 mod places;
 mod plays;
 mod same;
+mod weigh;
 
 use std::collections::BTreeMap;
 use std::fmt;
@@ -17,6 +18,7 @@ pub use names::NameTally;
 use parted::Parted;
 pub use plays::PlayTally;
 use same::Same;
+use weigh::Weigh;
 
 /// How often each key was counted.
 type Counts = BTreeMap<String, usize>;
@@ -32,6 +34,7 @@ pub struct Tally {
     cuts: Cuts,
     parted: Parted,
     same: Same,
+    weigh: Weigh,
     /// The step lines of good derivations.
     chains: BTreeMap<usize, usize>,
 }
@@ -84,6 +87,10 @@ impl Tally {
                 *self.chains.entry(lines).or_default() += 1;
             }
             Entry::Same => self.same.count(&call.job, text),
+            Entry::Weigh => {
+                self.weigh.count(&call.job, text);
+                return;
+            }
         }
         let blocks = outcomes(text);
         if blocks.len() > 1 {
@@ -111,6 +118,7 @@ impl Tally {
         self.cuts.add(&other.cuts);
         self.parted.add(&other.parted);
         self.same.add(&other.same);
+        self.weigh.add(other.weigh);
         add(&mut self.chains, other.chains);
     }
 }
@@ -170,12 +178,13 @@ impl fmt::Display for Tally {
         writeln!(out, "blocks      {}", show(&self.blocks))?;
         writeln!(
             out,
-            "lines in the path of a proved answer or block: {}",
+            "lines in the path of a proved answer or block of FIND: {}",
             show_each(&self.paths)
         )?;
         writeln!(out, "{}", self.cuts)?;
         writeln!(out, "{}", self.parted)?;
         writeln!(out, "{}", self.same)?;
+        writeln!(out, "{}", self.weigh)?;
         let lines: usize = self.chains.iter().map(|(lines, count)| lines * count).sum();
         let most = self.chains.keys().max().unwrap_or(&0);
         writeln!(

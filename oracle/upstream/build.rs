@@ -1,6 +1,7 @@
-//! Writes the root module of the Rust sources, and their kernel bridge with its kernel part replaced.
+//! Writes the root module of the Rust sources, their kernel bridge with its kernel part replaced, and their search with a
+//! part behind it that hands on its lines.
 //!
-//! The sources stay in their folder: five files are compiled from there as they are.
+//! The sources stay in their folder: four files are compiled from there as they are.
 
 use std::{
     env, fs,
@@ -10,13 +11,7 @@ use std::{
 const VARIABLE: &str = "PUVAINY_RUST_SOURCES";
 const DEFAULT: &str = "../shared/docs/src";
 
-const UNCHANGED: [&str; 5] = [
-    "term",
-    "candidate",
-    "normal_form",
-    "search",
-    "bounded_search",
-];
+const UNCHANGED: [&str; 4] = ["term", "candidate", "normal_form", "search"];
 
 /// The kernel part begins at the first mark and ends at the second; the check begins at the third.
 const KERNEL: &str = "pub use hott_kernel as kernel;";
@@ -24,23 +19,27 @@ const RENDERING: &str = "/// Renders a finder term as a Surface term";
 const CHECK: &str = "fn is_exact_surface_identifier(";
 
 const STAND_IN: &str = include_str!("stand_in.rs");
+const LINES: &str = include_str!("lines.rs");
 
 fn main() {
     println!("cargo::rerun-if-env-changed={VARIABLE}");
     println!("cargo::rerun-if-changed=build.rs");
     println!("cargo::rerun-if-changed=stand_in.rs");
+    println!("cargo::rerun-if-changed=lines.rs");
     if let Err(why) = build() {
         println!("cargo::error={why}");
     }
 }
 
-/// Writes both files, or says in one line why it cannot.
+/// Writes the three files, or says in one line why it cannot.
 fn build() -> Result<(), String> {
     let sources = sources()?;
     let out = PathBuf::from(env::var("OUT_DIR").expect("cargo sets OUT_DIR"));
 
     let bridge = out.join("kernel_bridge.rs");
     write(&bridge, &without_kernel(&read(&sources, "kernel_bridge")?)?)?;
+    let bounded_search = out.join("bounded_search.rs");
+    write(&bounded_search, &(read(&sources, "bounded_search")? + LINES))?;
 
     let mut root = String::new();
     for name in UNCHANGED {
@@ -49,6 +48,7 @@ fn build() -> Result<(), String> {
     }
     root += "#[allow(unused_imports)]\n";
     root += &module("kernel_bridge", &bridge);
+    root += &module("bounded_search", &bounded_search);
     write(&out.join("upstream.rs"), &root)
 }
 

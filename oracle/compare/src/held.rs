@@ -7,7 +7,7 @@ use puvainy::{ANSWER, SLOT, entries};
 use crate::lent::Buffer;
 
 /// Bytes from which the output is filled; no output is longer.
-const DIRT: usize = 1 << 18;
+const DIRT: usize = 1 << 19;
 
 /// The buffers of one thread: what a call leaves in them, the next one finds.
 pub struct Buffers {
@@ -40,6 +40,7 @@ impl Buffers {
             Entry::Rename => entries::rename(job, output),
             Entry::Check => entries::check(job, output),
             Entry::Same => entries::same(job, output),
+            Entry::Weigh => entries::weigh(job, output, self.workspace.part_mut()),
         };
         self.number_fault(number, due)
             .or_else(|| self.output_fault(dirt, due))
@@ -60,7 +61,7 @@ impl Buffers {
 
         let length = call.slots * SLOT + random.below(SLOT);
         self.workspace.choose(random.below(4), length);
-        if call.entry == Entry::Find {
+        if matches!(call.entry, Entry::Find | Entry::Weigh) {
             self.soil_workspace(random);
         }
         self.workspace.watch(|| number(random));
@@ -144,7 +145,7 @@ impl Buffers {
 
 /// Whether the workspace has to stay as it is: after a refusal that comes before any search.
 fn is_early(due: &Given) -> bool {
-    matches!(due, Err(1..=6 | 9 | 10))
+    matches!(due, Err(1..=6 | 9 | 10 | 16))
 }
 
 /// Any 32-bit number, and often one that a slot may hold.

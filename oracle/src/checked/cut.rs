@@ -7,7 +7,7 @@ use crate::plain::nones::{Said, nones, without_cut};
 use crate::{Call, Entry, rust};
 
 /// Opened terms times the size limit, above which a none takes the Rust seconds: it is not asked again.
-const MOST_WORK: usize = 100_000;
+pub const MOST_WORK: usize = 100_000;
 
 /// Holds `cut` of each block that is a none. There is a block for each equation of the call's job.
 pub fn hold(call: &Call, blocks: &[Option<Block>]) -> Result<(), Box<Difference>> {

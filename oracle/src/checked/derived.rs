@@ -101,10 +101,14 @@ fn is_searchable(law: usize, forward: bool) -> bool {
     to.iter().all(is_bound)
 }
 
-/// The three kinds of line from every proved block of FIND's answer are good, and hold as any derivation.
+/// The three kinds of line from every proved block of an answer are good, and hold as any derivation. A path of WEIGH
+/// that is too long for CHECK is looked at in parts.
 pub fn hold_proved(call: &Call, given: &Given) -> Result<(), Box<Difference>> {
     let Ok(answer) = given else { return Ok(()) };
-    for text in check::derivations(answer) {
+    for text in check::derivations(answer)
+        .iter()
+        .flat_map(|text| check::parts(text))
+    {
         let check = Call {
             entry: Entry::Check,
             job: text.clone().into_bytes(),

@@ -4,7 +4,7 @@ use super::draft::{Draft, any};
 use super::random::Random;
 use super::searched;
 use crate::Call;
-use crate::plain::job::{MOST_BYTES, key};
+use crate::plain::job::MOST_BYTES;
 
 /// Digits of a limit that are malformed.
 const NO_NUMBERS: [&[u8]; 15] = [
@@ -23,10 +23,10 @@ pub fn lines(random: &mut Random) -> Call {
 pub fn malformed(random: &mut Random, draft: Draft) -> Vec<u8> {
     match random.below(5) {
         0 => bad_digits(random, draft),
-        1 => bad_key(random, &draft),
+        1 => bad_key(random, draft.lines()),
         2 => bad_length(random, draft),
-        3 => bad_ends(random, &draft),
-        _ => bad_order(random, &draft),
+        3 => bad_ends(random, &draft.bytes()),
+        _ => bad_order(random, draft.lines()),
     }
 }
 
@@ -35,10 +35,11 @@ fn bad_digits(random: &mut Random, mut draft: Draft) -> Vec<u8> {
     draft.bytes()
 }
 
-fn bad_key(random: &mut Random, draft: &Draft) -> Vec<u8> {
-    let mut lines = draft.lines();
+/// One of the lines has another key.
+pub fn bad_key(random: &mut Random, mut lines: Vec<Vec<u8>>) -> Vec<u8> {
     let at = random.below(lines.len());
-    let key_length = key(at, lines.len()).len();
+    let key_end = lines[at].iter().position(|&byte| byte == b'=');
+    let key_length = key_end.expect("a key ends") + 1;
     let in_key = random.below(key_length);
     let line = &mut lines[at];
     match random.below(6) {
@@ -69,16 +70,16 @@ fn bad_length(random: &mut Random, mut draft: Draft) -> Vec<u8> {
     draft.bytes()
 }
 
-fn bad_ends(random: &mut Random, draft: &Draft) -> Vec<u8> {
-    let text = draft.bytes();
+/// The text ends otherwise, is missing or stands twice, or its lines end otherwise.
+pub fn bad_ends(random: &mut Random, text: &[u8]) -> Vec<u8> {
     let (last, head) = text.split_last().expect("a job has bytes");
     match random.below(8) {
         0 => Vec::new(),
         1 => head.to_vec(),
-        2 => [&text[..], b"\n"].concat(),
-        3 => [&text[..], &[random.byte()]].concat(),
+        2 => [text, b"\n"].concat(),
+        3 => [text, &[random.byte()]].concat(),
         4 => text.repeat(2),
-        5 => [b"\n", &text[..]].concat(),
+        5 => [b"\n", text].concat(),
         6 => [head, b"\r", &[*last]].concat(),
         _ => text
             .split(|&byte| byte == b'\n')
@@ -87,8 +88,8 @@ fn bad_ends(random: &mut Random, draft: &Draft) -> Vec<u8> {
     }
 }
 
-fn bad_order(random: &mut Random, draft: &Draft) -> Vec<u8> {
-    let mut lines = draft.lines();
+/// Two lines are exchanged, or one stands twice or is missing.
+pub fn bad_order(random: &mut Random, mut lines: Vec<Vec<u8>>) -> Vec<u8> {
     let (one, other) = (random.below(lines.len()), random.below(lines.len()));
     match random.below(4) {
         0 | 1 => lines.swap(one, other),

@@ -8,6 +8,7 @@ mod cuts;
 mod derived;
 mod draft;
 mod equations;
+mod far;
 mod listed;
 mod measured;
 mod most;
@@ -25,6 +26,8 @@ mod tables;
 mod terms;
 mod unfit;
 mod unread;
+mod unweighed;
+mod weigh;
 mod withdrawals;
 
 use crate::{About, Call};
@@ -50,7 +53,7 @@ impl Kind {
     }
 }
 
-const HEAVY: [&str; 2] = ["heavy", "plan-heavy"];
+const HEAVY: [&str; 3] = ["heavy", "plan-heavy", "weigh-heavy"];
 
 type Make = fn(&mut Random) -> Call;
 
@@ -103,10 +106,25 @@ const fn same_c(name: &'static str, share: usize, what: &'static str, make: Make
     }
 }
 
+const fn weigh(name: &'static str, share: usize, what: &'static str, make: Make) -> Kind {
+    Kind {
+        about: About::Weigh,
+        ..one(name, share, what, make)
+    }
+}
+
+/// A kind for WEIGH that draws c letters.
+const fn weigh_c(name: &'static str, share: usize, what: &'static str, make: Make) -> Kind {
+    Kind {
+        has_c: true,
+        ..weigh(name, share, what, make)
+    }
+}
+
 /// The kinds; the shares of those with one right side make a thousand, of those with several, of those for CHECK, of
-/// those with c letters and of those for SAME five hundred each.
+/// those with c letters, of those for SAME and of those for WEIGH five hundred each.
 #[rustfmt::skip]
-pub const KINDS: [Kind; 87] = [
+pub const KINDS: [Kind; 107] = [
     one("lines", 60, "malformed lines, keys, digits and lengths", broken::lines),
     one("sides", 80, "a side that is no term", refused::sides),
     one("nodes", 40, "sides of 29 nodes and more", refused::nodes),
@@ -194,6 +212,26 @@ pub const KINDS: [Kind; 87] = [
     same_c("c-early", 10, "as many words, lists that part at the first", same::early),
     same_c("c-late", 15, "as many words, lists with common words in front", same::late),
     same_c("c-faults", 15, "refusals 2 to 6, several reasons", same::faults),
+    weigh("lightest", 90, "equations as FIND is asked, any weights", weigh::lightest),
+    weigh("even", 55, "all weights alike, beside FIND", weigh::even),
+    weigh("detours", 45, "heavy laws on a short path, light ones elsewhere", weigh::detours),
+    weigh("far", 20, "ends of long walks, totals up to 99", far::far),
+    weigh("long", 5, "sides up to 60 lines apart", far::long),
+    weigh("reach", 45, "nodes about the number of terms within cost", far::reach),
+    weigh("weigh-edges", 45, "a limit about what the search takes", weigh::edges),
+    weigh("weigh-slots", 45, "slots about the number noted", weigh::slots),
+    weigh("weigh-room", 25, "room about the answer's length", weigh::room),
+    weigh("ranges", 25, "cost and weights about their ranges", unweighed::ranges),
+    weigh("weigh-lines", 29, "malformed lines and weights", unweighed::lines),
+    weigh("weigh-wrong", 15, "several reasons to refuse", unweighed::wrong),
+    weigh("weigh-sides", 8, "a side that is no term or too large, equal sides", unweighed::sides),
+    weigh("weigh-bytes", 5, "texts of about 1,024 bytes", unweighed::bytes),
+    weigh("harmed", 10, "good texts with damaged bytes", unweighed::harmed),
+    weigh("weigh-heavy", 1, "4,096 nodes, seconds each", far::heavy),
+    weigh_c("c-lightest", 12, "equations as FIND is asked, any weights", weigh::lightest),
+    weigh_c("c-detours", 8, "heavy laws on a short path, light ones elsewhere", weigh::detours),
+    weigh_c("c-reach", 7, "nodes about the number of terms within cost", far::reach),
+    weigh_c("c-wrong", 5, "several reasons to refuse", unweighed::wrong),
 ];
 
 /// Which calls to make.

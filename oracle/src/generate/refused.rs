@@ -31,7 +31,7 @@ const NO_ITEMS: [&[u8]; 10] = [
 
 /// Limits too large, some of which wrap to small numbers.
 #[rustfmt::skip]
-const TOO_LARGE: [&str; 9] = [
+pub const TOO_LARGE: [&str; 9] = [
     "65536", "65539", "99999", "4294967295", "4294967296", "4294967299",
     "18446744073709551615", "18446744073709551619", "1000000000000000000000000000000003",
 ];

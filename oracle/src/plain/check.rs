@@ -58,6 +58,28 @@ fn three_kinds(block: &str) -> String {
     lines.filter(is_of_them).collect()
 }
 
+/// Lines of a part.
+const OF_A_PART: usize = 32;
+
+/// A derivation in parts that CHECK takes: one that is too long is cut, and each part begins where the last one ends.
+pub fn parts(text: &str) -> Vec<String> {
+    if text.len() <= MOST_CHECK_BYTES {
+        return vec![text.to_owned()];
+    }
+    let mut lines = text.split_inclusive('\n');
+    let left = lines.next().and_then(|line| line.strip_prefix(KEYS[0]));
+    let mut left = left.expect("a derivation begins with left");
+    let steps: Vec<&str> = lines.skip(1).collect();
+    let parts = steps.chunks(OF_A_PART).map(|steps| {
+        let last = steps.last().and_then(|line| line.split_once(" to="));
+        let (_, right) = last.expect("a line has a result");
+        let part = format!("left={left}right={right}{}", steps.concat());
+        left = right;
+        part
+    });
+    parts.collect()
+}
+
 /// Whether the stated line is one on this term: there are terms for the law's letters that make the side
 /// replaced the subterm at the place, and the other side what stands there in the result; the rest is the same.
 pub fn is_line(source: &Term, stated: &Stated) -> bool {

@@ -1,9 +1,9 @@
-//! The lines of a job, and the refusals that come before a search.
+//! The lines of a job of all entries but WEIGH, and the refusals that come before a search.
 
 use super::term::{Term, v_letters_of};
 use crate::Entry;
 
-/// The bytes of a job of WORDS, RENAME or SAME, and of one of FIND.
+/// The bytes of a job of WORDS, RENAME, SAME or WEIGH, and of one of FIND.
 pub const MOST_BYTES: usize = 1024;
 pub const MOST_FIND_BYTES: usize = 4096;
 /// The right sides of a job of FIND; the others have one.
@@ -77,15 +77,32 @@ impl Job {
 
 /// The first of refusals 3 to 6 and 10 that applies.
 fn refusal(left: &Term, rights: &[Term], limits: &[u32; 4]) -> Option<u8> {
+    measured(left, rights)
+        .or_else(|| are_above(limits, &BOUNDS).then_some(5))
+        .or_else(|| compared(left, rights))
+}
+
+/// 3 or 4: a side that is too large, an equation with too many letters.
+pub fn measured(left: &Term, rights: &[Term]) -> Option<u8> {
     let is_large = |side: &Term| side.size() > MOST_NODES;
     let has_many_letters = |right| v_letters_of(left, right).len() > MOST_LETTERS;
     if is_large(left) || rights.iter().any(is_large) {
         Some(3)
     } else if rights.iter().any(has_many_letters) {
         Some(4)
-    } else if limits.iter().zip(BOUNDS).any(|(&value, most)| value > most) {
-        Some(5)
-    } else if rights.contains(left) {
+    } else {
+        None
+    }
+}
+
+/// Whether any limit is above its bound.
+pub fn are_above(limits: &[u32], bounds: &[u32]) -> bool {
+    limits.iter().zip(bounds).any(|(value, most)| value > most)
+}
+
+/// 6 or 10: a right side that is left, or one of several that comes before it.
+pub fn compared(left: &Term, rights: &[Term]) -> Option<u8> {
+    if rights.contains(left) {
         Some(6)
     } else if rights.len() > 1 && rights.iter().any(|right| right < left) {
         Some(10)

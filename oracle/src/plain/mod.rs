@@ -16,6 +16,7 @@ pub mod search;
 pub mod stored;
 pub mod term;
 pub mod tried;
+pub mod weigh;
 pub mod words;
 
 use crate::{Entry, Given};
@@ -23,6 +24,7 @@ use job::{Equation, Job, Limits};
 use proof::Prover;
 use search::{Outcome, Step, search};
 use term::{Term, letters_of};
+use weigh::job::WeighJob;
 
 pub const MOST_SLOTS: usize = 65_535;
 
@@ -50,11 +52,15 @@ pub fn whole(entry: Entry, job: &[u8]) -> Result<(Vec<u8>, usize), u8> {
 }
 
 /// What each equation is answered by itself; none where more terms would be noted than there are slots. A
-/// derivation is answered by one block.
+/// derivation and a job of WEIGH are answered by one block.
 pub fn blocks(entry: Entry, job: &[u8], slots: usize) -> Result<Vec<Option<Block>>, u8> {
     if entry == Entry::Check {
         let text = check::check(job)?;
         return Ok(vec![Some(Block { text, noted: 0 })]);
+    }
+    if entry == Entry::Weigh {
+        let job = WeighJob::read(job)?;
+        return Ok(vec![weigh::block(&job, slots)]);
     }
     let job = Job::read(entry, job)?;
     let equations = job.equations.iter();
@@ -85,7 +91,7 @@ fn block(entry: Entry, equation: &Equation, limits: &Limits, slots: usize) -> Op
         Entry::Words => (words::words_text(equation), 0),
         Entry::Rename => (rename::rename_text(equation), 0),
         Entry::Same => (same::same_line(equation).to_owned(), 0),
-        Entry::Check => unreachable!("CHECK takes no job"),
+        Entry::Check | Entry::Weigh => unreachable!("they are answered by themselves"),
         Entry::Find => {
             let (left, right) = equation.oriented();
             let outcome = search(left, right, limits, slots)?;
@@ -99,12 +105,13 @@ fn block(entry: Entry, equation: &Equation, limits: &Limits, slots: usize) -> Op
 /// The answer of FIND to one equation.
 fn find_text(left: &Term, right: &Term, outcome: &Outcome) -> String {
     match &outcome.path {
-        Some(path) => proved(left, right, path, outcome.expanded),
+        Some(path) => proved(left, right, path, "", outcome.expanded),
         None => none(left, right, outcome.expanded, outcome.waits),
     }
 }
 
-fn proved(left: &Term, right: &Term, path: &[Step], expanded: usize) -> String {
+/// A proved answer; what is said of the path beside its lines stands behind their number.
+fn proved(left: &Term, right: &Term, path: &[Step], said: &str, expanded: usize) -> String {
     let letters = letters_of(left, right);
     let mut laws: Vec<usize> = path.iter().map(|step| step.line.law).collect();
     laws.sort_unstable();
@@ -112,7 +119,7 @@ fn proved(left: &Term, right: &Term, path: &[Step], expanded: usize) -> String {
     let uses: Vec<&str> = laws.iter().map(|&law| law::LAWS[law].name).collect();
     let steps: Vec<String> = path.iter().map(step_line).collect();
     format!(
-        "answer=proved\nleft={}\nright={}\nsteps={}\nexpanded={expanded}\nuses={}\n{}proof={}\n",
+        "answer=proved\nleft={}\nright={}\nsteps={}\n{said}expanded={expanded}\nuses={}\n{}proof={}\n",
         left.show(),
         right.show(),
         path.len(),

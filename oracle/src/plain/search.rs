@@ -71,7 +71,7 @@ pub fn search(left: &Term, right: &Term, limits: &Limits, slots: usize) -> Optio
 }
 
 /// The one line of the first law that matches both sides as written.
-fn direct(left: &Term, right: &Term) -> Option<Step> {
+pub fn direct(left: &Term, right: &Term) -> Option<Step> {
     let law = LAWS
         .iter()
         .position(|law| law.matches(left.run(), right.run()).is_some())?;

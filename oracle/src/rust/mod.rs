@@ -1,9 +1,10 @@
 //! Answers made from the Rust sources, for jobs that pass every refusal before the search, what the Rust says of
-//! derivations, and the kinds of a catalogue's entries.
+//! derivations, the kinds of a catalogue's entries, and WEIGH by the Rust's lines.
 
 pub mod chain;
 mod kept;
 mod readback;
+pub mod weigh;
 
 use upstream::{
     BoundedRewriteProof, BoundedRewriteResult, EquationCandidate, Monomial, RewriteSearchLimits,
@@ -13,7 +14,7 @@ use upstream::{
 use crate::plain::{
     catalogue::Key,
     job::{Equation, Job, Limits},
-    term::{ONE, PRODUCT, SUM, ZERO, part},
+    term::{ONE, PRODUCT, SUM, Term as Run, ZERO, part},
 };
 use crate::{Entry, Given};
 
@@ -37,7 +38,7 @@ pub fn block(entry: Entry, equation: &Equation, limits: &Limits) -> String {
         Entry::Words => words_text(&equation),
         Entry::Rename => rename_text(&equation),
         Entry::Same => same_line(&equation),
-        Entry::Check => unreachable!("CHECK takes no job"),
+        Entry::Check | Entry::Weigh => unreachable!("the Rust has no such entry"),
     }
 }
 
@@ -154,6 +155,26 @@ fn word_lines(equation: &EquationCandidate, is_kept: bool) -> String {
         None => ("-".to_owned(), "-".to_owned()),
     };
     format!("wleft={left}\nwright={right}\n")
+}
+
+/// The run of the Rust's term.
+fn run_of(term: &Term) -> Run {
+    fn put(term: &Term, run: &mut Vec<u16>) {
+        match term {
+            Term::Var(letter) => run.push(*letter as u16),
+            Term::Zero => run.push(ZERO),
+            Term::One => run.push(ONE),
+            Term::Add(left, right) | Term::Mul(left, right) => {
+                let is_sum = matches!(term, Term::Add(..));
+                run.push(if is_sum { SUM } else { PRODUCT });
+                put(left, run);
+                put(right, run);
+            }
+        }
+    }
+    let mut run = Vec::new();
+    put(term, &mut run);
+    Run::of(run)
 }
 
 /// The Rust's term of a run.
