@@ -1,4 +1,5 @@
 -- Laws that the proofs share.
+pub mod Counting
 pub mod Filling
 pub mod Looking
 pub mod Reading

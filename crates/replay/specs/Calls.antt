@@ -7,10 +7,11 @@ use Rattle.text.specs.Same.{same_entry}
 use Rattle.checking.specs.Check.{check as check-entry}
 use Rattle.catalogue.specs.Texts.{put_text, withdraw_text}
 use Rattle.catalogue.specs.Stored.{SentCall}
+use Rattle.weigh.specs.Answered.{WeighCall}
 use Rattle.replay.specs.Dirt.{bytes, due}
 use Rattle.replay.specs.declared.record.Record.{Record}
 use Rattle.replay.specs.declared.record.Entry.{Entry}
-use Rattle.replay.specs.declared.record.Entry.TheVariants.{Find, Words, Rename, Check, Put, Withdraw, Same, Other}
+use Rattle.replay.specs.declared.record.Entry.TheVariants.{Find, Words, Rename, Check, Put, Withdraw, Same, Weigh, Other}
 use Rattle.replay.specs.declared.call.Buffers.{Buffers}
 use Rattle.replay.specs.declared.call.Fault.{Fault}
 use Rattle.replay.specs.declared.call.Fault.TheVariants.{Number, Output, Workspace, Catalogue, Buffers as TooSmall}
@@ -28,9 +29,14 @@ due_number None answer = 100 + length answer
 abbrev pub is_searched : (number : ℕ) → Bool
 is_searched number = nat_lt 6 number && not (number == 9) && not (number == 10)
 
--- where the workspace may be changed up to: in the lent part, by a call of FIND that has searched
+-- likewise of WEIGH
+abbrev pub is_weighed : (number : ℕ) → Bool
+is_weighed number = nat_lt 6 number && not (number == 16)
+
+-- where the workspace may be changed up to: in the lent part, by a call of FIND or of WEIGH that has searched
 abbrev pub changed_to : (entry : Entry) (number lent : ℕ) → ℕ
 changed_to Find number lent = if is_searched number then lent else 0
+changed_to Weigh number lent = if is_weighed number then lent else 0
 changed_to _ number lent = 0
 
 -- whether a call that returns this number may change the catalogue: one of PUT or WITHDRAW that is not refused
@@ -52,6 +58,7 @@ Made Check job out work cat r out' work' cat' = Call (check-entry job (length ou
 Made Put job out work cat r out' work' cat' = SentCall (put_text job) cat r cat' × (out' ≡ out) × (work' ≡ work)
 Made Withdraw job out work cat r out' work' cat' = SentCall (withdraw_text job) cat r cat' × (out' ≡ out) × (work' ≡ work)
 Made Same job out work cat r out' work' cat' = Call (same_entry job (length out)) out r out' × (work' ≡ work) × (cat' ≡ cat)
+Made Weigh job out work cat r out' work' cat' = WeighCall job out work r out' work' × (cat' ≡ cat)
 Made (Other n) job out work cat r out' work' cat' = Call (check-entry job (length out)) out r out' × (work' ≡ work) × (cat' ≡ cat)
 
 -- the first that is not as due of a call: its number (r where d is due), its output, its workspace, the catalogue

@@ -3,7 +3,7 @@ use Rattle.std.specs.Prelude.{◌≡◌, ℕ, ◌-◌, ◌<◌, List, ◌++◌, 
 use Rattle.std.specs.Borrow.{Bor}
 use Rattle.replay.specs.declared.record.Record.{Record}
 use Rattle.replay.specs.declared.record.Entry.{Entry}
-use Rattle.replay.specs.declared.record.Entry.TheVariants.{Find, Words, Rename, Check, Put, Withdraw, Same, Other}
+use Rattle.replay.specs.declared.record.Entry.TheVariants.{Find, Words, Rename, Check, Put, Withdraw, Same, Weigh, Other}
 
 -- the entry that a number stands for in the list
 abbrev pub entry_of : ℕ → Entry
@@ -15,6 +15,7 @@ entry_of n =
     else if n == 5 then Put
     else if n == 6 then Withdraw
     else if n == 7 then Same
+    else if n == 8 then Weigh
     else Other n
 
 -- the number that stands for an entry
@@ -26,6 +27,7 @@ number_of Check = 4
 number_of Put = 5
 number_of Withdraw = 6
 number_of Same = 7
+number_of Weigh = 8
 number_of (Other n) = n
 
 -- what a call is to return, by the number stored for it: where that is 0 it is to answer

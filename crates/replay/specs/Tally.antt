@@ -25,7 +25,7 @@ refusal None = 0
 -- where a call is counted by its entry and its stored number; with all calls where one of them is too large
 abbrev pub place : (entry : Entry) (number : Option ℕ) → ℕ × ℕ
 place entry number =
-    if nat_le (number_of entry) 7 && nat_le (refusal number) 15 then (number_of entry, refusal number) else (0, 0)
+    if nat_le (number_of entry) 8 && nat_le (refusal number) 16 then (number_of entry, refusal number) else (0, 0)
 
 -- the counts with one call more: in row 0 all calls in column 0, those that differ in column 1
 abbrev pub counted : Record → (held : Result (Unit {0}) Fault) → Tally → Tally

@@ -74,20 +74,22 @@ fn made(
         Entry::Put => puvainy::puvainy_put(job, catalogue),
         Entry::Withdraw => puvainy::puvainy_withdraw(job, catalogue),
         Entry::Same => puvainy::puvainy_same(job, output),
+        Entry::Weigh => puvainy::puvainy_weigh(job, output, workspace),
         Entry::Check | Entry::Other(_) => puvainy::puvainy_check(job, output),
     }
 }
 
 impl Entry {
     // Where a call that returned a number may have changed the workspace up to: in the lent part by FIND, but not by
-    // its refusals 1 to 6, 9 and 10; nowhere by the others. Refusals stand here by their numbers, as the entries return
-    // them.
+    // its refusals 1 to 6, 9 and 10, and by WEIGH, but not by 1 to 6 and 16; nowhere by the others. Refusals stand here
+    // by their numbers, as the entries return them.
     fn changed_up_to(self, number: usize, lent: usize) -> usize
         ensures { result ≡ changed_to self number lent }
     {
         match (self, number) {
             (Entry::Find, ..=6 | 9 | 10) => 0,
-            (Entry::Find, _) => lent,
+            (Entry::Weigh, ..=6 | 16) => 0,
+            (Entry::Find | Entry::Weigh, _) => lent,
             _ => 0,
         }
     }

@@ -15,6 +15,7 @@ pub enum Entry {
     Put,
     Withdraw,
     Same,
+    Weigh,
     // Any other number; such a call is made of CHECK.
     Other(usize),
 }
@@ -31,6 +32,7 @@ impl From<usize> for Entry {
             5 => Entry::Put,
             6 => Entry::Withdraw,
             7 => Entry::Same,
+            8 => Entry::Weigh,
             _ => Entry::Other(number),
         }
     }
@@ -49,6 +51,7 @@ impl From<Entry> for usize {
             Entry::Put => 5,
             Entry::Withdraw => 6,
             Entry::Same => 7,
+            Entry::Weigh => 8,
             Entry::Other(number) => number,
         }
     }

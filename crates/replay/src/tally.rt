@@ -7,9 +7,9 @@ use crate::record::Record;
 use std::fmt;
 use text::refusal::ANSWERED;
 
-const ROWS: usize = 8;
+const ROWS: usize = 9;
 
-const COLUMNS: usize = 16;
+const COLUMNS: usize = 17;
 
 // A row and a column each: where all calls are counted, and where those that differ. They stand in the table, so that one function counts.
 const CALLS: (usize, usize) = (0, 0);
@@ -95,8 +95,8 @@ impl Tally {
     }
 }
 
-const NAMES: [&str; 7] = [
-    "find", "words", "rename", "check", "put", "withdraw", "same",
+const NAMES: [&str; 8] = [
+    "find", "words", "rename", "check", "put", "withdraw", "same", "weigh",
 ];
 
 impl fmt::Display for Tally {
