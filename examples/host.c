@@ -1,5 +1,5 @@
-/* Answers a job, or a derivation, by one of the five entries that print an answer, from C.
- * host ENTRY FILE: ENTRY is find, words, rename or same, which take a job, or check, which takes a derivation;
+/* Answers a job, or a derivation, by one of the six entries that print an answer, from C.
+ * host ENTRY FILE: ENTRY is find, words, rename, same or weigh, which take a job, or check, which takes a derivation;
  * the FILE `-` is standard input.
  * Prints the answer, or `answer=refused` and `number=N`. Status 1: the answer could not be written;
  * 2: wrong arguments, or the text could not be read. */
@@ -12,14 +12,14 @@
 
 /* One byte more than any text may have is read, so that a longer one is seen to be too long. */
 enum { TEXT = PUVAINY_MOST_DERIVATION + 1, SLOTS = 400, ROOM = 32768 };
-enum entry { FIND, WORDS, RENAME, CHECK, SAME, NONE };
+enum entry { FIND, WORDS, RENAME, CHECK, SAME, WEIGH, NONE };
 
 static uint8_t text[TEXT], output[ROOM];
 static uint32_t workspace[SLOTS * PUVAINY_SLOT];
 
 static enum entry named(const char *word)
 {
-    static const char *const names[] = {"find", "words", "rename", "check", "same"};
+    static const char *const names[] = {"find", "words", "rename", "check", "same", "weigh"};
     int entry = FIND;
     while (entry < NONE && strcmp(word, names[entry]))
         entry++;
@@ -36,7 +36,9 @@ static size_t answer(enum entry entry, size_t length)
         return puvainy_rename(text, length, output, ROOM);
     if (entry == CHECK)
         return puvainy_check(text, length, output, ROOM);
-    return puvainy_same(text, length, output, ROOM);
+    if (entry == SAME)
+        return puvainy_same(text, length, output, ROOM);
+    return puvainy_weigh(text, length, output, ROOM, workspace, SLOTS * PUVAINY_SLOT);
 }
 
 static int cannot(const char *verb, const char *what, int status)
@@ -49,7 +51,7 @@ int main(int count, char **words)
 {
     enum entry entry = count == 3 ? named(words[1]) : NONE;
     if (entry == NONE) {
-        fprintf(stderr, "usage: host find|words|rename|check|same FILE (- is standard input)\n");
+        fprintf(stderr, "usage: host find|words|rename|check|same|weigh FILE (- is standard input)\n");
         return 2;
     }
     FILE *file = strcmp(words[2], "-") ? fopen(words[2], "rb") : stdin;

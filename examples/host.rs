@@ -1,5 +1,5 @@
-//! Answers a job, or a derivation, by one of the five entries that print an answer, from Rust.
-//! host ENTRY FILE: ENTRY is find, words, rename or same, which take a job, or check, which takes a derivation;
+//! Answers a job, or a derivation, by one of the six entries that print an answer, from Rust.
+//! host ENTRY FILE: ENTRY is find, words, rename, same or weigh, which take a job, or check, which takes a derivation;
 //! the FILE `-` is standard input.
 //! Prints the answer, or `answer=refused` and `number=N`. Status 1: the answer could not be written;
 //! 2: wrong arguments, or the text could not be read.
@@ -46,7 +46,7 @@ fn main() -> ExitCode {
     let words: Vec<_> = std::env::args_os().skip(1).collect();
     let named = |word: &OsStr| Entry::named(word.to_str()?);
     let ([_, name], Some(entry)) = (&words[..], words.first().and_then(|word| named(word))) else {
-        let usage = "usage: host find|words|rename|check|same FILE (- is standard input)";
+        let usage = "usage: host find|words|rename|check|same|weigh FILE (- is standard input)";
         return failed(2, usage);
     };
     let text = match read(name) {

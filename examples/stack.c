@@ -1,4 +1,4 @@
-/* Holds the seven entries to the stack that puvainy.h grants them, and measures what they take.
+/* Holds the eight entries to the stack that puvainy.h grants them, and measures what they take.
  *
  * Standard input has calls as `oracle generate` writes them: a line `entry slots room length`, then the
  * bytes of the text; examples/deep.calls has those that go deepest. Entries 5 and 6, PUT and WITHDRAW, change
@@ -23,15 +23,15 @@
 #include "puvainy.h"
 
 /* The guard is larger than any frame, so that no frame reaches past it. */
-enum { PAINT = 0xa5, ENTRIES = 7, GUARD = 1 << 20, MOST = 1 << 19 };
+enum { PAINT = 0xa5, ENTRIES = 8, GUARD = 1 << 20, MOST = 1 << 19 };
 
 /* A thread's first frame may be aligned to so many bytes, a call's to so few. */
 enum { COARSE = 256, FINE = 16 };
 
-static const char *const names[ENTRIES] = {"find", "words", "rename", "check", "put", "withdraw", "same"};
+static const char *const names[ENTRIES] = {"find", "words", "rename", "check", "put", "withdraw", "same", "weigh"};
 static const size_t granted[ENTRIES] = {PUVAINY_FIND_STACK,  PUVAINY_WORDS_STACK, PUVAINY_RENAME_STACK,
                                         PUVAINY_CHECK_STACK, PUVAINY_PUT_STACK,   PUVAINY_WITHDRAW_STACK,
-                                        PUVAINY_SAME_STACK};
+                                        PUVAINY_SAME_STACK,  PUVAINY_WEIGH_STACK};
 
 struct call {
     size_t entry, slots, room, length;
@@ -99,6 +99,8 @@ static void *run(void *given)
         c->number = puvainy_withdraw(c->text, c->length, catalogue, PUVAINY_CATALOGUE);
     if (c->entry == 7)
         c->number = puvainy_same(c->text, c->length, c->output, c->room);
+    if (c->entry == 8)
+        c->number = puvainy_weigh(c->text, c->length, c->output, c->room, c->workspace, numbers);
     return NULL;
 }
 

@@ -1,4 +1,4 @@
-/* Puvainy's seven entries. The library is target/staticlib/libpuvainy.a, written by
+/* Puvainy's eight entries. The library is target/staticlib/libpuvainy.a, written by
  * `.ci/archive`.
  *
  * Each entry is proved for every text and for buffers of any length and contents. It keeps no pointer
@@ -30,6 +30,19 @@
  * with as many slots. Where that job would be refused by 7, the block is the two lines `answer=refused` and
  * `number=7`; the call still answers. A block begins with its line `answer=..`, and no other line begins so.
  *
+ * A job of puvainy_weigh is seven lines likewise, at most 1,024 bytes in all:
+ *
+ *     left=TERM
+ *     right=TERM
+ *     cost=NUMBER    at most 99
+ *     size=NUMBER    at most 31
+ *     depth=NUMBER   at most 15
+ *     nodes=NUMBER   at most 4096
+ *     weights=NUMBER NUMBER ..   ten of them, each 1 to 9, parted by one space
+ *
+ * The weights are those of the laws, in the order in which LAW lists them below. A line weighs what its law weighs. The
+ * smaller side is taken as left, whichever it is.
+ *
  * The text of puvainy_check is a derivation: three kinds of line in the form that puvainy_find prints, in
  * this order, each ended by byte 10, nothing after; at most 8,192 bytes in all:
  *
@@ -47,7 +60,8 @@
  * its place of the term that it leads on from, with the stated result. zero_mul and mul_zero forward may bring
  * in any term. Left and right are taken as written, in either order, and may be the same term; no limit of a
  * job plays a part, nor whether a shorter derivation exists. The left, right and step lines of every block of
- * puvainy_find that says `answer=proved` are such a text, and it is good.
+ * puvainy_find that says `answer=proved` are such a text, and it is good; so are those of such an answer of
+ * puvainy_weigh, if they have at most 8,192 bytes.
  *
  * A catalogue holds up to 64 equations, each under a number of its own from 1 to 999, and the count of the
  * kinds that they are. It is a buffer of exactly 346,113 numbers (PUVAINY_CATALOGUE); one that is all zeros is
@@ -69,6 +83,7 @@
  *     99  the catalogue has not 346,113 numbers
  *     1   the text has too many bytes, or lines, keys or a limit's digits are malformed; such is a
  *         second `right=` line in all but puvainy_find, and one behind steps there.
+ *         In puvainy_weigh also any other number of weights than ten.
  *         In puvainy_check all that is not as above and stands in no TERM: such is an unknown law.
  *         In puvainy_put and puvainy_withdraw also a number that is not 1 to 999, and a key that
  *         is neither raw nor words
@@ -79,6 +94,7 @@
  *         right and all results. c letters are not counted: two sides may have up to 32 different
  *         letters
  *     5   a limit is over its bound
+ *     16  the cost is over 99, or a weight is 0 or over 9
  *     6   a right side is the same term as left
  *     10  there are several right sides, and one comes before left in the order of terms
  *     11  there is no step line
@@ -98,6 +114,7 @@
  *     puvainy_put                    99, 1 to 6, 13, 15
  *     puvainy_withdraw               99, 1, 14
  *     puvainy_same                   1 to 6, 8
+ *     puvainy_weigh                  1 to 5, 16, 6, 7, 8
  *
  * The order of terms: v letters by number, then c letters by number, then 0, 1, sums, products; two sums or
  * two products by their left parts, then by their right parts.
@@ -111,13 +128,15 @@
  *
  *                An answer has up to sixteen blocks, each of some 0.5 MB at the very most (an estimate).
  *                The longest stored one, that to call 4 of examples/deep.calls, has 1,594,509 bytes in
- *                sixteen blocks. After 8 call again with more room or with fewer right sides.
+ *                sixteen blocks. After 8 call again with more room or with fewer right sides. One of
+ *                puvainy_weigh, with up to 99 lines, has some 3 MB at the very most (an estimate); the
+ *                longest stored one, of 62 lines, has 147,487 bytes.
  *
- *     workspace  1 to 6, 9 and 10 leave it untouched. After any other return its contents are free,
+ *     workspace  1 to 6, 9, 10 and 16 leave it untouched. After any other return its contents are free,
  *                and no later answer depends on them: it need not be cleared.
  *
  *                A memory checker such as valgrind reports reads of a workspace that was never
- *                written. They are harmless: FIND reads the heads of its index before it has
+ *                written. They are harmless: a search reads the heads of its index before it has
  *                written them, and a head counts only if it leads below the number of noted terms to
  *                one of its own bucket (crates/search/src/slots.rt), so no answer depends on what was
  *                there. A workspace that is cleared once keeps the checker quiet.
@@ -142,11 +161,13 @@
  * `wright`: vN is N + 1, cN is 1001 + N, and 0 stands behind each word; both are empty where the words agree.
  *
  * Stack: at most 120,000 bytes for puvainy_find, 100,000 for puvainy_words, 190,000 for puvainy_rename,
- * 40,000 for puvainy_check, 190,000 for puvainy_put, 20,000 for puvainy_withdraw and 90,000 for puvainy_same
- * on x86-64 (the macros below). That is more than the frames of the deepest calls take together, with a path of
- * 16 lines and terms 15 deep. puvainy_check takes 35,032 bytes, for one line as for a text of 8,182 bytes, and
- * some 2,200 more where the names of memcpy and memset are bound in that call. The gate makes the calls of
- * examples/deep.calls on stacks of just these figures (examples/stack.c). A thread with 256 KiB has enough.
+ * 40,000 for puvainy_check, 190,000 for puvainy_put, 20,000 for puvainy_withdraw, 90,000 for puvainy_same and
+ * 48,000 for puvainy_weigh on x86-64 (the macros below). That is more than the frames of the deepest calls take
+ * together, with a path of 16 lines, of puvainy_weigh 99, and terms 15 deep. puvainy_check takes 35,032 bytes, for
+ * one line as for a text of 8,182 bytes. puvainy_weigh takes 176 bytes for each line of its path: 31,520 in all for
+ * 62 lines, the longest stored, so 39,824 for 99 of which the first is 15 deep. Either takes some 2,200 more where the
+ * names of memcpy and memset are bound in that call. The gate makes the calls of examples/deep.calls on stacks of just
+ * these figures (examples/stack.c). A thread with 256 KiB has enough.
  */
 #ifndef PUVAINY_H
 #define PUVAINY_H
@@ -191,6 +212,7 @@ extern "C" {
 #define PUVAINY_PUT_STACK 190000
 #define PUVAINY_WITHDRAW_STACK 20000
 #define PUVAINY_SAME_STACK 90000
+#define PUVAINY_WEIGH_STACK 48000
 
 /* A shortest chain of lines from the smaller side to the larger, with its proof text, or that there
  * is none within the limits; of several right sides this for each. A none ends with the line `cut=yes`
@@ -238,6 +260,20 @@ size_t puvainy_withdraw(const uint8_t *text, size_t text_len,
  * the lists are compared up to the first word at which they differ. */
 size_t puvainy_same(const uint8_t *job, size_t job_len,
                     uint8_t *output, size_t output_len);
+
+/* A lightest chain of lines from the smaller side to the larger, with its proof text, or that there is none within the
+ * cost and the limits. Of all chains of the lines that puvainy_find searches, within size and depth, none weighs less;
+ * there may be one with fewer lines. No law is tried on the whole equation before the search.
+ *
+ * A proved answer has the lines `answer=proved`, `left=`, `right=`, `steps=`, how many lines the chain has, at most 99,
+ * `total=`, what they weigh together, `expanded=`, how many terms were opened, `uses=`, one `step=` for each line, and
+ * `proof=`: those of puvainy_find, and total behind steps. A none has `answer=none`, `left=`, `right=`, `expanded=` and
+ * `cut=`. It ends with `cut=yes` where nodes ran out with a term still to open: nothing is settled, and more nodes lead
+ * on. It ends with `cut=no` where every term that cost, size and depth allow was opened: each such chain weighs more
+ * than cost. A larger cost and more nodes find none lighter than one that is proved, and may need more slots. */
+size_t puvainy_weigh(const uint8_t *job, size_t job_len,
+                     uint8_t *output, size_t output_len,
+                     uint32_t *workspace, size_t workspace_len);
 
 #ifdef __cplusplus
 }
