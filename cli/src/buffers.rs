@@ -74,8 +74,12 @@ mod tests {
     const DERIVATION: &[u8] = include_bytes!("../../docs/guide/archive.derivation");
     const GOOD: &[u8] = b"answer=good\n";
 
-    /// A search that notes more than 400 terms.
+    /// A job of WEIGH.
+    const WEIGHING: &[u8] = include_bytes!("../../docs/guide/no-returns.weighing");
+
+    /// Searches that note more than 400 terms, of FIND and of WEIGH.
     const WIDE: &[u8] = include_bytes!("../../docs/guide/refused-7.job");
+    const WIDE_WEIGHING: &[u8] = include_bytes!("../../docs/guide/by-stock-wide.weighing");
 
     /// A proof that is longer than the first output.
     const LONG: &[u8] = include_bytes!("../../docs/guide/refused-8.job");
@@ -102,6 +106,9 @@ mod tests {
         assert_eq!(ask(Entry::Same), same);
         assert_eq!(buffers.ask(Entry::Check, DERIVATION), Ok(GOOD));
         assert_eq!(buffers.ask(Entry::Check, job), Err(1));
+        let weigh = include_bytes!("../../docs/guide/no-returns.weigh");
+        assert_eq!(buffers.ask(Entry::Weigh, WEIGHING), Ok(&weigh[..]));
+        assert_eq!(buffers.ask(Entry::Weigh, job), Err(1));
     }
 
     #[test]
@@ -164,15 +171,25 @@ mod tests {
     #[test]
     fn few_slots_refuse_a_wide_search_by_7_and_more_answer_it() {
         let few = &mut Buffers::new(400, Room::Grows);
-        assert_eq!(few.ask(Entry::Find, WIDE), Err(7));
         let most = &mut Buffers::new(MOST_SLOTS, Room::Grows);
-        let answer = most.ask(Entry::Find, WIDE).unwrap();
-        assert!(answer.starts_with(b"answer=proved\n"));
+        for (entry, job) in [(Entry::Find, WIDE), (Entry::Weigh, WIDE_WEIGHING)] {
+            assert_eq!(few.ask(entry, job), Err(7));
+            let answer = most.ask(entry, job).unwrap();
+            assert!(answer.starts_with(b"answer=proved\n"));
+        }
     }
 
     #[test]
     fn the_same_buffers_answer_the_same_after_other_calls() {
-        let texts = [CASE_A, WIDE, LONG, DERIVATION, b"left=v0\n"];
+        let texts = [
+            CASE_A,
+            WIDE,
+            LONG,
+            DERIVATION,
+            WEIGHING,
+            WIDE_WEIGHING,
+            b"left=v0\n",
+        ];
         let calls = Entry::ALL.map(|entry| texts.map(|text| (entry, text)));
         let calls = calls.as_flattened();
         let fresh = calls.iter().map(|&(entry, job)| {
@@ -196,9 +213,14 @@ mod tests {
             let text = match entry {
                 Entry::Find | Entry::Words | Entry::Rename | Entry::Same => CASE_A,
                 Entry::Check => DERIVATION,
+                Entry::Weigh => WEIGHING,
+            };
+            let due = match entry {
+                Entry::Weigh => 7,
+                _ => TOO_LONG,
             };
             assert_eq!(none.ask(entry, b""), Err(1));
-            assert_eq!(none.ask(entry, text), Err(TOO_LONG));
+            assert_eq!(none.ask(entry, text), Err(due));
         }
         assert_eq!(none.ask(Entry::Find, WIDE), Err(7));
     }

@@ -30,6 +30,14 @@ unsafe extern "C" {
         catalogue_len: usize,
     ) -> usize;
     fn puvainy_same(job: *const u8, job_len: usize, output: *mut u8, output_len: usize) -> usize;
+    fn puvainy_weigh(
+        job: *const u8,
+        job_len: usize,
+        output: *mut u8,
+        output_len: usize,
+        workspace: *mut u32,
+        workspace_len: usize,
+    ) -> usize;
 }
 
 /// FIND: what the call returns, `ANSWER` plus the answer's length or the number of a refusal.
@@ -76,4 +84,12 @@ pub fn withdraw(text: &[u8], catalogue: &mut [u32]) -> usize {
 pub fn same(job: &[u8], output: &mut [u8]) -> usize {
     // SAFETY: pointers and lengths are those of two slices.
     unsafe { puvainy_same(job.as_ptr(), job.len(), output.as_mut_ptr(), output.len()) }
+}
+
+/// WEIGH, likewise, as of FIND.
+pub fn weigh(job: &[u8], output: &mut [u8], workspace: &mut [u32]) -> usize {
+    let (room, count) = (output.len(), workspace.len());
+    let (out, numbers) = (output.as_mut_ptr(), workspace.as_mut_ptr());
+    // SAFETY: pointers and lengths are those of three slices.
+    unsafe { puvainy_weigh(job.as_ptr(), job.len(), out, room, numbers, count) }
 }

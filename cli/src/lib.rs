@@ -45,15 +45,17 @@ pub enum Entry {
     Rename,
     Check,
     Same,
+    Weigh,
 }
 
 impl Entry {
-    pub const ALL: [Entry; 5] = [
+    pub const ALL: [Entry; 6] = [
         Entry::Find,
         Entry::Words,
         Entry::Rename,
         Entry::Check,
         Entry::Same,
+        Entry::Weigh,
     ];
 
     pub fn name(self) -> &'static str {
@@ -63,6 +65,7 @@ impl Entry {
             Entry::Rename => "rename",
             Entry::Check => "check",
             Entry::Same => "same",
+            Entry::Weigh => "weigh",
         }
     }
 
@@ -74,7 +77,7 @@ impl Entry {
     pub fn most_job(self) -> usize {
         match self {
             Entry::Find => MOST_FIND_JOB,
-            Entry::Words | Entry::Rename | Entry::Same => MOST_JOB,
+            Entry::Words | Entry::Rename | Entry::Same | Entry::Weigh => MOST_JOB,
             Entry::Check => MOST_DERIVATION,
         }
     }
@@ -83,11 +86,16 @@ impl Entry {
     pub fn most_rights(self) -> usize {
         match self {
             Entry::Find => MOST_RIGHTS,
-            Entry::Words | Entry::Rename | Entry::Check | Entry::Same => 1,
+            _ => 1,
         }
     }
 
-    /// Calls the entry over lent buffers: what it returns. FIND alone takes the workspace.
+    /// Whether it searches, and so takes the workspace.
+    pub fn searches(self) -> bool {
+        matches!(self, Entry::Find | Entry::Weigh)
+    }
+
+    /// Calls the entry over lent buffers: what it returns.
     pub fn call(self, job: &[u8], output: &mut [u8], workspace: &mut [u32]) -> usize {
         match self {
             Entry::Find => entries::find(job, output, workspace),
@@ -95,6 +103,7 @@ impl Entry {
             Entry::Rename => entries::rename(job, output),
             Entry::Check => entries::check(job, output),
             Entry::Same => entries::same(job, output),
+            Entry::Weigh => entries::weigh(job, output, workspace),
         }
     }
 }

@@ -14,8 +14,8 @@ use crate::term::Term;
 struct Advice {
     last: &'static str,
     why: &'static str,
-    /// The limits to raise.
-    raise: &'static [&'static str],
+    /// The limits to raise, by their places in a job.
+    raise: &'static [usize],
     /// Whether size and depth are to be narrowed where none of those can be raised: a smaller search may end within the nodes.
     narrows: bool,
 }
@@ -24,13 +24,13 @@ const ADVICE: [Advice; 2] = [
     Advice {
         last: "cut=no",
         why: "nothing was left to open",
-        raise: &["steps", "size", "depth"],
+        raise: &[0, 1, 2],
         narrows: false,
     },
     Advice {
         last: "cut=yes",
         why: "`nodes` ran out with a term still to open",
-        raise: &["nodes"],
+        raise: &[3],
         narrows: true,
     },
 ];
@@ -117,13 +117,15 @@ impl Advice {
     /// What to do: those of the limits that are below their bounds can be raised, for all right sides. WORDS takes one of them, and limits
     /// that are narrowed for one might be too narrow for another.
     fn to_do(&self, job: &Job, rights: &[usize]) -> String {
-        let alone = match job.has_several() {
-            true => ", one right side to a job,",
-            false => "",
+        let how = match (job.has_several(), job.is_weighed()) {
+            (true, _) => ", one right side to a job,",
+            (_, true) => ", by a job with steps in place of cost and no weights,",
+            _ => "",
         };
-        let ask = format!("ask puvainy words{alone} whether the plans are equal at all");
-        let limits = job.limits().into_iter();
-        let low = limits.filter(|(key, limit, most)| self.raise.contains(key) && limit < most);
+        let ask = format!("ask puvainy words{how} whether the plans are equal at all");
+        let limits = job.limits();
+        let raise = self.raise.iter().filter_map(|&place| limits.get(place));
+        let low = raise.filter(|(_, limit, most)| limit < most);
         let low: Vec<_> = low.map(|(key, ..)| key).collect();
         if !low.is_empty() {
             return format!("raise {}, or {ask}", joined(&low, "or"));

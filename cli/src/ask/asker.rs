@@ -9,7 +9,7 @@ use super::{Asking, Told, advice, parting};
 use crate::derivation::Derivation;
 use crate::failure::{Failure, Status};
 use crate::job::Job;
-use crate::refusals::{self, DERIVATIONS, Fault, Found, JOBS};
+use crate::refusals::{self, DERIVATIONS, Fault, Found};
 use crate::streams::{MOST_TEXT, Source};
 
 /// One thread's asker, with buffers of its own.
@@ -21,9 +21,9 @@ pub struct Asker {
 impl Asker {
     /// An asker with the slots that the entry uses.
     pub fn new(asking: Arc<Asking>) -> Asker {
-        let slots = match asking.entry {
-            Entry::Find => asking.slots,
-            Entry::Words | Entry::Rename | Entry::Check | Entry::Same => 0,
+        let slots = match asking.entry.searches() {
+            true => asking.slots,
+            false => 0,
         };
         Asker {
             buffers: Buffers::new(slots, asking.room),
@@ -105,7 +105,8 @@ fn status(blocks: &[Block]) -> Status {
 fn refused(name: &str, number: usize, job: &Job, asking: &Asking) -> Vec<String> {
     let found = job.fault(number).or_else(|| lacking(number, job, asking));
     let at = at_fault(&found);
-    let told = refusals::sentence(&JOBS, number, found);
+    let rows = refusals::of_jobs(asking.entry);
+    let told = refusals::sentence(rows, number, found);
     let mut said = vec![format!("{name}: {told}")];
     for (key, side) in job.sides(|right| at.is_empty() || at.contains(&right)) {
         said.extend(asking.names.side(&key, side));

@@ -1,4 +1,4 @@
-//! The blocks of an answer of FIND: one for each right side of the job, in its order.
+//! The blocks of an answer of FIND, one for each right side of the job, in its order; one of WEIGH is a block.
 
 /// A block: its lines, of which the first says `answer=`.
 pub struct Block<'a>(Vec<&'a str>);

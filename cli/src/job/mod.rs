@@ -1,5 +1,7 @@
 //! Where a refused job is at fault. That it is refused, and by which number, is for the entry alone to say; this finds the line for people.
 
+mod weights;
+
 use std::collections::BTreeSet;
 
 use puvainy::{Entry, MOST_RIGHTS};
@@ -10,10 +12,12 @@ use crate::side;
 use crate::term::{MOST_V_LETTERS, is_v_letter, ranks};
 use crate::whole::{self, in_ends, in_whole, is_number};
 
-/// The lines behind the sides, in order: the limits with their bounds.
+/// The lines behind the sides, in order: the limits with their bounds, of which WEIGH's first is the cost.
 const LIMITS: [(&str, usize); 4] = [("steps", 16), ("size", 31), ("depth", 15), ("nodes", 4096)];
+const COST: (&str, usize) = ("cost", 99);
 
-/// A job's text for an entry, cut after each line feed. Line 0 is left's, line K that of right side K, and the limits follow.
+/// A job's text for an entry, cut after each line feed. Line 0 is left's, line K that of right side K, the limits follow, and with WEIGH
+/// the weights.
 pub struct Job<'a> {
     entry: Entry,
     bytes: &'a [u8],
@@ -52,6 +56,11 @@ impl<'a> Job<'a> {
         self.rights > 1
     }
 
+    /// Whether it is one of WEIGH, which has weights.
+    pub fn is_weighed(&self) -> bool {
+        self.entry == Entry::Weigh
+    }
+
     /// The one fault with one right side, the other with several.
     pub fn one_or_several(&self, one: Fault, several: Fault) -> Fault {
         if self.has_several() { several } else { one }
@@ -82,15 +91,26 @@ impl<'a> Job<'a> {
 
     /// The lines of the limits.
     fn limit_lines(&self) -> impl Iterator<Item = (usize, (&'static str, usize))> {
-        (1 + self.rights..).zip(LIMITS)
+        let mut limits = LIMITS;
+        if self.is_weighed() {
+            limits[0] = COST;
+        }
+        (1 + self.rights..).zip(limits)
+    }
+
+    /// How many lines it has to have.
+    fn count(&self) -> usize {
+        1 + self.rights + LIMITS.len() + usize::from(self.is_weighed())
     }
 
     /// The key that a line of a job has.
     fn key(&self, line: usize) -> &'static str {
-        match line.checked_sub(1 + self.rights) {
-            Some(limit) => LIMITS[limit].0,
+        let mut limits = self.limit_lines();
+        match limits.find(|(limit, _)| *limit == line) {
+            Some((_, (key, _))) => key,
             None if line == 0 => "left",
-            None => "right",
+            None if line <= self.rights => "right",
+            None => weights::KEY,
         }
     }
 
@@ -114,10 +134,11 @@ impl<'a> Job<'a> {
             2 => self.in_sides(side::in_term),
             3 => self.in_size(),
             4 => self.in_letters(),
-            5 => self.in_bounds(),
+            5 => self.in_bounds(Fault::Bound),
             6 => self.in_same(),
             9 => self.in_count(),
             10 => self.in_order(),
+            16 => self.in_bounds(Fault::Cost).or_else(|| self.in_weights()),
             _ => None,
         }
     }
@@ -127,22 +148,32 @@ impl<'a> Job<'a> {
         in_whole(self.bytes, self.entry.most_job()).or_else(|| in_ends(&self.lines))
     }
 
-    /// A line that is missing, is another one, lacks its end or holds no number; or a line too many.
+    /// A line that is missing, is another one, lacks its end or holds no number or weights; or a line too many.
     pub fn in_lines(&self) -> Option<Found> {
-        let count = 1 + self.rights + LIMITS.len();
+        let count = self.count();
         for line in 0..count {
             let fault = match (self.lines.get(line), self.value(line)) {
-                (None, _) => Fault::Missing,
+                (None, _) => Some(Fault::Missing),
                 (Some(text), None) => return Some(self.in_key(line, text)),
-                (Some(text), _) if !text.ends_with(b"\n") => Fault::End,
-                (_, Some(digits)) if line > self.rights && !is_number(digits) => Fault::Digits,
-                _ => continue,
+                (Some(text), _) if !text.ends_with(b"\n") => Some(Fault::End),
+                (_, Some(value)) => self.in_numbers(line, value),
             };
-            return Some(self.in_line(fault, line));
+            if let Some(fault) = fault {
+                return Some(self.in_line(fault, line));
+            }
         }
         let more = self.lines.get(count)?;
         let stray = self.in_stray(count, more);
         Some(stray.unwrap_or(self.at(Fault::More, count)))
+    }
+
+    /// What stands behind the key of a limit, or of the weights, and is not so written.
+    fn in_numbers(&self, line: usize, value: &[u8]) -> Option<Fault> {
+        match self.key(line) {
+            "left" | "right" => None,
+            weights::KEY => (!weights::are_numbers(value)).then_some(Fault::Weights),
+            _ => (!is_number(value)).then_some(Fault::Digits),
+        }
     }
 
     /// A line with another key than is due. Behind the right sides of FIND one more could stand.
@@ -203,13 +234,22 @@ impl<'a> Job<'a> {
         Some(found)
     }
 
-    fn in_bounds(&self) -> Option<Found> {
-        self.limit_lines().find_map(|(line, (_, most))| {
-            let digits = str::from_utf8(self.value(line)?).ok()?;
-            // More digits than a number of the machine holds are over any bound.
-            let is_over = digits.parse().map_or(true, |limit: usize| limit > most);
-            is_over.then(|| self.in_line(Fault::Bound, line))
+    /// The first limit over its bound. Of WEIGH's limits the cost is looked at by itself.
+    fn in_bounds(&self, fault: Fault) -> Option<Found> {
+        self.limit_lines().find_map(|(line, (key, most))| {
+            let is_looked_at = (key == COST.0) == (fault == Fault::Cost);
+            let is_over = is_looked_at && value_of(self.value(line)?) > most;
+            is_over.then(|| self.in_line(fault, line))
         })
+    }
+
+    /// The first law whose weight is none.
+    fn in_weights(&self) -> Option<Found> {
+        let line = self.count() - 1;
+        let given = weights::in_range(self.value(line)?)?;
+        let mut found = self.in_line(Fault::Weight, line);
+        found.place += &format!(", {given}");
+        Some(found)
     }
 
     /// The right sides that are left's term. A term has one text.
@@ -259,6 +299,13 @@ impl<'a> Job<'a> {
     fn number(&self, line: usize) -> usize {
         self.before + line + 1
     }
+}
+
+/// The number of these digits. More of them than a number of the machine holds are over any bound.
+fn value_of(digits: &[u8]) -> usize {
+    let digits = str::from_utf8(digits).ok();
+    let number = digits.and_then(|digits| digits.parse().ok());
+    number.unwrap_or(usize::MAX)
 }
 
 /// How many different v letters both sides have together.

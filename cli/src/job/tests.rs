@@ -3,9 +3,11 @@
 use puvainy::{Buffers, Room};
 
 use super::*;
-use crate::refusals::JOBS as ROWS;
+use crate::refusals::of_jobs;
 
-/// The entries that take a job.
+mod weighings;
+
+/// The entries that take a job without weights.
 const ENTRIES: [Entry; 4] = [Entry::Find, Entry::Words, Entry::Rename, Entry::Same];
 
 /// A job that each of them accepts, and others that a small damage makes one of too many v letters, of equal sides, or over a bound.
@@ -139,7 +141,7 @@ fn fault(entry: Entry, job: &str) -> Found {
     let mut buffers = Buffers::new(0, Room::Grows);
     let number = buffers.ask(entry, job.as_bytes()).unwrap_err();
     let found = Job::new(entry, job.as_bytes()).fault(number).unwrap();
-    let row = ROWS.iter().find(|row| row.fault == found.fault);
+    let row = of_jobs(entry).find(|row| row.fault == found.fault);
     assert_eq!(row.unwrap().number, number, "{job}");
     found
 }
@@ -301,10 +303,10 @@ fn damage(job: &mut Vec<u8>, draw: u64) {
 
 /// Damages the jobs and holds the fault that is found to the number that the entry gives; how often each was given. Slots and room are
 /// no matter of the text.
-fn hold(entry: Entry, jobs: &[String], rounds: usize) -> [usize; 11] {
+fn hold(entry: Entry, jobs: &[String], rounds: usize) -> [usize; 17] {
     let mut buffers = Buffers::new(0, Room::Bytes(0));
     let mut draw: u64 = 1;
-    let mut counts = [0; 11];
+    let mut counts = [0; 17];
     for round in 0..rounds {
         let mut job = jobs[round % jobs.len()].as_bytes().to_vec();
         for _ in 0..1 + draw % 3 {
@@ -319,7 +321,7 @@ fn hold(entry: Entry, jobs: &[String], rounds: usize) -> [usize; 11] {
         };
         counts[number] += 1;
         let found = Job::new(entry, &job).fault(number).map(|found| found.fault);
-        let row = ROWS.iter().find(|row| Some(row.fault) == found);
+        let row = of_jobs(entry).find(|row| Some(row.fault) == found);
         let text = String::from_utf8_lossy(&job);
         assert_eq!(row.map_or(0, |row| row.number), number, "{text}");
     }

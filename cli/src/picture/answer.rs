@@ -1,4 +1,4 @@
-//! An answer of FIND, or the text of a derivation, read for what its picture shows of each block, or what keeps it from being drawn.
+//! An answer of FIND or WEIGH, or the text of a derivation, read for what its picture shows of each block, or what keeps it from being drawn.
 
 use puvainy::MOST_RIGHTS;
 
@@ -6,11 +6,12 @@ use super::derivation::{Derivation, quoted};
 use crate::names::text_of;
 use crate::term::Term;
 
-/// The most lines of a derivation in an answer.
+/// The most lines of a derivation in an answer of FIND, and in one of WEIGH, which has a line `total`.
 const MOST_LINES: usize = 16;
+const MOST_WEIGHED: usize = 99;
 
-/// What to do about an answer that is not as FIND prints it.
-const WHOLE: &str = "draw the whole answer as FIND printed it";
+/// What to do about an answer that is not as FIND or WEIGH prints it.
+const WHOLE: &str = "draw the whole answer as FIND or WEIGH printed it";
 
 /// What to do about the text of a derivation that is not as CHECK takes it.
 const CHECKED: &str = "ask puvainy check what is wrong";
@@ -82,6 +83,7 @@ struct Found<'a> {
     left: Option<At<'a>>,
     right: Option<At<'a>>,
     steps: Option<At<'a>>,
+    total: Option<At<'a>>,
     number: Option<At<'a>>,
     lines: Vec<At<'a>>,
 }
@@ -129,6 +131,7 @@ impl<'a> Found<'a> {
             "left" => &mut self.left,
             "right" => &mut self.right,
             "steps" => &mut self.steps,
+            "total" => &mut self.total,
             "number" => &mut self.number,
             "step" => return self.add_step(number, value),
             _ => return Ok(()),
@@ -140,8 +143,12 @@ impl<'a> Found<'a> {
     }
 
     fn add_step(&mut self, number: usize, value: &'a str) -> Result<(), String> {
-        if self.answer.is_some() && self.lines.len() == MOST_LINES {
-            let most = format!("a derivation has at most {MOST_LINES} lines");
+        let most = match self.total {
+            Some(_) => MOST_WEIGHED,
+            None => MOST_LINES,
+        };
+        if self.answer.is_some() && self.lines.len() == most {
+            let most = format!("a derivation has at most {most} lines");
             return Err(format!("{most}, and this is one more; {WHOLE}"));
         }
         self.lines.push((number, value));
@@ -190,7 +197,7 @@ impl<'a> Found<'a> {
 
     /// Whether it is the text of a derivation: step lines, and no line that tells of an answer.
     fn is_text(&self) -> bool {
-        let told = [self.answer, self.steps, self.number];
+        let told = [self.answer, self.steps, self.total, self.number];
         told.iter().all(Option::is_none) && !self.lines.is_empty()
     }
 

@@ -1,12 +1,17 @@
-//! What is said of a refusal: a table for jobs, one for derivations and one for puts and withdrawals, which the guide shows too.
+//! What is said of a refusal: a table for jobs, and beside it one for jobs of WEIGH, one for derivations and one for puts and withdrawals.
+//! The guide shows them too.
 
 mod changes;
 mod derivations;
 mod jobs;
+mod weighings;
+
+use puvainy::Entry;
 
 pub use changes::CHANGES;
 pub use derivations::DERIVATIONS;
 pub use jobs::JOBS;
+use weighings::WEIGHINGS;
 
 /// What is wrong with a refused text.
 #[derive(Clone, Copy, Debug, Eq, PartialEq)]
@@ -21,6 +26,7 @@ pub enum Fault {
     End,
     More,
     Digits,
+    Weights,
     Rights,
     Return,
     Empty,
@@ -33,6 +39,8 @@ pub enum Fault {
     Letters,
     LettersRight,
     Bound,
+    Cost,
+    Weight,
     Same,
     SameRight,
     Before,
@@ -122,6 +130,15 @@ const LEFT: Row = row(
     "put each sign before its two parts",
 );
 
+/// The rows for a job of that entry.
+pub fn of_jobs(entry: Entry) -> impl Iterator<Item = &'static Row> {
+    let own = match entry {
+        Entry::Weigh => &WEIGHINGS[..],
+        _ => &[],
+    };
+    own.iter().chain(&JOBS)
+}
+
 /// What is wrong, where, what to do, by the first row that fits: a sentence without its full stop. Where the fault is not found, the
 /// number's first row is told.
 pub fn sentence<'a>(
@@ -149,6 +166,7 @@ mod tests {
         let guide = include_str!("../../../docs/guide.md");
         for (title, rows) in [
             ("Refusals\n", &JOBS[..]),
+            ("A refused weighing\n", &WEIGHINGS),
             ("A refused derivation\n", &DERIVATIONS),
             ("A refused put or withdrawal\n", &CHANGES),
         ] {

@@ -10,10 +10,10 @@ pub const CHECK: Word = Word {
     does: "whether a derivation, by hand or from another planner, leads from its left plan to its right",
     more: "\
 A derivation is read from each FILE, or from standard input if none is named (or by the FILE -): a line
-left=, a line right=, and lines step= as find prints them, nothing else. A good one gives the one line
-`answer=good` on standard output; of several FILEs each answer stands after a line `# FILE`, in the order
-given. What is wrong with a refused one, in which line, and what to do about it, is said on standard error.
-Of an answer that find gave, check these three kinds of line:
+left=, a line right=, and lines step= as find and weigh print them, nothing else. A good one gives the one
+line `answer=good` on standard output; of several FILEs each answer stands after a line `# FILE`, in the
+order given. What is wrong with a refused one, in which line, and what to do about it, is said on standard
+error. Of an answer that find or weigh gave, check these three kinds of line:
 
   grep -E '^(left|right|step)=' ANSWER | puvainy check
 

@@ -1,4 +1,4 @@
-//! The words that put jobs to an entry: find, words, rename, same.
+//! The words that put jobs to an entry: find, words, rename, same, weigh.
 
 use std::ffi::OsString;
 
@@ -35,6 +35,13 @@ pub const SAME: Word = word(
     |words| run(&SAME, Entry::Same, words),
 );
 
+pub const WEIGH: Word = word(
+    "weigh",
+    "a lightest derivation from the smaller plan to the larger, by a weight for each law, or that there is none \
+     within the cost and the limits",
+    |words| run(&WEIGH, Entry::Weigh, words),
+);
+
 /// A word that asks an entry.
 const fn word(name: &'static str, does: &'static str, run: Run) -> Word {
     Word {
@@ -53,10 +60,11 @@ A job is read from each FILE, or from standard input if none is named (or by the
 to standard output; of several FILEs each after a line `# FILE`, in the order given. What is wrong with a
 refused job, and what to do about it and about a none, is said on standard error; so is, by words and with
 names, the word at which the lists part. A job of find has 1 to 16 lines right=, one behind the other, and
-gets a block of the answer for each; one of words, rename or same has one such line. A none and a no are
-answers: go by the lines printed, not by the exit status.
+gets a block of the answer for each; one of words, rename, same or weigh has one such line. A job of weigh has
+a line cost= in place of steps=, and a last line weights= with a number 1 to 9 for each of the ten laws. A none
+and a no are answers: go by the lines printed, not by the exit status.
 
-  --slots N     slots for the terms that are noted, 0 to 65535 (65535 unless said); only find uses them
+  --slots N     slots for the terms that are noted, 0 to 65535 (65535 unless said); find and weigh use them
   --room N      bytes of room for an answer, 0 to 33554432 (as many as it needs unless said)
   --names FILE  lines `v0 Orders` or `c0 Prices`: the names are used where people read, on standard error
   --            what follows is a FILE, even if it begins with -

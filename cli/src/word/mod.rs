@@ -25,7 +25,7 @@ pub struct Word {
 /// Does what the words behind its name ask.
 type Run = fn(Vec<OsString>) -> Result<Status, Failure>;
 
-pub const WORDS: [&Word; 8] = [
+pub const WORDS: [&Word; 9] = [
     &jobs::FIND,
     &jobs::WORDS,
     &jobs::RENAME,
@@ -33,6 +33,7 @@ pub const WORDS: [&Word; 8] = [
     &changes::PUT,
     &changes::WITHDRAW,
     &jobs::SAME,
+    &jobs::WEIGH,
     &draw::DRAW,
 ];
 

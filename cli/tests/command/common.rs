@@ -1,5 +1,6 @@
 //! Calls of the built command.
 
+use std::fmt::Display;
 use std::io::Write;
 use std::path::{Path, PathBuf};
 use std::process::{Command, Output, Stdio};
@@ -22,6 +23,31 @@ pub fn stored(name: &str) -> String {
 pub fn value<'a>(text: &'a str, key: &str) -> Option<&'a str> {
     let mut lines = text.lines().filter_map(|line| line.split_once('='));
     lines.find_map(|(name, value)| (name == key).then_some(value))
+}
+
+/// The number in the line with that key.
+pub fn number(text: &str, key: &str) -> usize {
+    value(text, key).unwrap().parse().unwrap()
+}
+
+/// The job with something else behind that key.
+pub fn with(job: &str, key: &str, other: impl Display) -> String {
+    let line = |line: &str| match line.split_once('=') {
+        Some((name, _)) if name == key => format!("{key}={other}\n"),
+        _ => format!("{line}\n"),
+    };
+    job.lines().map(line).collect()
+}
+
+/// A job of FIND as one of WEIGH, with as much cost as steps and a weight of 1 for each law.
+pub fn even(job: &str) -> String {
+    job.replacen("steps=", "cost=", 1) + "weights=1 1 1 1 1 1 1 1 1 1\n"
+}
+
+/// The lines of an answer that tell of its derivation.
+pub fn steps(answer: &str) -> String {
+    let lines = answer.lines().filter(|line| line.starts_with("step="));
+    lines.map(|line| format!("{line}\n")).collect()
 }
 
 /// The two sides that a text has in the lines of these keys.

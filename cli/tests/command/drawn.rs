@@ -39,6 +39,22 @@ fn a_derivation_as_check_takes_it_is_drawn() {
 }
 
 #[test]
+fn an_answer_of_weigh_is_drawn_as_its_derivation() {
+    let [answer, derivation] =
+        ["weigh", "derivation"].map(|ending| puvainy(&["draw", &format!("by-stock.{ending}")]));
+    assert_eq!((answer.status, answer.said.as_str()), (Some(0), ""));
+    assert!(
+        answer
+            .printed
+            .contains(">by-stock: a derivation of 7 lines, page 1 of ")
+    );
+    assert_eq!(answer.printed, derivation.printed);
+    let none = "by-stock-cost.weigh: line 1: the answer is a none: there is no derivation to draw; \
+                widen the job's limits and ask again";
+    refused(puvainy(&["draw", "by-stock-cost.weigh"]), none);
+}
+
+#[test]
 fn each_block_of_an_answer_has_its_page() {
     let all = puvainy(&["draw", "drafts.answer"]);
     assert_eq!((all.status, all.said.as_str()), (Some(0), ""));
@@ -110,8 +126,7 @@ fn what_holds_no_derivation_is_refused() {
     let refusal = "refused-6.answer: line 1: the answer is a refusal: there is no derivation to draw; \
                    mend the job and ask again";
     refused(puvainy(&["draw", "refused-6.answer"]), refusal);
-    let job =
-        "archive.job: there is no line answer=proved; draw the whole answer as FIND printed it";
+    let job = "archive.job: there is no line answer=proved; draw the whole answer as FIND or WEIGH printed it";
     refused(puvainy(&["draw", "archive.job"]), job);
     let found = puvainy(&["find", "--slots", "0", "joins-slots.job"]);
     let full = "standard input: none of the answer's 3 blocks is proved: there is no derivation to draw; \

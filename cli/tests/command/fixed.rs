@@ -1,6 +1,6 @@
 //! The guide's examples of letters for fixed tables.
 
-use crate::common::{Folder, drawn, guide_from, puvainy, puvainy_on, sides, stored, value};
+use crate::common::{Folder, drawn, even, guide_from, puvainy, puvainy_on, sides, stored, value};
 
 const KEYS: [&str; 2] = ["left", "right"];
 
@@ -108,6 +108,8 @@ fn c_letters_are_not_counted_and_the_proof_names_them() {
     );
     let tables = "(app (app (ref add) (ref x6)) (ref x7))";
     assert!(proof.contains(tables), "{proof}");
+    let weighed = puvainy_on(&["weigh"], even(&stored("eight-tables.job")).as_bytes());
+    assert_eq!(value(&weighed.printed, "proof"), Some(proof));
     let over = stored("eight-tables.job").replace("c0", "v6");
     let gave = puvainy_on(&["find"], over.as_bytes());
     assert_eq!(gave.printed, "answer=refused\nnumber=4\n");
@@ -168,6 +170,7 @@ fn what_is_no_c_letter_is_refused_by_2() {
             ("words", &job),
             ("rename", &job),
             ("same", &job),
+            ("weigh", &even(&job)),
             ("check", &derivation),
         ];
         for (word, text) in texts {

@@ -2,11 +2,13 @@
 
 mod changed;
 mod checked;
+mod chosen;
 mod common;
 mod drawn;
 mod fixed;
 mod jobs;
 mod kept;
+mod lightest;
 mod nones;
 mod onward;
 mod parted;
@@ -15,3 +17,4 @@ mod renamed;
 mod several;
 mod shared;
 mod status;
+mod weighed;

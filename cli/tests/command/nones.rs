@@ -2,20 +2,11 @@
 
 use puvainy::{Buffers, Entry, MOST_SLOTS, Room};
 
-use crate::common::{puvainy, puvainy_on, stored, value};
-
-/// The job with another limit.
-fn with(job: &str, key: &str, limit: usize) -> String {
-    let line = |line: &str| match line.split_once('=') {
-        Some((name, _)) if name == key => format!("{key}={limit}\n"),
-        _ => format!("{line}\n"),
-    };
-    job.lines().map(line).collect()
-}
+use crate::common::{number, puvainy, puvainy_on, stored, value, with};
 
 /// How many terms the answer says were opened.
 fn opened(answer: &str) -> usize {
-    value(answer, "expanded").unwrap().parse().unwrap()
+    number(answer, "expanded")
 }
 
 /// FIND's answer, or its refusal's number.
@@ -119,9 +110,9 @@ fn the_advice_leads_from_row_to_row_of_the_guides_table() {
             ["steps", "nodes"].map(|key| value(&job, key).unwrap())
         );
         if let Some((former, raised)) = before.take() {
-            let number = |job| value(job, &raised).unwrap().parse::<usize>().unwrap();
-            assert!(number(&job) > number(&former), "{row}");
-            assert_eq!(with(&former, &raised, number(&job)), job, "{row}");
+            let [limit, was] = [&job, &former].map(|job| number(job, &raised));
+            assert!(limit > was, "{row}");
+            assert_eq!(with(&former, &raised, limit), job, "{row}");
         }
         let gave = puvainy(&["find", name]);
         assert_eq!(gave.printed, stored(&name.replace(".job", ".answer")));

@@ -19,16 +19,17 @@ fn failed(gave: Gave, said: &str) {
 
 #[test]
 fn an_answer_is_0_from_a_file_and_from_standard_input() {
-    for (word, ending) in [
-        ("find", "answer"),
-        ("words", "words"),
-        ("rename", "rename"),
-        ("same", "same"),
+    for (word, file, answer) in [
+        ("find", "archive.job", "archive.answer"),
+        ("words", "archive.job", "archive.words"),
+        ("rename", "archive.job", "archive.rename"),
+        ("same", "archive.job", "archive.same"),
+        ("weigh", "by-stock.weighing", "by-stock.weigh"),
     ] {
-        let due = stored(&format!("archive.{ending}"));
-        let named = puvainy(&[word, "archive.job"]);
+        let due = stored(answer);
+        let named = puvainy(&[word, file]);
         assert_eq!((named.status, &named.printed), (Some(0), &due));
-        let job = stored("archive.job");
+        let job = stored(file);
         for words in [&[word][..], &[word, "-"]] {
             let read = puvainy_on(words, job.as_bytes());
             assert_eq!((read.status, &read.printed), (Some(0), &due));
@@ -91,10 +92,10 @@ fn what_cannot_be_read_is_2() {
 fn a_wrong_call_is_2() {
     failed(
         puvainy(&[]),
-        "what shall be done? Name one of find, words, rename, check, put, withdraw, same, draw, or --help",
+        "what shall be done? Name one of find, words, rename, check, put, withdraw, same, weigh, draw, or --help",
     );
     let words = "there is no command \"fnd\": \
-                 name one of find, words, rename, check, put, withdraw, same, draw, or --help";
+                 name one of find, words, rename, check, put, withdraw, same, weigh, draw, or --help";
     failed(puvainy(&["fnd", "archive.job"]), words);
     let option = "there is no option --slot here; --help shows those there are";
     failed(puvainy(&["find", "--slot", "4", "archive.job"]), option);
@@ -118,6 +119,7 @@ fn an_output_that_is_closed_full_or_unread_is_2() {
         "find archive.job",
         "words archive.job",
         "same archive.job",
+        "weigh by-stock.weighing",
         "check archive.derivation",
         "draw archive.answer",
         "--help",
@@ -179,7 +181,7 @@ fn help_and_version_are_0() {
     let whole = puvainy(&["--help"]);
     assert_eq!((whole.status, whole.said.as_str()), (Some(0), ""));
     for word in [
-        "find", "words", "rename", "check", "put", "withdraw", "same", "draw",
+        "find", "words", "rename", "check", "put", "withdraw", "same", "weigh", "draw",
     ] {
         let usage = match word {
             "put" | "withdraw" => format!("puvainy {word} --catalogue FILE ["),

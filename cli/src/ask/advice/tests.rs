@@ -3,14 +3,22 @@ use puvainy::{Entry, Room};
 use super::super::blocks::blocks;
 use super::*;
 
+/// One row for FIND and one for WEIGH, whose first limit is the cost.
 #[test]
 fn the_guide_shows_the_advice() {
     let guide = include_str!("../../../../docs/guide.md").to_lowercase();
     for advice in ADVICE {
         let begin = format!("| `{}` | {}", advice.last, advice.why);
-        let row = guide.lines().find(|line| line.starts_with(&begin)).unwrap();
-        let to_do = row.rsplit(" | ").next().unwrap().replace('`', "");
-        assert_eq!(to_do, format!("raise {} |", joined(advice.raise, "or")));
+        let rows = guide.lines().filter(|line| line.starts_with(&begin));
+        let shown = rows.map(|row| row.rsplit(" | ").next().unwrap().replace('`', ""));
+        let due = ["steps", "cost"].map(|first| {
+            let keys = advice
+                .raise
+                .iter()
+                .map(|&place| [first, "size", "depth", "nodes"][place]);
+            format!("raise {} |", joined(&keys.collect::<Vec<_>>(), "or"))
+        });
+        assert_eq!(shown.collect::<Vec<_>>(), due);
     }
 }
 

@@ -4,7 +4,7 @@ use super::super::draw;
 use super::{check_page, extent, proved, shapes, text_value, value, words};
 use crate::names::Names;
 
-const WHOLE: &str = "; draw the whole answer as FIND printed it";
+const WHOLE: &str = "; draw the whole answer as FIND or WEIGH printed it";
 
 fn drawn(answer: &str, names: &Names, page: Option<usize>) -> Result<String, String> {
     draw("many", answer.as_bytes(), names, page)

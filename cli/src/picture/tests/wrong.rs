@@ -4,7 +4,7 @@ use super::super::draw;
 use super::proved;
 use crate::names::Names;
 
-const WHOLE: &str = "; draw the whole answer as FIND printed it";
+const WHOLE: &str = "; draw the whole answer as FIND or WEIGH printed it";
 
 fn told(answer: &[u8]) -> String {
     draw("wrong", answer, &Names::default(), None).unwrap_err()
@@ -146,6 +146,22 @@ fn an_answer_that_is_not_whole_is_told() {
     let more = proved(&vec!["v0".to_owned(); 18], ".");
     let most = "a derivation has at most 16 lines, and this is one more";
     assert_eq!(told(more.as_bytes()), format!("line 23: {most}{WHOLE}"));
+}
+
+/// An answer of WEIGH has a line `total`, and up to 99 lines.
+#[test]
+fn a_derivation_of_weigh_may_be_longer() {
+    let weighed = |lines: usize| {
+        let answer = proved(&vec!["v0".to_owned(); lines + 1], ".");
+        answer.replacen("expanded=", "total=99\nexpanded=", 1)
+    };
+    let drawn = |lines| draw("long", weighed(lines).as_bytes(), &Names::default(), None);
+    assert!(drawn(99).unwrap().contains("a derivation of 99 lines"));
+    let most = "a derivation has at most 99 lines, and this is one more";
+    assert_eq!(drawn(100), Err(format!("line 107: {most}{WHOLE}")));
+    let twice = weighed(3).replacen("total=99\n", "total=9\ntotal=9\n", 1);
+    let second = format!("line 6: this is a second total{WHOLE}");
+    assert_eq!(told(twice.as_bytes()), second);
 }
 
 /// The text of a derivation, as CHECK takes it, is drawn as the answer with the same lines; what is wrong with it is for CHECK to say.
