@@ -8,7 +8,7 @@ use std::path::Path;
 use std::process::exit;
 
 use oracle::PROGRAM_ROOM;
-use puvainy::{Entry, SLOT};
+use puvainy::{Entry, MOST_SLOTS, SLOT};
 
 use crate::check;
 use crate::find::{self, Timed};
@@ -16,6 +16,7 @@ use crate::lists::{ALIKE, MANY_WORDS};
 use crate::ours::Workspace;
 use crate::same;
 use crate::table::{head, row};
+use crate::weigh;
 
 unsafe extern "C" {
     fn dlopen(file: *const c_char, flags: c_int) -> *mut c_void;
@@ -30,9 +31,10 @@ struct Release {
     find: Find,
     words: Lists,
     rename: Lists,
-    /// These two are not in every earlier release.
+    /// These three are not in every earlier release.
     check: Option<Lists>,
     same: Option<Lists>,
+    weigh: Option<Find>,
 }
 
 impl Release {
@@ -50,13 +52,15 @@ impl Release {
         };
         // The header has declared each so since it came in.
         unsafe {
+            let as_find = |function| std::mem::transmute::<*mut c_void, Find>(function);
             let as_lists = |function| std::mem::transmute::<*mut c_void, Lists>(function);
             Some(Release {
-                find: std::mem::transmute::<*mut c_void, Find>(named("puvainy_find")?),
+                find: as_find(named("puvainy_find")?),
                 words: as_lists(named("puvainy_words")?),
                 rename: as_lists(named("puvainy_rename")?),
                 check: named("puvainy_check").map(as_lists),
                 same: named("puvainy_same").map(as_lists),
+                weigh: named("puvainy_weigh").map(as_find),
             })
         }
     }
@@ -69,9 +73,13 @@ impl Release {
         );
         assert!(slots * SLOT <= workspace.numbers.len() && PROGRAM_ROOM <= workspace.output.len());
         let later = |entry: Option<Lists>| entry.expect("the release has it");
+        let searched = |search: Find| unsafe {
+            search(text, length, out, PROGRAM_ROOM, numbers, slots * SLOT)
+        };
         unsafe {
             match entry {
-                Entry::Find => (self.find)(text, length, out, PROGRAM_ROOM, numbers, slots * SLOT),
+                Entry::Find => searched(self.find),
+                Entry::Weigh => searched(self.weigh.expect("the release has it")),
                 Entry::Words => (self.words)(text, length, out, PROGRAM_ROOM),
                 Entry::Rename => (self.rename)(text, length, out, PROGRAM_ROOM),
                 Entry::Check => later(self.check)(text, length, out, PROGRAM_ROOM),
@@ -130,6 +138,20 @@ fn later(releases: [&Release; 2], workspace: &mut Workspace) {
         for (what, job) in same::JOBS {
             let (what, text) = (format!("SAME, {what}"), job.text());
             one(&what, Entry::Same, &text, 0, 100, releases, workspace);
+        }
+    }
+    if releases.iter().all(|release| release.weigh.is_some()) {
+        for (what, text) in weigh::jobs() {
+            let what = format!("WEIGH, {what}");
+            one(
+                &what,
+                Entry::Weigh,
+                &text,
+                MOST_SLOTS,
+                20,
+                releases,
+                workspace,
+            );
         }
     }
 }

@@ -1,7 +1,7 @@
-//! FIND, WORDS, RENAME and SAME beside the Rust, SAME beside WORDS, CHECK beside FIND, and PUT beside RENAME, in one process, on the same jobs;
-//! WORDS and RENAME with c letters beside the same without. Each pair's answers are compared first.
+//! FIND, WORDS, RENAME and SAME beside the Rust, SAME beside WORDS, WEIGH and CHECK beside FIND, and PUT beside RENAME, in one process, on the
+//! same jobs; WORDS and RENAME with c letters beside the same without. Each pair's answers are compared first.
 //!
-//! With an argument, one part alone: `find`, `many`, `lists`, `same`, `check`, `put`, `noted`, or `ours`, the search at the largest limits on our
+//! With an argument, one part alone: `find`, `many`, `lists`, `same`, `weigh`, `check`, `put`, `noted`, or `ours`, the search at the largest limits on our
 //! side, for a profiler.
 //! `beside BEFORE NOW` times the entries of two releases, each a shared library.
 
@@ -16,6 +16,7 @@ mod ours;
 mod put;
 mod same;
 mod table;
+mod weigh;
 
 fn main() {
     let mut workspace = ours::Workspace::new();
@@ -26,6 +27,7 @@ fn main() {
             many::rows(&mut workspace);
             lists::rows(&mut workspace);
             same::rows(&mut workspace);
+            weigh::rows(&mut workspace);
             check::rows(&mut workspace);
             put::rows(&mut workspace);
             noted::rows(&mut workspace);
@@ -34,6 +36,7 @@ fn main() {
         Some("many") => many::rows(&mut workspace),
         Some("lists") => lists::rows(&mut workspace),
         Some("same") => same::rows(&mut workspace),
+        Some("weigh") => weigh::rows(&mut workspace),
         Some("check") => check::rows(&mut workspace),
         Some("put") => put::rows(&mut workspace),
         Some("noted") => noted::rows(&mut workspace),
@@ -44,7 +47,7 @@ fn main() {
         }
         Some(other) => {
             eprintln!(
-                "bench: no part is called {other}: find, many, lists, same, check, put, noted, ours or beside BEFORE NOW"
+                "bench: no part is called {other}: find, many, lists, same, weigh, check, put, noted, ours or beside BEFORE NOW"
             );
             std::process::exit(2);
         }
