@@ -40,6 +40,9 @@ pub record WeighClaims (ws : List Law) (W : Type 0) (words : Term → W) (w : We
   -- when expanded is below nodes, the answer is a none exactly if each such path weighs more than cost
   pub complete : expanded (weigh ws w cost m left right) < m.nodes
       → None (weigh ws w cost m left right) ↔ ((ys : List Line) → Path (Searchable ws m) left ys right → cost < weight w ys)
+  -- each such path weighs more than cost in every none that is not cut, also where as many terms are opened as may be
+  pub uncut : (e n : ℕ) → weigh ws w cost m left right ≡ unproved e n false
+      → (ys : List Line) → Path (Searchable ws m) left ys right → cost < weight w ys
   -- no answer opens more terms than the node limit
   pub few : expanded (weigh ws w cost m left right) ≤ m.nodes
   -- in a none the terms opened are the smaller of nodes and the count of different terms reached by searchable lines that weigh at
@@ -52,6 +55,3 @@ pub record WeighClaims (ws : List Law) (W : Type 0) (words : Term → W) (w : We
   -- which is exactly when the node limit is below the count of different terms reached by searchable lines that weigh at most cost in all
   pub cut_count : (e n : ℕ) (c : Bool) → weigh ws w cost m left right ≡ unproved e n c
       → (ts : List Term) → Reachable ws w cost m left ts → c ≡ ltb m.nodes (length ts)
-  -- likewise of a none that is not cut
-  pub uncut : (e n : ℕ) → weigh ws w cost m left right ≡ unproved e n false
-      → (ys : List Line) → Path (Searchable ws m) left ys right → cost < weight w ys
