@@ -56,4 +56,5 @@ pub record WeighAccepted (j : WeighJob) : Type 0 where
   pub sides : Fit j.left j.right
   pub limits : In_range j.limits
   pub cost : j.cost ≤ 99
+  pub count : length j.weights ≡ length semiring
   pub weights : (n : ℕ) → n ∈ j.weights → (1 ≤ n) × (n ≤ 9)
