@@ -1,9 +1,9 @@
 -- What the functions that answer WEIGH go by: what is put is the answer's text, and the search's end is the job's outcome.
-use Rattle.std.specs.Prelude.{ℕ, ◌≤◌, ◌<◌, ◌≡◌, Bool, List, [], length, take, Option, Some, None}
+use Rattle.std.specs.Prelude.{ℕ, ◌≤◌, ◌<◌, ◌≡◌, Bool, List, [], ◌++◌, length, take, Option, Some, None}
 use Rattle.std.proofs.lemmas.Option.{same_Some, none-some}
-use Rattle.std.proofs.Common.{arith, sym, ◌∙◌}
+use Rattle.std.proofs.Common.{arith, sym, ◌∙◌, ap}
 use Rattle.std.proofs.Math.Path.{subst}
-use mathlib.Core.List.{flatten}
+use mathlib.Core.List.{flatten, append_assoc}
 use Rattle.search.specs.Law.{semiring}
 use Rattle.search.specs.Line.{Line}
 use Rattle.search.specs.Path.{Searchable, Path, end}
@@ -14,36 +14,48 @@ use Rattle.weigh.specs.Copied.{CopiesPath}
 use Rattle.terms.specs.Term.{zero}
 use Rattle.terms.specs.Theory.Members.{getD_in}
 use Rattle.text.specs.Bytes.{ascii, number}
+use Rattle.text.specs.TermText.{write_term}
 use Rattle.text.specs.Answer.{field}
 use Rattle.text.specs.Printing.{path_text, none_text}
 use Rattle.text.specs.Writer.{Writes}
 use Rattle.text.specs.declared.writer.Writer.{Writer}
+use Rattle.text.proofs.Writing.{put_as}
 use Rattle.weigh.specs.Weigh.{Weights, weight, weights_of, Weighed, start}
-use Rattle.weigh.specs.Outcome.{proved, unproved, weigh}
+use Rattle.weigh.specs.Outcome.{unproved, Returns, by_proved, by_atmost, weigh}
 use Rattle.weigh.specs.Claims.{Heavy}
 use Rattle.weigh.specs.Job.{WeighJob, WeighAccepted}
 use Rattle.weigh.specs.Slots.{weighed_at}
-use Rattle.weigh.specs.Answering.{Held}
+use Rattle.weigh.specs.Searched.{returning}
+use Rattle.weigh.specs.Answering.{path_verdict, totals_text, Held}
 use Rattle.weigh.specs.Theory.State.{State}
 use Rattle.weigh.specs.Theory.Final.{ended}
-use Rattle.weigh.specs.Theory.Claims.{proved_short}
+use Rattle.weigh.specs.Theory.Claims.{returned_short}
 use Rattle.weigh.specs.Theory.Jobs.{accepted_heavy}
-use Rattle.weigh.specs.Text.{weigh_lines, weigh_text}
+use Rattle.weigh.specs.Text.{total_line, weigh_lines, weigh_text}
 
 -- what is put of a path or of a none is the outcome's text
 module _ (j : WeighJob) {o o' : Writer} where
-  pub path_put : (xs : List Line) (e n : ℕ)
-      → Writes (path_text (ascii "proved") j.left j.right (field "total=" (number (weight (weights_of j.weights) xs))) xs e) o o'
-      → Writes (weigh_text semiring j (proved xs e n)) o o'
-  unfolding weigh_text weigh_lines flatten
-  path_put xs e n p = p
+  pub path_put : (atleast : Option ℕ) (xs : List Line) (e n : ℕ)
+      → Writes (path_text (path_verdict atleast) j.left j.right (totals_text (weight (weights_of j.weights) xs) atleast) xs e) o o'
+      → Writes (weigh_text semiring j (returning atleast xs e n)) o o'
+  unfolding weigh_text weigh_lines total_line flatten
+  path_put None xs e n p = p
+  path_put (Some l) xs e n p =
+      put_as
+      (ap (λ t. field "answer=" (ascii "atmost") ++ (field "left=" (write_term j.left) ++ (field "right=" (write_term j.right) ++ (field "steps=" (number (length xs)) ++ t))))
+      (append_assoc (field "total=" (number (weight (weights_of j.weights) xs))) (field "atleast=" (number l)) _))
+      p
 
   pub none_put : (e n : ℕ) (c : Bool) → Writes (none_text j.left j.right e c) o o' → Writes (weigh_text semiring j (unproved e n c)) o o'
   unfolding weigh_text weigh_lines
   none_put e n c p = p
 
--- right came up in slot k
-module _ {ws : List ℕ} {k : ℕ} {j : WeighJob} {es : List Weighed} (known : WeighAccepted j) (H : Held ws k j es) where
+returns : (atleast : Option ℕ) (xs : List Line) (e n : ℕ) → Returns (returning atleast xs e n) xs
+returns None xs e n = by_proved
+returns (Some l) xs e n = by_atmost
+
+-- the path that is returned leads to slot k
+module _ {ws : List ℕ} {k : ℕ} {atleast : Option ℕ} {j : WeighJob} {es : List Weighed} (known : WeighAccepted j) (H : Held ws k atleast j es) where
   abbrev w : Weights
   w = weights_of j.weights
 
@@ -53,12 +65,16 @@ module _ {ws : List ℕ} {k : ℕ} {j : WeighJob} {es : List Weighed} (known : W
   state : State (Searchable semiring j.limits) w j.cost j.left j.right es
   state = rw H.searched (ended semiring w heavy j.cost j.limits j.left j.right).state
 
-  -- its path is short enough, weighs what the slot tells, and begins with left
+  -- it is short enough, weighs what the slot tells, and begins with left
   held_short : length (weighed_at es k).trail ≤ 99
   unfolding weigh
   held_short =
-      omega
-      (arith, known.cost, proved_short semiring w heavy j.cost j.limits j.left j.right (weighed_at es k).trail H.ends.0 (length es) (rw (← H.searched) H.ends.1))
+      omega (
+        arith,
+        known.cost,
+        returned_short semiring w heavy j.cost j.limits j.left j.right (weighed_at es k).trail
+            (rw (← H.searched, H.ends.1) (returns atleast (weighed_at es k).trail H.ends.0 (length es))),
+      )
 
   pub held_total : value_of ws k ≡ weight w (weighed_at es k).trail
   held_total = H.slots.total k H.within ∙ state.total (weighed_at es k) (getD_in (start zero) es k H.within)

@@ -1,5 +1,5 @@
 -- The answer to an accepted job, by how its search ended.
-use Rattle.std.specs.Prelude.{ℕ, ◌≤◌, ◌≡◌, true, false, List, length, Result, Err}
+use Rattle.std.specs.Prelude.{ℕ, ◌≤◌, ◌≡◌, true, false, List, length, Option, Result, Err}
 use Rattle.std.proofs.Common.{arith, ap, le-leb}
 use Rattle.std.proofs.lemmas.Bool.{lt-leb}
 use Rattle.std.proofs.Math.Path.{refl}
@@ -13,30 +13,21 @@ use Rattle.text.specs.Answer.{◌>>=◌, require, fitting}
 use Rattle.text.specs.Entry.{Gives}
 use Rattle.text.specs.declared.refusal.Refusal.{Refusal}
 use Rattle.text.specs.declared.refusal.Refusal.TheVariants.{OutOfSlots}
-use Rattle.weigh.specs.Weigh.{weights_of, Weighed, Turn, ends, arrives, opens, turn, opened_count, weighed}
-use Rattle.weigh.specs.Outcome.{Outcome, proved, unproved, noted, outcome, without_path, weigh}
+use Rattle.weigh.specs.Weigh.{weights_of, Weighed, weighed}
+use Rattle.weigh.specs.Outcome.{Outcome, unproved, noted, outcome, weigh}
 use Rattle.weigh.specs.Claims.{Heavy}
 use Rattle.weigh.specs.Slots.{weighed_at}
 use Rattle.weigh.specs.Job.{WeighJob, WeighAccepted, read_weigh}
 use Rattle.weigh.specs.Text.{weigh_text, weigh_entry}
 use Rattle.weigh.specs.Read.{Takes}
-use Rattle.weigh.specs.Searched.{Why, Ends, Searches}
+use Rattle.weigh.specs.Searched.{returning, PathAt, Why, Ends, Searches}
 use Rattle.weigh.specs.Answering.{Sides, Held}
+use Rattle.weigh.specs.Theory.Claims.{outcome_counts}
 use Rattle.weigh.specs.Theory.Jobs.{accepted_heavy, weigh_accepted}
 use Rattle.weigh.specs.declared.job.Read.{Read}
 use Rattle.weigh.specs.declared.layers.Stop.{Stop}
-use Rattle.weigh.specs.declared.layers.Stop.TheVariants.{Right, Cut, Over, Full}
+use Rattle.weigh.specs.declared.layers.Stop.TheVariants.{Cut, Over, Full}
 use Rattle.weigh.specs.declared.layers.Ended.{Ended}
-
--- an outcome counts the terms noted
-outcome_noted : (right : Term) (es : List Weighed) → noted (outcome right es) ≡ length es
-unfolding outcome without_path
-outcome_noted right es = go (turn right es)
-  where
-    go : (t : Turn) → noted (elim t [ ends ↦ without_path es | arrives x ↦ proved x.trail (opened_count es) (length es) | opens x ↦ without_path es ]) ≡ length es
-    go ends = refl
-    go (arrives x) = refl
-    go (opens x) = refl
 
 -- what the search promises of a job whose cost, limits and weights are these
 search_ends : {left right ws ws' ns : List ℕ} {cost : ℕ} {limits : Limits} {e : Ended} → Searches ns cost left right limits ws ws' e
@@ -62,30 +53,30 @@ module _ (bs : List ℕ) {read : Read} (T : Takes (read_weigh bs) read) where
       → Gives (fitting (length out) (weigh_text semiring j o)) out r out' → Gives (weigh_entry bs slots (length out)) out r out'
   unfolding weigh_entry ◌>>=◌ require weigh
   ended_so slots out r out' o is h g =
-      rw (T.accepted, le-leb (noted (outcome j.right final)) slots (omega (arith, outcome_noted j.right final, h)), is) g
+      rw (T.accepted, le-leb (noted (outcome j.right final)) slots (omega (arith, (outcome_counts j.right final).0, h)), is) g
 
   module _ {left right : List ℕ} (l : left ≡ read.left) (f : right ≡ read.right) where
     pub job_sides : Sides left right j
     job_sides = record { known = known; left_run = rw l T.left_run; right_run = rw f T.right_run }
 
     module _ {ws ws' : List ℕ} {e : Ended} (S : Searches read.weights read.cost left right read.limits ws ws' e) where
-      why : (q : Stop) → e.stop ≡ q → Why q e.opened e.noted (slots_of (length ws)) ws' j.right final
+      pub why : (q : Stop) → e.stop ≡ q → Why q e.opened e.noted (slots_of (length ws)) ws' j.right final
       why q is =
           rw is at
           (search_ends S j.left j.right job_sides.left_run job_sides.right_run known.sides.small_left j.weights j.cost j.limits T.weights T.cost T.limits
           known.limits.size known.limits.nodes (accepted_heavy j known))
 
       module _ (out : List ℕ) (r : Result ℕ Refusal) (out' : List ℕ) where
-        -- right came up
-        pub ended_right : (k : ℕ) → e.stop ≡ Right k
-            → ((es : List Weighed) (n : ℕ) → Held ws' k j es → Gives (fitting (length out) (weigh_text semiring j (proved (weighed_at es k).trail e.opened n))) out r out')
+        -- the path that is returned leads to slot k
+        pub ended_found : (atleast : Option ℕ) (k : ℕ) → PathAt atleast k e.opened e.noted (slots_of (length ws)) ws' j.right final
+            → ((es : List Weighed) (n : ℕ) → Held ws' k atleast j es
+            → Gives (fitting (length out) (weigh_text semiring j (returning atleast (weighed_at es k).trail e.opened n))) out r out')
             → Gives (weigh_entry bs (slots_of (length ws)) (length out)) out r out'
-        ended_right k is answer =
-            let (held, counted, few, within, came) = why (Right k) is in
-            ended_so (slots_of (length ws)) out r out' (proved (weighed_at final k).trail e.opened e.noted) came (omega (arith, counted, few))
+        ended_found atleast k (held, counted, few, within, came) answer =
+            ended_so (slots_of (length ws)) out r out' (returning atleast (weighed_at final k).trail e.opened e.noted) came (omega (arith, counted, few))
             (answer final e.noted (record { slots = held; within = omega (arith, counted, within); searched = refl; ends = (e.opened, rw counted came) }))
 
-        -- it did not, and a noted term was left unopened, or none was
+        -- no path is returned, and a noted term was left unopened, or none was
         pub ended_cut : e.stop ≡ Cut → ((n : ℕ) → Gives (fitting (length out) (weigh_text semiring j (unproved e.opened n true))) out r out')
             → Gives (weigh_entry bs (slots_of (length ws)) (length out)) out r out'
         ended_cut is answer =
@@ -103,4 +94,4 @@ module _ (bs : List ℕ) {read : Read} (T : Takes (read_weigh bs) read) where
       unfolding weigh_entry ◌>>=◌ require weigh
       ended_full out is =
           let many = why Full is in
-          (rw (T.accepted, lt-leb (noted (outcome j.right final)) (slots_of (length ws)) (omega (arith, outcome_noted j.right final, many))) refl, refl)
+          (rw (T.accepted, lt-leb (noted (outcome j.right final)) (slots_of (length ws)) (omega (arith, (outcome_counts j.right final).0, many))) refl, refl)

@@ -17,16 +17,17 @@ use Rattle.search.specs.Law.{semiring}
 use Rattle.search.specs.Searched.{limits_of}
 use Rattle.search.specs.Runs.{Shows}
 use Rattle.search.specs.declared.bounded_search.Limits.{Limits}
-use Rattle.weigh.specs.Weigh.{Weights, Weighed, weights_of, least, Turn, ends, arrives, opens, turn, mark, spread, opened_count, left_unopened}
-use Rattle.weigh.specs.Outcome.{proved, unproved, without_path, outcome}
+use Rattle.weigh.specs.Weigh.{Weights, Weighed, weights_of, least, mark, spread, opened_count, left_unopened}
+use Rattle.weigh.specs.Outcome.{unproved, without_path}
 use Rattle.weigh.specs.Claims.{Heavy, LeftUnopened}
 use Rattle.weigh.specs.Slots.{weighed_at, WeighSlots}
 use Rattle.weigh.specs.Opened.{Opened, Became, Opens}
 use Rattle.weigh.specs.Gathered.{SlotsOf, none, more}
 use Rattle.weigh.specs.Searched.{Why}
-use Rattle.weigh.specs.Layered.{next, Stands, Awaits, Below, OpensLayer}
+use Rattle.weigh.specs.Layered.{next, Stands, Awaits, Below, Goes, RanOut, RunsOut, OpensLayer}
 use Rattle.weigh.specs.declared.layers.Ended.{Ended}
-use Rattle.weigh.specs.declared.layers.Stop.TheVariants.{Right, Cut, Over, Full}
+use Rattle.weigh.specs.declared.layers.Stop.{Stop}
+use Rattle.weigh.specs.declared.layers.Stop.TheVariants.{Right, InHand, Cut, Over, Full}
 use Rattle.weigh.specs.Theory.Least.{Leads}
 use Rattle.weigh.specs.Theory.Noting.{mark_terms, opened}
 use Rattle.weigh.specs.Theory.State.{after, marked_light, opened_light, opens_state, opens_count}
@@ -35,35 +36,8 @@ use Rattle.weigh.specs.Theory.Steps.{mark_length, spread_length}
 use Rattle.weigh.specs.Theory.Tries.{tries}
 use Rattle.weigh.specs.Theory.Layers.{Layer, layer_leads, layer_opens, leads_least, first_below, spread_arrives, spread_opens}
 use Rattle.weigh.proofs.Noting.{mark_slots}
+use Rattle.weigh.proofs.Outcomes.{outcome_arrives, outcome_held, outcome_cut}
 use Rattle.weigh.proofs.Naming.{weighed_run, lines_opened, marked_at, names_stay}
-
--- what the outcome is where x is the least that waits
-module _ (right : Term) (es : List Weighed) (x : Weighed) (e : least es ≡ some x) where
-  pub outcome_arrives : x.term ≡ right → outcome right es ≡ proved x.trail (opened_count es) (length es)
-  unfolding outcome turn
-  outcome_arrives p = rw (e, turn, outcome) (go (same x.term right) (same_reflects x.term right))
-    where
-      go : (b : Bool) → Reflects (x.term ≡ right) b
-          → elim (elim b as (λ _. Turn) [ true ↦ arrives x | false ↦ opens x ]) [
-            | ends ↦ without_path es
-            | arrives y ↦ proved y.trail (opened_count es) (length es)
-            | opens y ↦ without_path es
-          ] ≡ proved x.trail (opened_count es) (length es)
-      go true h = refl
-      go false h = absurd (h p)
-
-  pub outcome_opens : (x.term ≡ right → ⊥) → outcome right es ≡ without_path es
-  unfolding outcome turn
-  outcome_opens other = rw (e, turn, outcome) (go (same x.term right) (same_reflects x.term right))
-    where
-      go : (b : Bool) → Reflects (x.term ≡ right) b
-          → elim (elim b as (λ _. Turn) [ true ↦ arrives x | false ↦ opens x ]) [
-            | ends ↦ without_path es
-            | arrives y ↦ proved y.trail (opened_count es) (length es)
-            | opens y ↦ without_path es
-          ] ≡ without_path es
-      go true h = absurd (other h)
-      go false h = refl
 
 -- the first of the terms that wait in a layer
 pub record First (l f k : ℕ) (ks : List ℕ) (es : List Weighed) : Type 0 where
@@ -118,17 +92,44 @@ module _ {weights : List ℕ} {cost : ℕ} {m : Limits} {s t : Term} {v : List W
       )
 
   module _ (other : F.x.term ≡ t → ⊥) where
-    -- no more may be opened
-    pub limited : (slots : ℕ) → noted ≤ slots → m.nodes ≤ opened' → Why Cut opened' noted slots ws t v
+    -- no more may be opened: right is noted, or it is not
+    pub limited : (slots : ℕ) → noted ≤ slots → m.nodes ≤ opened' → {right : List ℕ} → IsRun right t → {r : Stop} → RunsOut ws noted right l r
+        → Why r opened' noted slots ws t v × (r ≡ Over → ⊥)
     unfolding spread without_path
-    limited slots fits h =
+    limited slots fits h R {r} O =
         let f : m.nodes - opened' ≡ 0 = omega arith in
         let e : v ≡ es = St.is ∙ ap (λ g. spread (next m) w cost t g es) f in
-        rw e (St.counted, fits, outcome_opens t es F.x leading other ∙ rw (← St.count, ← St.counted) (go (left_unopened es) (left_unopened_reflects es)))
+        rw e (go r (O.exact t es St.held St.counted St.state.distinct R))
       where
-        go : (b : Bool) → Reflects (LeftUnopened es) b → unproved (opened_count es) (length es) b ≡ unproved (opened_count es) (length es) true
-        go true h = refl
-        go false h = absurd (h (F.x, leads.0, leads.1))
+        cut : (b : Bool) → Reflects (LeftUnopened es) b → unproved (opened_count es) (length es) b ≡ unproved (opened_count es) (length es) true
+        cut true h = refl
+        cut false h = absurd (h (F.x, leads.0, leads.1))
+
+        weighs : F.x.total ≡ l
+        weighs = (F.layer.own F.x (here refl)).2
+
+        go : (r : Stop) → RanOut r l t es → Why r opened' noted slots ws t es × (r ≡ Over → ⊥)
+        go (InHand k b) (is, within, h) = (
+          (
+            St.held,
+            St.counted,
+            fits,
+            omega (arith, within, St.counted),
+            rw (is, ← weighs, ← St.count, ← St.counted) (outcome_held t es F.x leading other (weighed_at es k) h),
+          ),
+          λ p. cc,
+        )
+        go Cut h = (
+          (
+            St.counted,
+            fits,
+            outcome_cut t es F.x leading other h ∙ rw (← St.count, ← St.counted) (cut (left_unopened es) (left_unopened_reflects es)),
+          ),
+          λ p. cc,
+        )
+        go (Right k) h = absurd h
+        go Over h = absurd h
+        go Full h = absurd h
 
     -- it is opened
     abbrev pub more_noted : List Weighed
@@ -256,13 +257,24 @@ module _ {weights : List ℕ} {cost : ℕ} {m : Limits} {right ks : List ℕ} {l
 
     module _ (e : b ≡ false) where
       -- no more may be opened
-      pub layer_cut : m.nodes ≤ opened' → OpensLayer weights cost m slots right ks l before ws₀ ws (record { stop = Cut; opened = opened'; noted = noted })
-      layer_cut u =
+      pub layer_out : m.nodes ≤ opened' → {r : Stop} → RunsOut ws noted right l r
+          → OpensLayer weights cost m slots right ks l before ws₀ ws (record { stop = r; opened = opened'; noted = noted })
+      layer_out u {r} O =
           record {
             fits = fits;
             few = few;
-            exact = λ s t v es R H St A. let N = meets e s t v es R H St A in limited N.stands N.first N.tells slots fits u;
+            exact = λ s t v es R H St A.
+                let N = meets e s t v es R H St A in
+                let (why, ended) = limited N.stands N.first N.tells slots fits u R O in stopped r ended s t v why;
           }
+        where
+          stopped : (r : Stop) → (r ≡ Over → ⊥) → (s t : Term) (v : List Weighed) → Why r opened' noted slots ws t v
+              → Goes r weights cost m slots (l + 1) s t v ws noted opened'
+          stopped (Right k) n s t v h = h
+          stopped (InHand k b) n s t v h = h
+          stopped Cut n s t v h = h
+          stopped Over n s t v h = absurd (n refl)
+          stopped Full n s t v h = h
 
       -- it is opened
       module _ (u : opened' < m.nodes) (small : m.size ≤ 31) {r : Option ℕ} {ws' : List ℕ} (O : Opens weights cost m ws noted slots (get_or ks j 0) l r ws') where

@@ -6,6 +6,8 @@ pub mod Turns
 pub mod Naming
 pub mod Inserting
 pub mod Gathering
+pub mod Outcomes
+pub mod Holding
 pub mod Layering
 pub mod Searching
 pub mod Copying

@@ -1,5 +1,5 @@
 -- The search from left on: layer after layer is gathered and opened, until right comes up, a limit is met or nothing waits.
-use Rattle.std.specs.Prelude.{ℕ, ◌+◌, ◌-◌, ◌≤◌, ◌<◌, ◌≡◌, Bool, true, false, List, [], ◌∷◌, length, take, drop}
+use Rattle.std.specs.Prelude.{ℕ, ◌+◌, ◌-◌, ◌≤◌, ◌<◌, ◌≡◌, false, List, [], ◌∷◌, length, take, drop}
 use Rattle.std.proofs.Common.{arith, sym, ◌∙◌, ap, ⊎_elim}
 use Rattle.std.proofs.Math.Path.{refl, subst}
 use Rattle.std.proofs.lemmas.Bool.{false≢true}
@@ -10,47 +10,25 @@ use Rattle.terms.specs.Lists.{◌∈◌, only_one}
 use Rattle.terms.specs.Term.{Term}
 use Rattle.terms.specs.Held.{IsRun}
 use Rattle.terms.specs.Theory.Held.{size_of}
-use Rattle.terms.specs.Theory.Reflects.{Reflects}
 use Rattle.search.specs.Law.{semiring}
 use Rattle.search.specs.Searched.{limits_of, slots_of}
 use Rattle.search.specs.Slots.{Starts}
 use Rattle.search.specs.declared.bounded_search.Limits.{Limits}
-use Rattle.weigh.specs.Weigh.{Weighed, weights_of, start, Turn, ends, arrives, opens, turn, opened_count, left_unopened, weighed}
-use Rattle.weigh.specs.Outcome.{proved, unproved, without_path, outcome}
-use Rattle.weigh.specs.Claims.{Heavy, LeftUnopened}
+use Rattle.weigh.specs.Weigh.{Weighed, weights_of, start, opened_count, weighed}
+use Rattle.weigh.specs.Claims.{Heavy}
 use Rattle.weigh.specs.Layer.{layer_at}
 use Rattle.weigh.specs.Slots.{WeighSlots}
 use Rattle.weigh.specs.Gathered.{Gathers}
 use Rattle.weigh.specs.Searched.{Why, Searches}
 use Rattle.weigh.specs.Layered.{next, Stands, Awaits, Below, Goes, OpensLayer, OpensLayers}
 use Rattle.weigh.specs.declared.layers.Stop.{Stop}
-use Rattle.weigh.specs.declared.layers.Stop.TheVariants.{Right, Cut, Over, Full}
+use Rattle.weigh.specs.declared.layers.Stop.TheVariants.{Right, InHand, Cut, Over, Full}
 use Rattle.weigh.specs.declared.layers.Ended.{Ended}
-use Rattle.weigh.specs.Theory.Least.{Turned, turn_is}
 use Rattle.weigh.specs.Theory.State.{opened_or_not, starts}
-use Rattle.weigh.specs.Theory.Spread.{left_unopened_reflects}
 use Rattle.weigh.specs.Theory.Steps.{spread_length}
 use Rattle.weigh.specs.Theory.Layers.{Layer, layer_is, spread_nothing}
 use Rattle.weigh.proofs.Noting.{start_slots}
-
--- the outcome where nothing waits
-outcome_ends : (right : Term) (es : List Weighed) → ((z : Weighed) → z ∈ es → z.opened ≡ false → ⊥) → outcome right es ≡ unproved (opened_count es) (length es) false
-unfolding outcome without_path
-outcome_ends right es nothing = go (turn right es) (turn_is right es)
-  where
-    uncut : (b : Bool) → Reflects (LeftUnopened es) b → unproved (opened_count es) (length es) b ≡ unproved (opened_count es) (length es) false
-    uncut true (z, i, o) = absurd (nothing z i o)
-    uncut false h = refl
-
-    go : (u : Turn) → Turned right es u
-        → elim u [
-          | ends ↦ without_path es
-          | arrives x ↦ proved x.trail (opened_count es) (length es)
-          | opens x ↦ without_path es
-        ] ≡ unproved (opened_count es) (length es) false
-    go ends h = uncut (left_unopened es) (left_unopened_reflects es)
-    go (arrives x) ((i, o, h), e) = absurd (nothing x i o)
-    go (opens x) ((i, o, h), e) = absurd (nothing x i o)
+use Rattle.weigh.proofs.Outcomes.{outcome_ends}
 
 -- where each search stands that starts with what ws₀ has: the layers below total l are opened
 pub record Onward (weights : List ℕ) (cost : ℕ) (m : Limits) (right ws₀ ws : List ℕ) (noted opened l : ℕ) : Type 0 where
@@ -118,6 +96,7 @@ module _ {weights : List ℕ} {cost : ℕ} {m : Limits} {right ws₀ ws : List �
             → Why stop r.opened r.noted slots ws' t v
         ended Over h s t v g = absurd (h refl)
         ended (Right k) h s t v g = g
+        ended (InHand k b) h s t v g = g
         ended Cut h s t v g = g
         ended Full h s t v g = g
 

@@ -7,9 +7,10 @@ use Rattle.search.specs.Law.{semiring}
 use Rattle.search.specs.Line.{Line}
 use Rattle.search.specs.Searched.{slots_of}
 use Rattle.weigh.specs.Weigh.{weight, weights_of}
-use Rattle.weigh.specs.Outcome.{Outcome, proved, unproved, expanded, noted}
+use Rattle.weigh.specs.Outcome.{Outcome, proved, atmost, unproved, Returns, expanded, noted}
 use Rattle.weigh.specs.Claims.{WeighClaims}
-use Rattle.text.specs.Bytes.{ascii}
+use Rattle.weigh.specs.Hand.{HandClaims}
+use Rattle.text.specs.Bytes.{ascii, number}
 use Rattle.text.specs.Answer.{accepted, values, yes_no}
 use Rattle.text.specs.StepText.{read_steps}
 use Rattle.text.specs.declared.refusal.Refusal.{Refusal}
@@ -22,11 +23,19 @@ use Rattle.weigh.specs.Text.{weigh_text, job_weighed, weigh_entry}
 -- what stands behind `answer=`
 abbrev pub weigh_verdict : Outcome → List ℕ
 weigh_verdict (proved xs e n) = ascii "proved"
+weigh_verdict (atmost xs l e n) = ascii "atmost"
 weigh_verdict (unproved e n c) = ascii "none"
+
+-- what stands behind `atleast=`
+abbrev pub weigh_atleasts : Outcome → List (List ℕ)
+weigh_atleasts (proved xs e n) = []
+weigh_atleasts (atmost xs l e n) = number l ∷ []
+weigh_atleasts (unproved e n c) = []
 
 -- what stands behind `cut=`
 abbrev pub weigh_cuts : Outcome → List (List ℕ)
 weigh_cuts (proved xs e n) = []
+weigh_cuts (atmost xs l e n) = []
 weigh_cuts (unproved e n c) = yes_no c ∷ []
 
 -- of every text that WEIGH answers
@@ -42,18 +51,23 @@ pub record WeighAnswered (job : List ℕ) (slots room : ℕ) (t : List ℕ) : Ty
   -- the terms noted have slots, and the text has room
   pub enough : noted outcome ≤ slots
   pub fits : length t ≤ room
-  -- the text says whether it is proved, its sides and the number opened
+  -- the text says whether it is proved, an atmost or a none, its sides and the number opened
   pub verdict : values "answer=" t ≡ weigh_verdict outcome ∷ []
   pub sides : Names t "left=" read.left × Names t "right=" read.right
   pub opened : Reports t "expanded=" (expanded outcome)
-  -- a proved answer's number of lines and total are those of its path, which is the one that the `step=` lines of the text tell, in order
-  pub steps : (xs : List Line) (e n : ℕ) → outcome ≡ proved xs e n → Reports t "steps=" (length xs)
-  pub total : (xs : List Line) (e n : ℕ) → outcome ≡ proved xs e n → Reports t "total=" (weight (weights_of read.weights) xs)
-  pub path : (xs : List Line) (e n : ℕ) → outcome ≡ proved xs e n → read_steps semiring t ≡ map some xs
+  -- the number of lines and the total of a proved answer or an atmost are those of its path, which is the one that the `step=` lines of the text
+  -- tell, in order
+  pub steps : (xs : List Line) → Returns outcome xs → Reports t "steps=" (length xs)
+  pub total : (xs : List Line) → Returns outcome xs → Reports t "total=" (weight (weights_of read.weights) xs)
+  pub path : (xs : List Line) → Returns outcome xs → read_steps semiring t ≡ map some xs
+  -- `atleast=` stands in an atmost alone, and says the smallest total among noted, unopened terms
+  pub atleast : values "atleast=" t ≡ weigh_atleasts outcome
   -- `cut=` stands in a none, and says whether a noted term was left unopened
   pub cut : values "cut=" t ≡ weigh_cuts outcome
   -- path, ends, least weight, number opened, when a path is returned, and cut
   pub claims : WeighClaims semiring (List Word) words (weights_of read.weights) read.cost read.limits read.left read.right
+  -- and where nodes run out: when a path in hand is returned, how near it is to the lightest, and what more nodes can change
+  pub hand : HandClaims semiring (weights_of read.weights) read.cost read.limits read.left read.right
 
 -- the numbers of the refusals that WEIGH gives before any search
 abbrev pub before_search : List ℕ

@@ -5,8 +5,8 @@ use Rattle.terms.specs.Term.{Term}
 use Rattle.search.specs.Law.{Law, Name}
 use Rattle.search.specs.Line.{Line, Limits}
 use Rattle.search.specs.Path.{Searchable, Path}
-use Rattle.weigh.specs.Weigh.{Weights, weight, Weighed, weighed}
-use Rattle.weigh.specs.Outcome.{Outcome, proved, unproved, expanded, weigh}
+use Rattle.weigh.specs.Weigh.{Weights, weight, Weighed, opened_count, weighed}
+use Rattle.weigh.specs.Outcome.{Outcome, proved, unproved, Returns, expanded, noted, weigh}
 
 -- every law weighs at least 1
 abbrev pub Heavy : Weights → Type 0
@@ -31,10 +31,11 @@ abbrev pub LeftUnopened : List Weighed → Type 0
 LeftUnopened noted = (x : Weighed) × x ∈ noted × (x.opened ≡ false)
 
 pub record WeighClaims (ws : List Law) (W : Type 0) (words : Term → W) (w : Weights) (cost : ℕ) (m : Limits) (left right : Term) : Type 0 where
-  -- a proved answer gives a path of searchable lines, never empty, whose two ends have the same words and whose lines weigh at most cost
-  pub path : (xs : List Line) (e n : ℕ) → weigh ws w cost m left right ≡ proved xs e n
+  -- a proved answer or an atmost gives a path of searchable lines, never empty, whose two ends have the same words and whose lines weigh at
+  -- most cost
+  pub path : (xs : List Line) → Returns (weigh ws w cost m left right) xs
       → Path (Searchable ws m) left xs right × (0 < length xs) × (words left ≡ words right) × (weight w xs ≤ cost)
-  -- every other path of searchable lines weighs at least as much
+  -- every other path of searchable lines weighs at least as much as a proved one
   pub lightest : (xs ys : List Line) (e n : ℕ) → weigh ws w cost m left right ≡ proved xs e n
       → Path (Searchable ws m) left ys right → weight w xs ≤ weight w ys
   -- when expanded is below nodes, the answer is a none exactly if each such path weighs more than cost
@@ -43,7 +44,9 @@ pub record WeighClaims (ws : List Law) (W : Type 0) (words : Term → W) (w : We
   -- each such path weighs more than cost in every none that is not cut, also where as many terms are opened as may be
   pub uncut : (e n : ℕ) → weigh ws w cost m left right ≡ unproved e n false
       → (ys : List Line) → Path (Searchable ws m) left ys right → cost < weight w ys
-  -- no answer opens more terms than the node limit
+  -- every answer counts the terms that are noted, and those of them that were opened: no more than the node limit
+  pub counts : (noted (weigh ws w cost m left right) ≡ length (weighed ws w cost m left right))
+      × (expanded (weigh ws w cost m left right) ≡ opened_count (weighed ws w cost m left right))
   pub few : expanded (weigh ws w cost m left right) ≤ m.nodes
   -- in a none the terms opened are the smaller of nodes and the count of different terms reached by searchable lines that weigh at
   -- most cost in all

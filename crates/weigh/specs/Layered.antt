@@ -1,6 +1,7 @@
 -- What the parts of the search promise: one layer opened, and layer after layer.
 use Rattle.std.specs.Prelude.{ℕ, ◌+◌, ◌-◌, ◌≤◌, ◌<◌, ◌≡◌, true, false, List, [], ◌∷◌, ◌++◌, length}
-use Rattle.terms.specs.Lists.{◌∈◌}
+use Rattle.std.proofs.Math.Option.{none, some}
+use Rattle.terms.specs.Lists.{◌∈◌, Distinct}
 use Rattle.terms.specs.Term.{Term}
 use Rattle.terms.specs.Held.{IsRun}
 use Rattle.search.specs.Law.{semiring}
@@ -8,14 +9,15 @@ use Rattle.search.specs.Line.{Line, lines, allowed}
 use Rattle.search.specs.Path.{Searchable}
 use Rattle.search.specs.Searched.{limits_of}
 use Rattle.search.specs.declared.bounded_search.Limits.{Limits}
-use Rattle.weigh.specs.Weigh.{weights_of, Weighed, start, opened_count, spread, weighed}
+use Rattle.weigh.specs.Weigh.{weights_of, Weighed, terms, start, opened_count, spread, weighed}
+use Rattle.weigh.specs.Outcome.{held}
 use Rattle.weigh.specs.Claims.{Heavy}
-use Rattle.weigh.specs.Slots.{WeighSlots}
+use Rattle.weigh.specs.Slots.{weighed_at, WeighSlots}
 use Rattle.weigh.specs.Gathered.{SlotsOf}
 use Rattle.weigh.specs.Theory.State.{State}
 use Rattle.weigh.specs.Theory.Layers.{Layer}
 use Rattle.weigh.specs.declared.layers.Stop.{Stop}
-use Rattle.weigh.specs.declared.layers.Stop.TheVariants.{Right, Cut, Over, Full}
+use Rattle.weigh.specs.declared.layers.Stop.TheVariants.{Right, InHand, Cut, Over, Full}
 use Rattle.weigh.specs.declared.layers.Ended.{Ended}
 use Rattle.weigh.specs.Searched.{Why, Ends}
 
@@ -50,8 +52,21 @@ pub record Below (l : ℕ) (es : List Weighed) : Type 0 where
 abbrev pub Goes : Stop → List ℕ → ℕ → Limits → ℕ → ℕ → Term → Term → List Weighed → List ℕ → ℕ → ℕ → Type 0
 Goes Over weights cost m slots l s t v ws noted opened = (es : List Weighed) × Stands weights cost m s t v ws noted opened es × Below l es
 Goes (Right k) weights cost m slots l s t v ws noted opened = Why (Right k) opened noted slots ws t v
+Goes (InHand k b) weights cost m slots l s t v ws noted opened = Why (InHand k b) opened noted slots ws t v
 Goes Cut weights cost m slots l s t v ws noted opened = Why Cut opened noted slots ws t v
 Goes Full weights cost m slots l s t v ws noted opened = Why Full opened noted slots ws t v
+
+-- right is noted, in slot k, while the smallest total of a term that waits is l; or it is not noted
+abbrev pub RanOut : Stop → ℕ → Term → List Weighed → Type 0
+RanOut (InHand k b) l t es = (b ≡ l) × (k < length es) × (held t es ≡ some (weighed_at es k))
+RanOut Cut l t es = held t es ≡ none
+RanOut (Right k) l t es = ⊥
+RanOut Over l t es = ⊥
+RanOut Full l t es = ⊥
+
+-- of `run_out`, where no more terms may be opened
+pub record RunsOut (ws : List ℕ) (noted : ℕ) (right : List ℕ) (l : ℕ) (r : Stop) : Type 0 where
+  pub exact : (t : Term) (es : List Weighed) → WeighSlots ws es → length es ≡ noted → Distinct (terms es) → IsRun right t → RanOut r l t es
 
 -- of `open_layer`, at the layer of total l, whose terms are in the slots ks
 pub record OpensLayer (weights : List ℕ) (cost : ℕ) (m : Limits) (slots : ℕ) (right ks : List ℕ) (l : ℕ) (before : Ended) (ws ws' : List ℕ) (r : Ended) : Type 0 where

@@ -2,6 +2,7 @@
 pub mod Weigh
 pub mod Outcome
 pub mod Claims
+pub mod Hand
 pub mod Layout
 pub mod Job
 pub mod Text

@@ -9,8 +9,11 @@ pub mod Steps
 pub mod Parents
 pub mod Lightest
 pub mod Layers
+pub mod Held
 pub mod Final
 pub mod Claims
+pub mod More
+pub mod Hand
 pub mod Alike
 pub mod Jobs
 pub mod Lines

@@ -10,11 +10,12 @@ ghost use Rattle.text.specs.Answer.{field, accepted, fitting};
 ghost use Rattle.text.specs.Walk.{Walk};
 ghost use Rattle.text.specs.Entry.{Gives};
 ghost use Rattle.weigh.specs.Weigh.{weight, weights_of, Weighed};
-ghost use Rattle.weigh.specs.Outcome.{proved, unproved, outcome};
+ghost use Rattle.weigh.specs.Outcome.{unproved};
+ghost use Rattle.weigh.specs.Searched.{returning};
 ghost use Rattle.weigh.specs.Slots.{weighed_at, WeighSlots};
 ghost use Rattle.weigh.specs.Job.{WeighJob, read_weigh};
 ghost use Rattle.weigh.specs.Text.{weigh_text, weigh_entry};
-ghost use Rattle.weigh.specs.Answering.{Sides, Held};
+ghost use Rattle.weigh.specs.Answering.{Sides, Held, path_verdict, totals_text};
 ghost use Rattle.weigh.specs.Answering as answering;
 ghost use Rattle.weigh.specs.Read.{Takes};
 
@@ -30,35 +31,50 @@ use text::refusal::Refusal;
 use text::step::Lines;
 use text::writer::Writer;
 
-// The line behind `steps=`: what the lines of a path weigh in all.
+// The lines after that of `steps=`: what the lines of a path weigh in all, and, where it is in hand, the smallest total of a term that waits.
 #[derive(Clone, Copy)]
-struct Total(usize);
-
-impl Text for Total {
-    ghost shows = { λ n t. t ≡ field "total=" (number n.0) };
-
-    fn put(&self, w: &mut Writer<'_>) {
-        let total = self.0;
-        w.line(b"total=", &total);
-    }
-}
-
-// The answer where right came up.
-#[derive(Clone, Copy)]
-struct Proved<'a> {
-    found: Found<'a>,
+struct Totals {
     total: usize,
+    atleast: Option<usize>,
 }
 
-impl<'a> Text for Proved<'a> {
-    ghost shows = { λ p t. (j : WeighJob) × (xs : List Line) × (n : ℕ) × answering.Sides p.found.sides.left.now p.found.sides.right.now j × Walk p.found.lines.ws.now p.found.lines.path.now j.left xs × (p.total ≡ weight (weights_of j.weights) xs) × (t ≡ weigh_text semiring j (proved xs p.found.expanded n)) };
+impl Text for Totals {
+    ghost shows = { λ n t. t ≡ totals_text n.total n.atleast };
 
     fn put(&self, w: &mut Writer<'_>) {
-        put_proved(w, b"proved", self.found, &Total(self.total));
+        w.line(b"total=", &self.total);
+        if let Some(atleast) = self.atleast {
+            w.line(b"atleast=", &atleast);
+        }
     }
 }
 
-// The answer where it did not.
+// What stands behind `answer=` where a path is returned.
+fn verdict(atleast: Option<usize>) -> &'static [u8]
+    ensures { result.now ≡ path_verdict atleast }
+{
+    match atleast {
+        None => b"proved",
+        Some(_) => b"atmost",
+    }
+}
+
+// The answer with a path.
+#[derive(Clone, Copy)]
+struct Returned<'a> {
+    found: Found<'a>,
+    totals: Totals,
+}
+
+impl<'a> Text for Returned<'a> {
+    ghost shows = { λ p t. (j : WeighJob) × (xs : List Line) × (n : ℕ) × answering.Sides p.found.sides.left.now p.found.sides.right.now j × Walk p.found.lines.ws.now p.found.lines.path.now j.left xs × (p.totals.total ≡ weight (weights_of j.weights) xs) × (t ≡ weigh_text semiring j (returning p.totals.atleast xs p.found.expanded n)) };
+
+    fn put(&self, w: &mut Writer<'_>) {
+        put_proved(w, verdict(self.totals.atleast), self.found, &self.totals);
+    }
+}
+
+// The answer without one.
 #[derive(Clone, Copy)]
 struct Unproved<'a> {
     sides: Sides<'a>,
@@ -77,15 +93,16 @@ impl<'a> Text for Unproved<'a> {
 // The numbers of the slots to which a path is copied: one for each term.
 const ROOM: usize = SLOT * MOST_LINES + SLOT;
 
-// Right came up, in slot `last` of the workspace. No accepted job has a longer path than there is room for.
+// Right came up, or is held, in slot `last` of the workspace. No accepted job has a longer path than there is room for.
 fn answer_path(
     sides: Sides<'_>,
     opened: usize,
     last: u32,
+    atleast: Option<usize>,
     ws: &[u32],
     out: &mut [u8],
 ) -> Result<usize, Refusal>
-    ensures { (j : WeighJob) (es : List Weighed) (n : ℕ) → answering.Sides sides.entry.left.now sides.entry.right.now j → Held ws.now last j es → Gives (fitting (length out.old) (weigh_text semiring j (proved (weighed_at es last).trail opened n))) out.old result out.new }
+    ensures { (j : WeighJob) (es : List Weighed) (n : ℕ) → answering.Sides sides.entry.left.now sides.entry.right.now j → Held ws.now last atleast j es → Gives (fitting (length out.old) (weigh_text semiring j (returning atleast (weighed_at es last).trail opened n))) out.old result out.new }
 {
     let mut path = [0u32; MOST_LINES];
     let mut copy = [0u32; ROOM];
@@ -101,11 +118,14 @@ fn answer_path(
         expanded: opened,
         lines,
     };
-    let total = slots::value_of(ws, last) as usize;
-    answered(&Proved { found, total }, out)
+    let totals = Totals {
+        total: slots::value_of(ws, last) as usize,
+        atleast,
+    };
+    answered(&Returned { found, totals }, out)
 }
 
-// Right did not come up.
+// No path was found.
 fn answer_none(sides: Sides<'_>, opened: usize, cut: bool, out: &mut [u8]) -> Result<usize, Refusal>
     ensures { (j : WeighJob) (n : ℕ) → answering.Sides sides.entry.left.now sides.entry.right.now j → Gives (fitting (length out.old) (weigh_text semiring j (unproved opened n cut))) out.old result out.new }
 {
@@ -130,7 +150,8 @@ pub fn answer_weigh(read: &Read, out: &mut [u8], ws: &mut [u32]) -> Result<usize
     );
     let opened = ended.opened;
     match ended.stop {
-        Stop::Right(k) => answer_path(sides, opened, k, ws, out),
+        Stop::Right(k) => answer_path(sides, opened, k, None, ws, out),
+        Stop::InHand(k, atleast) => answer_path(sides, opened, k, Some(atleast as usize), ws, out),
         Stop::Cut => answer_none(sides, opened, true, out),
         Stop::Over => answer_none(sides, opened, false, out),
         Stop::Full => Err(Refusal::OutOfSlots),

@@ -1,19 +1,22 @@
 // The search for the cheapest path, layer by layer: the terms of one total are gathered, put in term order, and opened in order.
 ghost use Rattle.std.specs.Prelude.{◌*◌, ◌≤◌, ◌<◌, length};
 ghost use Rattle.search.specs.Index.{SLOT};
+ghost use Rattle.weigh.specs.Layered.{RunsOut};
 ghost use Rattle.weigh.specs.Searched.{Searches};
 
 use crate::gather::gather;
 use crate::weighing::{LARGEST_SIZE, MOST_NODES, Weighing};
 use search::bounded_search::Limits;
-use search::slots::SlotRun;
+use search::slots::{Runs, SlotRun};
 use search::{index, slots};
 use terms::term;
 
-// Why a search ended: right came up, in this slot; no path was found, and a noted term was left unopened, or none was; a term had no slot left.
+// Why a search ended: right came up, in this slot; no more terms may be opened, and right is noted, in this slot, while the smallest total of a term
+// that waits is this; no path was found, and a noted term was left unopened, or none was; a term had no slot left.
 #[derive(Clone, Copy)]
 pub enum Stop {
     Right(u32),
+    InHand(u32, u32),
     Cut,
     Over,
     Full,
@@ -30,10 +33,26 @@ pub struct Ended {
 // The most terms of a layer that are looked at: all that may be opened, and one more.
 const MOST: usize = MOST_NODES as usize + 1;
 
+// Why a search ends that may open no more terms, where the smallest total of a term that waits is `atleast`: with right in hand, or cut.
+fn run_out(ws: &[u32], noted: usize, right: &[u32], atleast: u32) -> Stop
+    requires { (noted ≤ 65535) × (SLOT * noted ≤ length ws.now) }
+    ensures { RunsOut ws.now noted right.now atleast result }
+{
+    let known = Runs {
+        slots: ws,
+        count: noted,
+    };
+    match known.find(right) {
+        Some(k) => Stop::InHand(k, atleast),
+        None => Stop::Cut,
+    }
+}
+
 impl Weighing {
     ghost use Rattle.weigh.specs.Layered.{OpensLayer, OpensLayers};
 
-    // Opens the terms of a layer in order. Right coming up ends the search, uncounted, before the node limit is looked at.
+    // Opens the terms of a layer in order. Right coming up ends the search, uncounted, before the node limit is looked at. Where that is met, the term
+    // that would be opened next has the smallest total of all that wait.
     fn open_layer(
         self,
         right: &[u32],
@@ -58,7 +77,7 @@ impl Weighing {
             }
             if self.limits.nodes as usize <= now.opened {
                 return Ended {
-                    stop: Stop::Cut,
+                    stop: run_out(ws, now.noted, right, total),
                     ..now
                 };
             }
@@ -104,7 +123,9 @@ const NO_SLOT: Ended = Ended {
     noted: 0,
 };
 
-// Searches for the cheapest path from left to right. The promise is for limits of an accepted job.
+// Searches for the cheapest path from left to right. The promise is for limits of an accepted job. Not inlined, so that a layer does not lie beside the
+// path on the caller's stack.
+#[inline(never)]
 pub fn search_weighed(
     left: &[u32],
     right: &[u32],

@@ -5,7 +5,6 @@ use Rattle.std.proofs.Math.Option.{none}
 use Rattle.terms.specs.Term.{Term}
 use Rattle.search.specs.Law.{Law, Name}
 use Rattle.search.specs.Line.{Line, Limits}
-use Rattle.search.specs.Path.{Searchable}
 use Rattle.search.specs.Search as find
 use Rattle.search.specs.Search.{direct, search}
 use Rattle.search.specs.Theory.Claims.{path_map, proved_searchable}
@@ -13,6 +12,7 @@ use Rattle.weigh.specs.Weigh.{Weights, weight}
 use Rattle.weigh.specs.Outcome.{proved, weigh}
 use Rattle.weigh.specs.Claims.{Heavy}
 use Rattle.weigh.specs.Theory.Claims.{proved_lightest}
+use Rattle.weigh.specs.Theory.More.{same_lines}
 
 module _ (w : Weights) (ones : (n : Name) → w n ≡ 1) where
   ones_heavy : Heavy w
@@ -23,10 +23,6 @@ module _ (w : Weights) (ones : (n : Name) → w n ≡ 1) where
   unfolding weight
   ones_weight [] = refl
   ones_weight (x ∷ xs) = omega (arith, ones x.law, ones_weight xs)
-
-  -- size and depth alone decide which lines are searchable
-  same_lines : {ws : List Law} {m k : Limits} → m.size ≡ k.size → m.depth ≡ k.depth → (s : Term) (x : Line) → Searchable ws m s x → Searchable ws k s x
-  same_lines e f s x h = record { usable = h.usable; size = rw (← e) h.size; depth = rw (← f) h.depth }
 
   pub totals_are_steps : (ws : List Law) (m k : Limits) → m.size ≡ k.size → m.depth ≡ k.depth → (cost : ℕ) (left right : Term) → (left ≡ right → ⊥)
       → direct ws left right ≡ none → (xs ys : List Line) (e n f l : ℕ) → search ws m left right ≡ find.proved xs e n

@@ -1,5 +1,5 @@
 -- What the noted terms say at the end of a search.
-use Rattle.std.specs.Prelude.{ℕ, ◌≤◌, ◌<◌, min, ◌≡◌, ◌⊎◌, Bool, true, false, List, length, ltb}
+use Rattle.std.specs.Prelude.{ℕ, ◌≤◌, ◌<◌, min, ◌≡◌, refl, ◌⊎◌, Bool, true, false, List, length, ltb}
 use Rattle.std.proofs.Common.{arith, sym, subst, inl, inr, ⊎_elim, lt-ltb, le-ltb}
 use Rattle.std.proofs.lemmas.List.{length-map}
 use Rattle.terms.specs.Lists.{◌∈◌, Distinct, in-cast, of_map}
@@ -12,7 +12,8 @@ use Rattle.search.specs.Line.{Line, Limits}
 use Rattle.search.specs.Path.{Searchable, Path}
 use Rattle.weigh.specs.Weigh.{Weights, weight, Weighed, opened_count, weighed}
 use Rattle.weigh.specs.Claims.{Heavy, Reachable, LeftUnopened}
-use Rattle.weigh.specs.Theory.Least.{Leads}
+use Rattle.weigh.specs.Hand.{Holds, Smallest}
+use Rattle.weigh.specs.Theory.Least.{before_total, Leads}
 use Rattle.weigh.specs.Theory.Noting.{Near}
 use Rattle.weigh.specs.Theory.State.{Waits, opened_or_not, meets, passes, bounds}
 use Rattle.weigh.specs.Theory.Spread.{Ended, spread_ended, opened_terms, opened_length, opened_member, opened_has, opened_distinct, opened_not_all}
@@ -44,6 +45,31 @@ module _ (ws : List Law) (w : Weights) (heavy : Heavy w) (cost : ℕ) (m : Limit
         path = subst (Path Ok left x.trail) e (s.trail x leads.0);
         allowed = omega (arith, s.allowed x leads.0);
         least = λ ys path. omega (arith, bounds s leads path);
+      }
+
+  -- no more may be opened: xs is the path held for right, l the smallest total of a term that waits, e how many are opened
+  pub record InHand (xs : List Line) (l e : ℕ) : Type 0 where
+    pub held : (z : Weighed) × Holds final right z × (z.trail ≡ xs) × (z.total ≡ weight w xs)
+    pub next : (x : Weighed) × Leads final x × (x.term ≡ right → ⊥)
+    pub path : Path Ok left xs right
+    pub allowed : weight w xs ≤ cost
+    pub smallest : Smallest final l
+    pub none_lighter : (ys : List Line) → Path Ok left ys right → l ≤ weight w ys
+    pub limit : e ≡ m.nodes
+
+  pub in_hand_is : (x : Weighed) → Leads final x → (x.term ≡ right → ⊥) → opened_count final ≡ m.nodes → (z : Weighed) → Holds final right z
+      → InHand z.trail x.total (opened_count final)
+  in_hand_is x leads other met z (i, e) =
+      let s = ended.state in
+      let t = s.total z i in
+      record {
+        held = (z, (i, e), refl, t);
+        next = (x, leads, other);
+        path = subst (Path Ok left z.trail) e (s.trail z i);
+        allowed = omega (arith, s.allowed z i);
+        smallest = record { one = (x, leads.0, leads.1, refl); least = λ a j o. before_total x a (leads.2 a j o) };
+        none_lighter = λ ys path. bounds s leads path;
+        limit = met;
       }
 
   -- nothing waits: all is opened that can be

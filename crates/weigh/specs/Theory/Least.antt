@@ -59,6 +59,21 @@ module _ (x y : Weighed) where
   by_total_after eq e d f h = inr (sym (compare_order.tie e), λ c. let z : ◌≡◌ {A = ℕ} 0 1 = cc in omega arith)
   by_total_after gt e d f h = inl (compare_lt y.total x.total (flip_gt compare_order e))
 
+-- of different terms the one that comes before is the lesser
+pub before_lt : (x y : Weighed) → Before x y → (x.term ≡ y.term → ⊥) → by_total x y ≡ lt
+unfolding then
+before_lt x y before other = go (compare x.total y.total) refl (order x.term y.term) refl
+  where
+    after : {c : Ordering} → compare x.total y.total ≡ c → {d : Ordering} → order x.term y.term ≡ d → then c d ≡ gt → ⊥
+    after {c} e {d} f g = other (before_both x y before (by_total_after x y c e d f g))
+
+    go : (c : Ordering) → compare x.total y.total ≡ c → (d : Ordering) → order x.term y.term ≡ d → then c d ≡ lt
+    go lt e d f = refl
+    go eq e lt f = refl
+    go eq e eq f = absurd (other (term_order.tie f))
+    go eq e gt f = absurd (after e f refl)
+    go gt e d f = absurd (after e f refl)
+
 -- x is the least of those in the list that are not opened; none means that all are opened
 abbrev pub Leads : List Weighed → Weighed → Type 0
 Leads xs x = x ∈ xs × (x.opened ≡ false) × ((z : Weighed) → z ∈ xs → z.opened ≡ false → Before x z)

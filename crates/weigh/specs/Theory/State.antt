@@ -25,6 +25,18 @@ unfolding weight
 weight_snoc w [] y = omega arith
 weight_snoc w (x ∷ xs) y = omega (arith, weight_snoc w xs y)
 
+-- what the last line of a path weighs
+pub last_weight : Weights → List Line → ℕ
+last_weight w [] = 0
+last_weight w (x ∷ []) = w x.law
+last_weight w (x ∷ y ∷ ys) = last_weight w (y ∷ ys)
+
+pub last_snoc : (w : Weights) (xs : List Line) (y : Line) → last_weight w (xs ++ (y ∷ [])) ≡ w y.law
+unfolding last_weight
+last_snoc w [] y = refl
+last_snoc w (x ∷ []) y = refl
+last_snoc w (x ∷ z ∷ zs) y = last_snoc w (z ∷ zs) y
+
 pub record State (Ok : Term → Line → Type 0) (w : Weights) (cost : ℕ) (left right : Term) (noted : List Weighed) : Type 0 where
   pub distinct : Distinct (terms noted)
   pub trail : (x : Weighed) → x ∈ noted → Path Ok left x.trail x.term
@@ -35,6 +47,8 @@ pub record State (Ok : Term → Line → Type 0) (w : Weights) (cost : ℕ) (lef
       → Near noted y.result (x.total + w y.law)
   pub behind : (x y : Weighed) → x ∈ noted → y ∈ noted → x.opened ≡ true → y.opened ≡ false → x.total ≤ y.total
   pub free : (x : Weighed) → x ∈ noted → x.opened ≡ true → x.term ≡ right → ⊥
+  -- the term before the last line was opened
+  pub last : (x y : Weighed) → x ∈ noted → y ∈ noted → y.opened ≡ false → x.total ≤ y.total + last_weight w x.trail
 
 -- one that is not heavier than k was left unopened
 abbrev pub Waits : List Weighed → ℕ → Type 0
@@ -106,7 +120,7 @@ module _ {Ok : Term → Line → Type 0} {next : Term → List Line} (tries : Tr
       go true p = let q : z ≡ x = same_entry noted state.distinct z x i leads.0 p in (opened x, marking.has, sym p ∙ e, omega (arith, ap (λ y. y.total) q))
       go false p = (z, marking.kept z i p, e, h)
 
-  near_after : (s : Term) (k : ℕ) → Near noted s k → Near after s k
+  pub near_after : (s : Term) (k : ℕ) → Near noted s k → Near after s k
   near_after s k n = taking.near s k (near_marked s k n)
 
   -- the lines on x are closed
@@ -146,6 +160,12 @@ module _ {Ok : Term → Line → Type 0} {next : Term → List Line} (tries : Tr
             (λ y i c o. absurd (false≢true o));
         behind = λ a b i j o p. omega (arith, opened_light a i o, waiting_heavy b j p);
         free = now_noted (λ a. a.opened ≡ true → a.term ≡ right → ⊥) (λ a i h. state.free a i) (λ o. other) (λ y i c o. absurd (false≢true o));
+        last = λ a b i j o.
+            now_noted (λ a. a.total ≤ b.total + last_weight w a.trail)
+            (λ a i h. omega (arith, state.last a x i leads.0 leads.1, waiting_heavy b j o))
+            (omega (arith, waiting_heavy b j o))
+            (λ y i c. omega (arith, last_snoc w x.trail y, waiting_heavy b j o))
+            a i;
       }
 
   -- nor is one heavier before the lines on x are taken
@@ -170,6 +190,7 @@ starts left right =
       closed = λ x m o. absurd (waits x m o);
       behind = λ x y m n o. absurd (waits x m o);
       free = λ x m o. absurd (waits x m o);
+      last = λ x y m n o. rw (only_one m) (omega arith);
     }
   where
     waits : (x : Weighed) → x ∈ start left ∷ [] → x.opened ≡ true → ⊥

@@ -17,6 +17,6 @@ returns c =
       n,
       sides,
       path_walk sides.known held c.copy_path.ensures c.copy_path.auto.path (search rules),
-      c.value_of-total.ensures ∙ held_total sides.known held,
+      c.value_of.ensures ∙ held_total sides.known held,
       refl,
     )

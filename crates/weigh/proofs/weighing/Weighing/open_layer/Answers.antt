@@ -1,6 +1,6 @@
 -- `open_layer` meets its contract: a law for each way out.
 use Rattle.std.proofs.Common.{arith, rules, refl}
-use Rattle.weigh.proofs.Layering.{midway_starts, layer_over, layer_right, layer_cut, layer_full, layer_next}
+use Rattle.weigh.proofs.Layering.{midway_starts, layer_over, layer_right, layer_out, layer_full, layer_next}
 use Rattle.weigh.proofs.weighing.Weighing.open_layer.Goals as goal
 
 pub loop-k-init : goal.loop-k-init
@@ -17,7 +17,10 @@ returns-then-equal c =
 pub returns-then-self-now : goal.returns-then-self-now
 returns-then-self-now c =
     let (fits, few, over, M) = c.loop-k.invariant in
-    layer_cut M fits few c.loop-k-test.true c.run_of.ensures c.equal.ensures c.if-equal.false c.if-self-now.true
+    layer_out M fits few c.loop-k-test.true c.run_of.ensures c.equal.ensures c.if-equal.false c.if-self-now.true c.run_out.ensures
+
+pub run_out-requires : goal.run_out-requires
+run_out-requires c = search rules
 
 pub open-requires : goal.open-requires
 open-requires c = search rules
