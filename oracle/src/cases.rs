@@ -127,7 +127,7 @@ use none;
 
 /// The cases about these, or about all if none is said: those of document 01 with the examples of its table of
 /// refusals and of where lists part, those for several right sides, those for CHECK, those with c letters, those for
-/// SAME, and those for WEIGH.
+/// SAME, those for WEIGH, and those for WEIGH where nodes run out.
 pub fn cases(about: &[About]) -> Vec<Case> {
     let is_meant = |one: About| one.is_among(about);
     let mut all = Vec::new();
@@ -152,6 +152,9 @@ pub fn cases(about: &[About]) -> Vec<Case> {
     }
     if is_meant(About::Weigh) {
         all.extend(weigh::cases());
+    }
+    if is_meant(About::AtMost) {
+        all.extend(weigh::atmost::cases());
     }
     all
 }

@@ -16,7 +16,7 @@ use crate::plain::{self, Block, MOST_SLOTS, joined};
 use crate::{Call, Entry, Given, rust};
 
 pub use kinds::Judged;
-pub use weigh::beside_find;
+pub use weigh::{beside_find, broken, changed};
 
 /// A call on which two answers differ.
 #[derive(Debug)]

@@ -49,7 +49,8 @@ impl Entry {
 }
 
 /// What a call is about: a job of one right side or of several, some of which may be wrong, a
-/// derivation for CHECK, any of these with c letters, or a job for SAME or for WEIGH, with c letters or without.
+/// derivation for CHECK, any of these with c letters, or a job for SAME, for WEIGH, or for WEIGH with a path in hand where
+/// nodes run out, with c letters or without.
 #[derive(Clone, Copy, Debug, Eq, PartialEq)]
 pub enum About {
     One,
@@ -58,6 +59,7 @@ pub enum About {
     Fixed,
     Same,
     Weigh,
+    AtMost,
 }
 
 impl About {

@@ -14,7 +14,7 @@ pub fn take(plan: &mut Plan, option: &str, rest: &mut Iter<&str>) -> Result<bool
         "--seed" => plan.seed = value(option, rest)?,
         "--count" => plan.count = value(option, rest)?,
         "--light" => plan.light = true,
-        "--one" | "--many" | "--check" | "--fixed" | "--same" | "--weigh" => {
+        "--one" | "--many" | "--check" | "--fixed" | "--same" | "--weigh" | "--atmost" => {
             plan.about.extend(about(option));
         }
         "--max-job" => plan.most_bytes = value(option, rest)?,
@@ -56,7 +56,7 @@ pub fn take_names(names: &mut Names, option: &str, rest: &mut Iter<&str>) -> Res
     Ok(true)
 }
 
-/// Which calls `--one`, `--many`, `--check`, `--fixed`, `--same` or `--weigh` asks for.
+/// Which calls `--one`, `--many`, `--check`, `--fixed`, `--same`, `--weigh` or `--atmost` asks for.
 pub fn about(option: &str) -> Option<About> {
     match option {
         "--one" => Some(About::One),
@@ -65,6 +65,7 @@ pub fn about(option: &str) -> Option<About> {
         "--fixed" => Some(About::Fixed),
         "--same" => Some(About::Same),
         "--weigh" => Some(About::Weigh),
+        "--atmost" => Some(About::AtMost),
         _ => None,
     }
 }

@@ -9,6 +9,22 @@ impl OwnLine {
         self.0.axiom
     }
 
+    #[must_use]
+    pub const fn forward(&self) -> bool {
+        self.0.forward
+    }
+
+    /// Its place, outermost first: whether it goes on in the left part.
+    pub fn place(&self) -> impl Iterator<Item = bool> {
+        let is_left = |frame: &ContextFrame| {
+            matches!(
+                frame,
+                ContextFrame::AddLeft { .. } | ContextFrame::MulLeft { .. }
+            )
+        };
+        self.0.context.iter().rev().map(is_left)
+    }
+
     /// The whole new term.
     #[must_use]
     pub const fn target(&self) -> &Term {

@@ -29,8 +29,8 @@ compare names [--seed S] [--first N] [--count N] [--fixed] [--threads N] [--plai
     Makes pairs of equations as `oracle names` does, three calls of RENAME each.
 
 OPTIONS: --seed S (default 1), --count N (default 1000), --first N (default 0, the first call's
-    index), --kind K, --one, --many, --check, --fixed, --same, --weigh, --light, --max-job N, --max-slots N,
-    --max-room N as `oracle check` takes them, --threads N (default 1), --plain (what is due comes
+    index), --kind K, --one, --many, --check, --fixed, --same, --weigh, --atmost, --light, --max-job N,
+    --max-slots N, --max-room N as `oracle check` takes them, --threads N (default 1), --plain (what is due comes
     from plain alone, without the Rust).
 ";
 

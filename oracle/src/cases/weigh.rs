@@ -1,6 +1,7 @@
 //! Cases for WEIGH: the least weight, lines to one result, totals that are lowered, ties, cost and nodes at their edges,
 //! slots and room, and the refusals.
 
+pub mod atmost;
 mod refused;
 
 use super::{Case, Due, case, none};
@@ -52,6 +53,19 @@ macro_rules! one_line {
         ))
     };
 }
+
+/// The same where nodes ran out with the path in hand, and no path is lighter than this.
+#[rustfmt::skip]
+macro_rules! in_hand {
+    ($left:literal, $right:literal, $total:literal, $atleast:literal, $expanded:literal, $law:literal, $on:literal) => {
+        Ok(concat!(
+            "answer=atmost\nleft=", $left, "\nright=", $right, "\nsteps=1\ntotal=", $total, "\natleast=", $atleast,
+            "\nexpanded=", $expanded, "\nuses=", $law, "\nstep=", $law, " forward at=. to=", $right, "\nproof=", $on
+        ))
+    };
+}
+
+use in_hand;
 
 const D_PROVED: Due = Ok(
     "answer=proved\nleft=v0\nright=+ 0 v0\nsteps=2\ntotal=2\nexpanded=3\n\
@@ -144,6 +158,7 @@ fn ordered() -> Vec<Case> {
     const FIRST: Due = one_line!("v0", "+ v0 0", "1", "1", "add_zero_right", "(lam x0 (app (ref add_zero_right) (ref x0)))\n");
     const SECOND: Due = one_line!("v0", "* v0 1", "1", "2", "mul_one_right", "(lam x0 (app (ref mul_one_right) (ref x0)))\n");
     const THIRD: Due = one_line!("v0", "* 1 v0", "1", "3", "mul_one_left", "(lam x0 (app (ref mul_one_left) (ref x0)))\n");
+    const IN_HAND: Due = in_hand!("v0", "* 1 v0", "1", "1", "2", "mul_one_left", "(lam x0 (app (ref mul_one_left) (ref x0)))\n");
     const HEAVY: Due = one_line!("v0", "+ v0 0", "2", "3", "add_zero_right", "(lam x0 (app (ref add_zero_right) (ref x0)))\n");
     let of = |name, right, nodes, due| weigh(name, ["v0", right], ["1", "7", "3", nodes], ONES, due);
     vec![
@@ -151,7 +166,7 @@ fn ordered() -> Vec<Case> {
         of("the second, noted after the third", "* v0 1", "1000", SECOND),
         of("the third", "* 1 v0", "1000", THIRD),
         of("right comes up at the node limit", "* 1 v0", "3", THIRD),
-        of("right would come up behind the node limit", "* 1 v0", "2", none!("v0", "* 1 v0", "2", "yes")),
+        of("right would come up behind the node limit", "* 1 v0", "2", IN_HAND),
         of("the first, one node", "+ v0 0", "1", FIRST),
         of("no nodes", "+ v0 0", "0", none!("v0", "+ v0 0", "0", "yes")),
         weigh("a total before the term order", A, ["2", "3", "1", "3"], "1 1 2 1 1 1 1 1 1 1", HEAVY),

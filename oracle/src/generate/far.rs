@@ -39,13 +39,17 @@ const LONG: [[&str; 2]; 4] = [
 
 /// Ends of paths among small terms that do not grow, under the largest cost: totals up to 99.
 pub fn far(random: &mut Random) -> Call {
+    far_draft(random).weigh(random)
+}
+
+pub fn far_draft(random: &mut Random) -> WeighDraft {
     let sides = match random.below(3) {
         0 => regrouped(random),
         _ => walked(random),
     };
     let [left, right] = &sides;
     if left == right {
-        return far(random);
+        return far_draft(random);
     }
     let (size, depth) = measures(&sides);
     let depth = random.pick(&[depth, depth + 1, LARGEST.1]);
@@ -55,7 +59,7 @@ pub fn far(random: &mut Random) -> Call {
     };
     let draft = drafted(random, [left, right], [size, depth, nodes]);
     let weights = any_weights(random);
-    WeighDraft::new(&draft, &weights).weigh(random)
+    WeighDraft::new(&draft, &weights)
 }
 
 /// The size and the depth that both sides keep.
@@ -66,6 +70,18 @@ fn measures([left, right]: &[Term; 2]) -> (usize, usize) {
 
 /// Sides that are listed, or two terms on the shortest path between them, over any letters: paths of up to 60 lines.
 pub fn long(random: &mut Random) -> Call {
+    let call = long_draft(random).weigh(random);
+    match random.percent(70) {
+        true => Call {
+            slots: MOST_SLOTS,
+            room: LONG_ROOM,
+            ..call
+        },
+        false => call,
+    }
+}
+
+pub fn long_draft(random: &mut Random) -> WeighDraft {
     let sides = random.pick(&LONG);
     let sides = sides.map(|side| Term::read(side.as_bytes()).expect("a term"));
     let (size, _) = measures(&sides);
@@ -82,15 +98,7 @@ pub fn long(random: &mut Random) -> Call {
         1 => [(); LAWS.len()].map(|()| random.between(1, 2)),
         _ => any_weights(random),
     };
-    let call = WeighDraft::new(&draft, &weights).weigh(random);
-    match random.percent(70) {
-        true => Call {
-            slots: MOST_SLOTS,
-            room: LONG_ROOM,
-            ..call
-        },
-        false => call,
-    }
+    WeighDraft::new(&draft, &weights)
 }
 
 /// Room for the longest answers made here.
@@ -100,7 +108,7 @@ const LONG_ROOM: usize = 262_144;
 fn on_the_way(random: &mut Random, sides: &[Term; 2], limits: [usize; 3]) -> [Term; 2] {
     let draft = drafted(random, sides.each_ref(), limits);
     let outcome = WeighDraft::new(&draft, &[1; LAWS.len()]).outcome();
-    let (path, _) = outcome.path.expect("they are the ends of a path");
+    let (path, _) = outcome.proved().expect("they are the ends of a path");
     let first = random.below(path.len());
     let last = random.between(first, path.len() - 1);
     [path[first].source.clone(), path[last].target.clone()]

@@ -3,10 +3,11 @@
 
 use super::changes::{Sides, led_on, with_letters};
 use super::draft::{Draft, any_limits, call};
+use super::kinds::Make;
 use super::parted::{changed, factors, product, with_word, wordless};
 use super::random::Random;
 use super::terms::{joined, replaced_or_mixed, term_up_to};
-use super::{Make, broken, refused, spoilt};
+use super::{broken, refused, spoilt};
 use crate::plain::job::MOST_NODES;
 use crate::plain::same::count;
 use crate::plain::term::{ONE, PRODUCT, SUM, Term, end};

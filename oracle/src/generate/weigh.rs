@@ -4,11 +4,12 @@
 use super::draft::{Draft, call};
 use super::random::Random;
 use super::searched;
+use crate::plain::MOST_SLOTS;
 use crate::plain::job::BOUNDS;
 use crate::plain::law::LAWS;
 use crate::plain::weigh::job::{KEYS, MOST_COST, WeighJob, Weights, write};
-use crate::plain::weigh::search::{Weighed, weigh};
-use crate::plain::{self, MOST_SLOTS};
+use crate::plain::weigh::search::{End, Weighed, weigh};
+use crate::plain::weigh::text;
 use crate::{Call, Entry};
 
 /// The values of the lines: left, right, cost, size, depth, nodes, weights; any bytes.
@@ -47,10 +48,14 @@ impl WeighDraft {
         call(random, Entry::Weigh, self.bytes())
     }
 
-    /// How the search of a good job ends.
+    /// The job, if it is a good one.
+    pub fn job(&self) -> WeighJob {
+        WeighJob::read(&self.bytes()).expect("a good job")
+    }
+
+    /// How its search ends.
     pub fn outcome(&self) -> Weighed {
-        let job = WeighJob::read(&self.bytes()).expect("a good job");
-        weigh(&job, usize::MAX).expect("slots enough")
+        weigh(&self.job(), usize::MAX).expect("slots enough")
     }
 }
 
@@ -86,7 +91,7 @@ pub fn draft(random: &mut Random) -> WeighDraft {
 /// Any cost, mostly enough for a path if there is one; at first it is the largest.
 fn set_cost(random: &mut Random, draft: &mut WeighDraft) {
     let most = MOST_COST as usize;
-    let cost = match (random.below(6), draft.outcome().path) {
+    let cost = match (random.below(6), draft.outcome().proved()) {
         (0, _) => most,
         (1, _) => random.between(0, most),
         (_, Some((_, total))) => total + random.pick(&[0, 0, 0, 1, 1, 3, 9]),
@@ -102,6 +107,10 @@ pub fn lightest(random: &mut Random) -> Call {
 
 /// All weights alike, mostly 1 and a cost of 16 times the weight, which is what FIND's steps reach.
 pub fn even(random: &mut Random) -> Call {
+    alike_draft(random).weigh(random)
+}
+
+pub fn alike_draft(random: &mut Random) -> WeighDraft {
     let weights = alike(random);
     let mut draft = even_draft(random, &weights);
     let steps = match random.below(4) {
@@ -110,7 +119,7 @@ pub fn even(random: &mut Random) -> Call {
         _ => BOUNDS[0] as usize,
     };
     draft.set(COST, (weights[0] * steps).min(MOST_COST as usize));
-    draft.weigh(random)
+    draft
 }
 
 /// A law of a short path is heavy, the others are light; mostly the lightest path has more lines.
@@ -130,14 +139,15 @@ pub fn detours(random: &mut Random) -> Call {
 const TRIES: usize = 5;
 const OPENED: usize = 60;
 
-fn detour(random: &mut Random) -> WeighDraft {
+pub fn detour(random: &mut Random) -> WeighDraft {
     let mut draft = even_draft(random, &[1; LAWS.len()]);
     draft.set(NODES, random.between(OPENED / 2, OPENED));
-    let Some((path, _)) = draft.outcome().path else {
+    let outcome = draft.outcome();
+    let Some((path, _)) = outcome.proved() else {
         return detour(random);
     };
     let mut weights = [(); LAWS.len()].map(|()| random.pick(&[1, 1, 2, 3]));
-    weights[random.pick(&path).line.law] = random.pick(&[4, 7, 9, 9]);
+    weights[random.pick(path).line.law] = random.pick(&[4, 7, 9, 9]);
     draft.set_weights(&weights);
     draft
 }
@@ -146,7 +156,7 @@ fn detour(random: &mut Random) -> WeighDraft {
 fn is_longer(draft: &WeighDraft) -> bool {
     let mut even = draft.clone();
     even.set_weights(&[1; LAWS.len()]);
-    let lines = [draft, &even].map(|draft| draft.outcome().path.map(|(path, _)| path.len()));
+    let lines = [draft, &even].map(|draft| draft.outcome().proved().map(|(path, _)| path.len()));
     lines[1].is_some() && lines[0] > lines[1]
 }
 
@@ -162,13 +172,13 @@ fn even_draft(random: &mut Random, weights: &Weights) -> WeighDraft {
 pub fn edges(random: &mut Random) -> Call {
     let mut draft = draft(random);
     let outcome = draft.outcome();
-    let (limit, taken) = match &outcome.path {
+    let (limit, taken) = match outcome.proved() {
         None => (NODES, outcome.expanded),
         Some((path, total)) => {
             let sizes = path.iter().map(|step| step.target.size());
             let depths = path.iter().map(|step| step.target.depth());
             random.pick(&[
-                (COST, *total),
+                (COST, total),
                 (SIZE, sizes.max().unwrap_or(0)),
                 (DEPTH, depths.max().unwrap_or(0)),
                 (NODES, outcome.expanded),
@@ -184,6 +194,10 @@ pub fn edges(random: &mut Random) -> Call {
 /// As many slots as terms are noted, one fewer, one more; few, or about as many as count at all.
 pub fn slots(random: &mut Random) -> Call {
     let draft = draft(random);
+    with_slots(random, &draft)
+}
+
+pub fn with_slots(random: &mut Random, draft: &WeighDraft) -> Call {
     let noted = draft.outcome().noted;
     let slots = match random.below(10) {
         0 => random.below(3),
@@ -205,17 +219,26 @@ pub fn slots(random: &mut Random) -> Call {
     }
 }
 
-/// About as much room as the answer needs.
+/// About as much room as a proved answer or a none needs; where a path is in hand, too, as a none would.
 pub fn room(random: &mut Random) -> Call {
     let draft = draft(random);
-    let (text, noted) = plain::whole(Entry::Weigh, &draft.bytes()).expect("a good job");
+    let mut weighed = draft.outcome();
+    if matches!(weighed.end, End::AtMost { .. }) {
+        weighed.end = End::None;
+    }
+    with_room(random, &draft, &weighed)
+}
+
+/// About as much room as the answer to a search that ends so.
+pub fn with_room(random: &mut Random, draft: &WeighDraft, weighed: &Weighed) -> Call {
+    let text = text(&draft.job(), weighed);
     let room = match random.below(6) {
         0 => 0,
         1 => random.below(text.len()),
         _ => random.around(text.len()),
     };
     let call = draft.weigh(random);
-    let slots = noted.max(call.slots);
+    let slots = weighed.noted.max(call.slots);
     Call {
         slots,
         room,

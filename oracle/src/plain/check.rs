@@ -44,12 +44,13 @@ pub fn check(text: &[u8]) -> Result<Vec<u8>, u8> {
     }
 }
 
-/// The three kinds of line from each proved block of FIND's answer, as CHECK takes them.
+/// The three kinds of line from each proved block of FIND's answer, or from an answer of WEIGH that has a path, as CHECK
+/// takes them.
 pub fn derivations(answer: &[u8]) -> Vec<String> {
     let text = std::str::from_utf8(answer).expect("answers are ASCII");
     let blocks = text.split("answer=");
-    let proved = blocks.filter(|block| block.starts_with("proved\n"));
-    proved.map(three_kinds).collect()
+    let has_path = |block: &&str| block.starts_with("proved\n") || block.starts_with("atmost\n");
+    blocks.filter(has_path).map(three_kinds).collect()
 }
 
 fn three_kinds(block: &str) -> String {

@@ -105,13 +105,20 @@ fn block(entry: Entry, equation: &Equation, limits: &Limits, slots: usize) -> Op
 /// The answer of FIND to one equation.
 fn find_text(left: &Term, right: &Term, outcome: &Outcome) -> String {
     match &outcome.path {
-        Some(path) => proved(left, right, path, "", outcome.expanded),
+        Some(path) => with_path("proved", left, right, path, "", outcome.expanded),
         None => none(left, right, outcome.expanded, outcome.waits),
     }
 }
 
-/// A proved answer; what is said of the path beside its lines stands behind their number.
-fn proved(left: &Term, right: &Term, path: &[Step], said: &str, expanded: usize) -> String {
+/// An answer with a path; what is said of it beside its lines stands behind their number.
+fn with_path(
+    verdict: &str,
+    left: &Term,
+    right: &Term,
+    path: &[Step],
+    said: &str,
+    expanded: usize,
+) -> String {
     let letters = letters_of(left, right);
     let mut laws: Vec<usize> = path.iter().map(|step| step.line.law).collect();
     laws.sort_unstable();
@@ -119,7 +126,7 @@ fn proved(left: &Term, right: &Term, path: &[Step], said: &str, expanded: usize)
     let uses: Vec<&str> = laws.iter().map(|&law| law::LAWS[law].name).collect();
     let steps: Vec<String> = path.iter().map(step_line).collect();
     format!(
-        "answer=proved\nleft={}\nright={}\nsteps={}\n{said}expanded={expanded}\nuses={}\n{}proof={}\n",
+        "answer={verdict}\nleft={}\nright={}\nsteps={}\n{said}expanded={expanded}\nuses={}\n{}proof={}\n",
         left.show(),
         right.show(),
         path.len(),

@@ -1,13 +1,13 @@
-//! WEIGH (document 02, wish 10): the answer to a job with a cost and a weight for each law.
+//! WEIGH (document 02, wishes 10 and 11): the answer to a job with a cost and a weight for each law.
 
 pub mod job;
 pub mod said;
 pub mod search;
 
 use super::Block;
-use super::{none, proved};
+use super::{none, with_path};
 use job::WeighJob;
-use search::{Weighed, weigh};
+use search::{End, Weighed, weigh};
 
 /// What a job is answered; none where more terms would be noted than there are slots.
 pub fn block(job: &WeighJob, slots: usize) -> Option<Block> {
@@ -21,11 +21,20 @@ pub fn block(job: &WeighJob, slots: usize) -> Option<Block> {
 /// The answer, by how a search ended.
 pub fn text(job: &WeighJob, weighed: &Weighed) -> String {
     let (left, right) = job.equation.oriented();
-    match &weighed.path {
-        Some((path, total)) => {
-            let total = format!("total={total}\n");
-            proved(left, right, path, &total, weighed.expanded)
+    let expanded = weighed.expanded;
+    match &weighed.end {
+        End::Proved { path, total } => {
+            let said = format!("total={total}\n");
+            with_path("proved", left, right, path, &said, expanded)
         }
-        None => none(left, right, weighed.expanded, weighed.waits),
+        End::AtMost {
+            path,
+            total,
+            atleast,
+        } => {
+            let said = format!("total={total}\natleast={atleast}\n");
+            with_path("atmost", left, right, path, &said, expanded)
+        }
+        End::None => none(left, right, expanded, weighed.waits),
     }
 }

@@ -2,69 +2,58 @@
 //! them each term gets its distance from left, layer by layer. Nothing is lowered and no parent is kept: which path is due
 //! is read off the distances at the end.
 
-use std::collections::{BTreeSet, HashMap, HashSet};
+mod known;
 
-use upstream::{DIRECT_AXIOMS, EquationCandidate, OwnLine, SemiringAxiom, own_lines, own_proof};
+use std::collections::{BTreeSet, HashSet};
+
+use upstream::{EquationCandidate, OwnLine, SemiringAxiom, own_lines, own_proof};
 
 use super::{candidate, readback, run_of, show, tree};
 use crate::plain::term::Term as Run;
-use crate::plain::weigh::job::{WeighJob, Weights};
+use crate::plain::weigh::job::WeighJob;
+use known::weight;
+pub use known::{Known, put_in_order};
 
-/// The answer with any slots and any room, and how many terms are noted.
+/// The answer with any slots and any room, how many terms are noted, and the distance of the first that is not opened.
 #[derive(Clone, Debug, Eq, PartialEq)]
 pub struct Weighed {
     pub text: String,
     pub noted: usize,
+    pub next: Option<usize>,
 }
 
-/// A term and its distance from left: the least weight of a path to it.
+/// A term and its distance from left: the least weight of a path to it. Right, where nodes ran out, has the least weight
+/// of a path whose last line is from an opened term.
 struct Reached {
     term: Run,
     distance: usize,
 }
 
-/// What lines lead to, with their weights, from each term that was looked at.
-struct Known<'a> {
-    job: &'a WeighJob,
-    results: HashMap<Run, Vec<(Run, usize)>>,
-}
-
-pub fn weighed(job: &WeighJob) -> Weighed {
+pub fn weighed(known: &mut Known) -> Weighed {
+    let job = known.job;
     let equation = candidate(&job.equation);
     let [left, right] = [equation.lhs(), equation.rhs()].map(run_of);
-    let results = HashMap::new();
-    let mut known = Known { job, results };
     let order = known.in_order(&left, &right);
     let nodes = job.limits.nodes;
     let arrival = order.iter().position(|reached| reached.term == right);
     let arrival = arrival.filter(|&before| before <= nodes);
     let opened = &order[..arrival.unwrap_or(nodes.min(order.len()))];
     let noted = known.noted(&left, opened);
-    let text = match arrival {
-        Some(at) => proved_text(&equation, job, known.path(opened, &order[at]), at),
-        None => none_text(&equation, opened.len(), opened.len() < noted),
+    let next = order.get(opened.len()).map(|reached| reached.distance);
+    let expanded = opened.len();
+    let text = if let Some(at) = arrival {
+        let path = known.path(opened, &order[at]);
+        path_text(&equation, job, path, None, expanded)
+    } else if let Some(held) = known.held(opened, right) {
+        let path = known.path(opened, &held);
+        path_text(&equation, job, path, next, expanded)
+    } else {
+        none_text(&equation, expanded, expanded < noted)
     };
-    Weighed { text, noted }
+    Weighed { text, noted, next }
 }
 
 impl Known<'_> {
-    /// What lines within size and depth lead to.
-    fn results(&mut self, term: &Run) -> &[(Run, usize)] {
-        let WeighJob {
-            limits, weights, ..
-        } = self.job;
-        let known = self.results.entry(term.clone());
-        known.or_insert_with(|| {
-            let lines = own_lines(&tree(term.run())).into_iter();
-            let is_kept = |line: &OwnLine| {
-                let target = line.target();
-                target.size() <= limits.size && target.depth() <= limits.depth
-            };
-            let result = |line: OwnLine| (run_of(line.target()), weight(weights, line.axiom()));
-            lines.filter(is_kept).map(result).collect()
-        })
-    }
-
     /// The terms within cost in the order of opening, by distance and then by the Rust's order. No layer is looked at
     /// behind the one that has right, nor behind the one with which there are more terms than nodes.
     fn in_order(&mut self, left: &Run, right: &Run) -> Vec<Reached> {
@@ -76,7 +65,7 @@ impl Known<'_> {
         for distance in 0..=*cost {
             let mut layer = Vec::from_iter(std::mem::take(&mut arrivals[distance]));
             layer.retain(|term| seen.insert(term.clone()));
-            layer.sort_by_cached_key(|term| tree(term.run()));
+            put_in_order(&mut layer);
             let is_last = layer.contains(right) || seen.len() > limits.nodes;
             if !is_last {
                 self.arrive(&layer, &mut arrivals[distance..]);
@@ -108,6 +97,22 @@ impl Known<'_> {
             noted.extend(results.map(|(result, _)| result.clone()));
         }
         noted.len()
+    }
+
+    /// Right with the least weight of a path whose last line is from one of these, if one of at most cost is.
+    fn held(&mut self, opened: &[Reached], right: Run) -> Option<Reached> {
+        let mut totals = Vec::new();
+        for Reached { term, distance } in opened {
+            let results = self.results(term).iter();
+            let results = results.filter(|(result, _)| *result == right);
+            totals.extend(results.map(|(_, weight)| distance + weight));
+        }
+        let least = totals.into_iter().min();
+        let within = least.filter(|&total| total <= self.job.cost);
+        within.map(|distance| Reached {
+            term: right,
+            distance,
+        })
     }
 
     /// The path that is due: each term's parent is the first opened one from which a line makes up its distance, and
@@ -144,15 +149,12 @@ impl Known<'_> {
     }
 }
 
-fn weight(weights: &Weights, axiom: SemiringAxiom) -> usize {
-    let at = DIRECT_AXIOMS.iter().position(|law| *law == axiom);
-    weights[at.expect("it is one of the laws")]
-}
-
-fn proved_text(
+/// An answer with a path: a proved one, or one of a path in hand, which no path is lighter than this.
+fn path_text(
     equation: &EquationCandidate,
     job: &WeighJob,
     path: Vec<OwnLine>,
+    atleast: Option<usize>,
     expanded: usize,
 ) -> String {
     let (steps, laws) = (path.len(), path.iter().map(OwnLine::axiom));
@@ -160,8 +162,12 @@ fn proved_text(
     let uses: BTreeSet<SemiringAxiom> = laws.collect();
     let uses: Vec<&str> = uses.into_iter().map(SemiringAxiom::name).collect();
     let proof = own_proof(equation, path);
+    let (verdict, atleast) = match atleast {
+        None => ("proved", String::new()),
+        Some(least) => ("atmost", format!("atleast={least}\n")),
+    };
     format!(
-        "answer=proved\n{}steps={steps}\ntotal={total}\nexpanded={expanded}\nuses={}\n{}proof={proof}\n",
+        "answer={verdict}\n{}steps={steps}\ntotal={total}\n{atleast}expanded={expanded}\nuses={}\n{}proof={proof}\n",
         sides(equation),
         uses.join(","),
         readback::step_lines(&proof, equation),

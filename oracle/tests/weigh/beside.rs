@@ -35,9 +35,10 @@ fn found(job: Vec<u8>) -> Option<usize> {
     lines.map(|lines| lines.parse().expect("a number"))
 }
 
-/// Puts jobs under this weight, and steps times it, to both; says how many both prove, and how many neither.
-fn both(weight: usize, steps: usize) -> [usize; 2] {
-    let (mut proved, mut neither) = (0, 0);
+/// Puts jobs under this weight, and steps times it, to both; says how many both prove, how many neither, and how many
+/// WEIGH has in hand.
+fn both(weight: usize, steps: usize) -> [usize; 3] {
+    let (mut proved, mut neither, mut in_hand) = (0, 0, 0);
     let kinds = ["lightest", "detours", "far", "weigh-edges", "c-lightest"];
     for (_, job) in kinds.into_iter().flat_map(|kind| jobs(kind, 100)) {
         let (left, right) = job.equation.oriented();
@@ -59,26 +60,34 @@ fn both(weight: usize, steps: usize) -> [usize; 2] {
                 assert_eq!(lines, Some(steps));
                 assert_eq!(total, steps * weight);
             }
+            (Said::AtMost { total, atleast, .. }, lines) => {
+                in_hand += 1;
+                assert!(total == atleast || total == atleast + weight);
+                assert!(lines.is_some() || total > atleast);
+                assert!(lines.is_none_or(|lines| lines * weight == total));
+            }
             (Said::None { cut, .. }, lines) => {
                 neither += usize::from(lines.is_none());
                 assert!(cut || lines.is_none());
             }
         }
     }
-    [proved, neither]
+    [proved, neither, in_hand]
 }
 
 #[test]
 fn a_total_is_the_number_of_lines() {
-    let [proved, neither] = both(1, 16);
-    assert!(proved > 80 && neither > 50, "{proved} {neither}");
+    let [proved, neither, in_hand] = both(1, 16);
+    let is_many = proved > 80 && neither > 50 && in_hand > 15;
+    assert!(is_many, "{proved} {neither} {in_hand}");
 }
 
 #[test]
 fn heavier_weights_alike() {
     for (weight, steps) in [(9, 3), (5, 16), (2, 2)] {
-        let [proved, neither] = both(weight, steps);
-        assert!(proved > 80 && neither > 50, "{proved} {neither}");
+        let [proved, neither, in_hand] = both(weight, steps);
+        let is_many = proved > 80 && neither > 50 && in_hand > 8;
+        assert!(is_many, "{proved} {neither} {in_hand}");
     }
 }
 
@@ -93,7 +102,7 @@ fn no_direct_match_is_tried() {
         }
         let given = plain::answer(call.entry, &call.job, usize::MAX, usize::MAX);
         match said(&given.expect("a good job")) {
-            Said::Proved { expanded, .. } => {
+            Said::Proved { expanded, .. } | Said::AtMost { expanded, .. } => {
                 proved += 1;
                 assert!(expanded > 0);
             }

@@ -4,7 +4,7 @@ use oracle::plain::line::{Line, keeps, lines};
 use oracle::plain::search::{Step, direct};
 use oracle::plain::term::Term;
 use oracle::plain::weigh::job::WeighJob;
-use oracle::plain::weigh::search::Weighed;
+use oracle::plain::weigh::search::{End, Weighed};
 use oracle::plain::weigh::text;
 
 #[derive(Clone, Copy, Debug, Eq, PartialEq)]
@@ -42,7 +42,32 @@ pub enum Fault {
     LeftLimited,
     /// `cut` by expanded and nodes alone.
     CutByNodes,
+    /// A none where nodes run out, though right is noted.
+    NoneInHand,
+    /// The path in hand is called proved.
+    ProvedInHand,
+    /// The path that was noted first is in hand at last.
+    FirstInHand,
+    /// `atleast` is the largest total of an opened term.
+    LeastOpened,
+    /// `atleast` is right's own total.
+    LeastOfRight,
+    /// `atleast` is the least of those that wait behind the next.
+    LeastBehind,
+    /// The total is what no path is lighter than.
+    TotalAtLeast,
 }
+
+/// Those of a path in hand.
+pub const IN_HAND: [Fault; 7] = [
+    Fault::NoneInHand,
+    Fault::ProvedInHand,
+    Fault::FirstInHand,
+    Fault::LeastOpened,
+    Fault::LeastOfRight,
+    Fault::LeastBehind,
+    Fault::TotalAtLeast,
+];
 
 pub const FAULTS: [Fault; 16] = [
     Fault::FewestLines,
@@ -82,7 +107,8 @@ pub fn answered(job: &WeighJob, fault: Fault) -> String {
     let (left, right) = job.equation.oriented();
     if let (Fault::DirectMatch, Some(step)) = (fault, direct(left, right)) {
         let total = job.weights[step.line.law];
-        return told(job, Some((vec![step], total)), 0, 0, false);
+        let path = vec![step];
+        return told(job, End::Proved { path, total }, 0, 0, false);
     }
     let entry = Entry {
         term: left.clone(),
@@ -100,15 +126,9 @@ pub fn answered(job: &WeighJob, fault: Fault) -> String {
     search.run(right)
 }
 
-fn told(
-    job: &WeighJob,
-    path: Option<(Vec<Step>, usize)>,
-    expanded: usize,
-    noted: usize,
-    waits: bool,
-) -> String {
+fn told(job: &WeighJob, end: End, expanded: usize, noted: usize, waits: bool) -> String {
     let weighed = Weighed {
-        path,
+        end,
         expanded,
         noted,
         waits,
@@ -129,7 +149,7 @@ impl Search<'_> {
                 _ => next.filter(|_| is_due),
             };
             let Some(at) = next.filter(|_| arrived.is_none() && !is_at_limit) else {
-                return self.ended(arrived, expanded, next.is_some());
+                return self.ended(arrived, expanded, next);
             };
             expanded += 1;
             self.open(at, right);
@@ -157,14 +177,51 @@ impl Search<'_> {
         waiting.max_by_key(last)
     }
 
-    fn ended(&self, arrived: Option<usize>, expanded: usize, waits: bool) -> String {
-        let path = arrived.map(|at| (self.path(at), self.entries[at].total));
+    fn ended(&self, arrived: Option<usize>, expanded: usize, next: Option<usize>) -> String {
+        let end = match (arrived, next) {
+            (Some(at), _) => End::Proved {
+                path: self.path(at),
+                total: self.entries[at].total,
+            },
+            (None, Some(next)) => self.in_hand(next),
+            (None, None) => End::None,
+        };
         let more = usize::from(self.fault == Fault::RightCounted && arrived.is_some());
         let waits = match self.fault {
             Fault::CutByNodes => expanded == self.job.limits.nodes,
-            _ => waits,
+            _ => next.is_some(),
         };
-        told(self.job, path, expanded + more, self.entries.len(), waits)
+        told(self.job, end, expanded + more, self.entries.len(), waits)
+    }
+
+    /// How it ends where nodes have run out and this entry would be opened next.
+    fn in_hand(&self, next: usize) -> End {
+        let (_, right) = self.job.equation.oriented();
+        let held = self.entries.iter().position(|entry| entry.term == *right);
+        let Some(held) = held.filter(|_| self.fault != Fault::NoneInHand) else {
+            return End::None;
+        };
+        let path = self.path(held);
+        let total = self.entries[held].total;
+        let least = self.entries[next].total;
+        let entries = self.entries.iter();
+        let opened = entries.clone().filter(|entry| entry.is_opened);
+        let next = &self.entries[next].term;
+        let behind = entries.filter(|entry| !entry.is_opened && entry.term != *next);
+        let [opened, behind] = [opened.map(total_of).max(), behind.map(total_of).min()];
+        let (total, atleast) = match self.fault {
+            Fault::ProvedInHand => return End::Proved { path, total },
+            Fault::LeastOpened => (total, opened.unwrap_or(0)),
+            Fault::LeastOfRight => (total, total),
+            Fault::LeastBehind => (total, behind.unwrap_or(total)),
+            Fault::TotalAtLeast => (least, least),
+            _ => (total, least),
+        };
+        End::AtMost {
+            path,
+            total,
+            atleast,
+        }
     }
 
     fn open(&mut self, parent: usize, right: &Term) {
@@ -205,7 +262,13 @@ impl Search<'_> {
         let mut former = self.entries.iter_mut();
         match former.find(|former| former.term == entry.term) {
             None => self.entries.push(entry),
-            Some(former) => lower(self.fault, former, entry),
+            Some(former) => {
+                let (_, right) = self.job.equation.oriented();
+                let is_kept = self.fault == Fault::FirstInHand && entry.term == *right;
+                if !is_kept {
+                    lower(self.fault, former, entry);
+                }
+            }
         }
     }
 
@@ -222,6 +285,10 @@ impl Search<'_> {
         steps.reverse();
         steps
     }
+}
+
+fn total_of(entry: &Entry) -> usize {
+    entry.total
 }
 
 /// What becomes of a noted term to which another line leads.

@@ -46,7 +46,7 @@ fn detours_are_taken() {
     let mut longer = 0;
     for (_, job) in jobs("detours", 200) {
         let weighed = weigh(&job, usize::MAX).expect("slots enough");
-        let Some((path, _)) = weighed.path else {
+        let Some((path, _)) = weighed.proved() else {
             continue;
         };
         let fewest = fewest(&job).expect("FIND has a path too");
@@ -77,8 +77,8 @@ fn the_ranges_are_met() {
         for (_, job) in jobs(kind, 300) {
             costs.insert(job.cost);
             weights.extend(job.weights);
-            let path = weigh(&job, usize::MAX).expect("slots enough").path;
-            most = most.max(path.map_or(0, |(_, total)| total));
+            let weighed = weigh(&job, usize::MAX).expect("slots enough");
+            most = most.max(weighed.proved().map_or(0, |(_, total)| total));
         }
     }
     assert_eq!(weights, (1..=9).collect());
@@ -86,7 +86,7 @@ fn the_ranges_are_met() {
         (costs.first(), costs.last()),
         (Some(&0), Some(&(MOST_COST as usize)))
     );
-    assert!(costs.len() > 60 && most > 40, "{} {most}", costs.len());
+    assert!(costs.len() > 60 && most > 30, "{} {most}", costs.len());
 }
 
 /// Nodes one fewer than the terms within cost: cut; as many or one more: not cut.

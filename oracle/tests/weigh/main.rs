@@ -3,6 +3,7 @@
 
 mod beside;
 mod faulty;
+mod hand;
 mod kinds;
 mod reached;
 mod read;

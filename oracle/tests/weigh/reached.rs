@@ -52,12 +52,31 @@ fn hold(job: &WeighJob, text: &[u8], distances: &HashMap<Term, usize>) -> Said {
                 let at = (**distance, (*term).clone());
                 at < due
             });
+            let weights = weights(job, text);
             assert_eq!((total, expanded), (due.0, before.count()));
             assert!(expanded <= nodes);
-            assert_eq!(weight(job, text, steps), total);
+            assert_eq!((weights.len(), weights.iter().sum()), (steps, total));
+        }
+        Said::AtMost {
+            total,
+            atleast,
+            expanded,
+            steps,
+        } => {
+            let (opened, next) = opened(job, distances);
+            let weights = weights(job, text);
+            assert_eq!(expanded, nodes);
+            assert_eq!(Some(atleast), next);
+            assert!(atleast <= distances[right] && distances[right] <= total);
+            assert!(!opened.contains(&right));
+            assert_eq!(Some(total), held(job, distances, &opened));
+            assert!(total - atleast <= *weights.last().expect("a line"));
+            assert_eq!((weights.len(), weights.iter().sum()), (steps, total));
         }
         Said::None { expanded, .. } => {
             assert_eq!(expanded, nodes.min(distances.len()));
+            let (opened, _) = opened(job, distances);
+            assert_eq!(held(job, distances, &opened), None);
             if expanded < nodes {
                 assert!(!distances.contains_key(right));
             }
@@ -66,22 +85,44 @@ fn hold(job: &WeighJob, text: &[u8], distances: &HashMap<Term, usize>) -> Said {
     given
 }
 
-/// The sum of the weights of a path's lines.
-fn weight(job: &WeighJob, text: &[u8], steps: usize) -> usize {
+/// The terms opened where right does not come up, and how far off the next one is.
+fn opened<'a>(
+    job: &WeighJob,
+    distances: &'a HashMap<Term, usize>,
+) -> (Vec<&'a Term>, Option<usize>) {
+    let mut order: Vec<(usize, &Term)> = distances.iter().map(|(term, &at)| (at, term)).collect();
+    order.sort_unstable();
+    let next = order.get(job.limits.nodes).map(|(distance, _)| *distance);
+    let terms = order.into_iter().map(|(_, term)| term);
+    (terms.take(job.limits.nodes).collect(), next)
+}
+
+/// The least weight within cost of a path to right whose last line is from one of these.
+fn held(job: &WeighJob, distances: &HashMap<Term, usize>, opened: &[&Term]) -> Option<usize> {
+    let (_, right) = job.equation.oriented();
+    let totals = opened.iter().flat_map(|&term| {
+        let found = lines(term).into_iter();
+        let found = found.filter(|(_, result)| result == right && keeps(result, &job.limits));
+        found.map(|(line, _)| distances[term] + job.weights[line.law])
+    });
+    totals.filter(|&total| total <= job.cost).min()
+}
+
+/// The weights of a path's lines.
+fn weights(job: &WeighJob, text: &[u8]) -> Vec<usize> {
     let [derivation] = &derivations(text)[..] else {
         panic!("one path");
     };
     let derivation = Derivation::read(derivation.as_bytes()).expect("its lines are read");
-    assert_eq!(derivation.steps.len(), steps);
     let lines = derivation.steps.iter();
-    lines.map(|line| job.weights[line.law]).sum()
+    lines.map(|line| job.weights[line.law]).collect()
 }
 
 /// Each path has its least weight, and every other claim holds that distances decide. Of those that lines lead to
 /// within cost there are few enough in most of these jobs.
 #[test]
 fn every_term_within_cost_is_looked_at() {
-    let (mut proved, mut none, mut cut, mut beyond) = (0, 0, 0, 0);
+    let (mut proved, mut in_hand, mut none, mut cut, mut beyond) = (0, 0, 0, 0, 0);
     for kind in [
         "lightest",
         "detours",
@@ -89,6 +130,9 @@ fn every_term_within_cost_is_looked_at() {
         "reach",
         "weigh-edges",
         "c-reach",
+        "in-hand",
+        "replaced",
+        "hand-far",
     ] {
         for (_, job) in jobs(kind, 120) {
             let Some(distances) = distances(&job, 1_500) else {
@@ -99,6 +143,10 @@ fn every_term_within_cost_is_looked_at() {
             let given = hold(&job, &block.text, &distances);
             match given {
                 Said::Proved { .. } => proved += 1,
+                Said::AtMost { expanded, .. } => {
+                    assert!(expanded < block.noted);
+                    in_hand += 1;
+                }
                 Said::None {
                     expanded,
                     cut: is_cut,
@@ -113,8 +161,8 @@ fn every_term_within_cost_is_looked_at() {
             }
         }
     }
-    let counts = [proved, none, cut, beyond];
-    assert!(counts[..3].iter().all(|&count| count > 60), "{counts:?}");
+    let counts = [proved, in_hand, none, cut, beyond];
+    assert!(counts[..4].iter().all(|&count| count > 60), "{counts:?}");
 }
 
 /// With as many slots as terms are noted there is the whole answer, with one fewer there is none.

@@ -4,7 +4,7 @@ use oracle::cases::cases;
 use oracle::plain::weigh::job::WeighJob;
 use oracle::{About, Call, Entry, checked};
 
-use super::faulty::{FAULTS, Fault, answered};
+use super::faulty::{FAULTS, Fault, IN_HAND, answered};
 use super::{ONES, answer, jobs, weigh};
 
 /// Whether a text is told as a wrong answer to a call.
@@ -23,13 +23,15 @@ fn many() -> Vec<(Call, WeighJob)> {
         ("reach", 60),
         ("weigh-edges", 150),
         ("c-detours", 30),
+        ("in-hand", 60),
+        ("replaced", 60),
     ];
     let made = kinds
         .into_iter()
         .flat_map(|(kind, count)| jobs(kind, count));
     let is_short = |job: &WeighJob| job.limits.nodes * job.limits.size <= 3_000;
     let made = made.filter(|(_, job)| is_short(job));
-    let cases = cases(&[About::Weigh]).into_iter();
+    let cases = cases(&[About::Weigh, About::AtMost]).into_iter();
     let cases = cases.filter(|case| case.call.entry == Entry::Weigh);
     let cases = cases.filter_map(|case| {
         let job = WeighJob::read(&case.call.job).ok()?;
@@ -50,7 +52,7 @@ fn answers_with_a_fault_are_told() {
             text
         })
         .collect();
-    for fault in FAULTS {
+    for fault in FAULTS.into_iter().chain(IN_HAND) {
         let mut shown = 0;
         for ((call, job), right) in all.iter().zip(&right) {
             let text = answered(job, fault);
@@ -118,9 +120,43 @@ fn wrong_proved_answers_are_told() {
 }
 
 #[test]
+fn wrong_paths_in_hand_are_told() {
+    let call = weigh(["v0", "+ v0 0", "9", "3", "1", "1", "1 1 9 1 1 1 1 1 1 1"]);
+    let right = right(&call);
+    let exchanges = [
+        ("answer=atmost", "answer=proved"),
+        ("answer=atmost", "answer=none"),
+        ("total=9", "total=1"),
+        ("total=9", "total=8"),
+        ("atleast=1", "atleast=0"),
+        ("atleast=1", "atleast=9"),
+        ("atleast=1", "atleast=2"),
+        ("atleast=1\n", ""),
+        ("atleast=1\n", "atleast=1\natleast=1\n"),
+        ("total=9\natleast=1", "atleast=1\ntotal=9"),
+        ("atleast=1\nexpanded=1", "expanded=1\natleast=1"),
+        ("expanded=1", "expanded=0"),
+        ("expanded=1\n", "expanded=1\ncut=yes\n"),
+        ("at=.", "at=l"),
+    ];
+    for (old, new) in exchanges {
+        exchanged_is_told(&call, &right, old, new);
+    }
+    let lines: Vec<&str> = right.split_inclusive('\n').collect();
+    for at in 0..lines.len() {
+        let mut others = lines.clone();
+        others.remove(at);
+        assert!(told(&call, &others.concat()), "without line {at}");
+    }
+    let none = "answer=none\nleft=v0\nright=+ v0 0\nexpanded=1\ncut=yes\n";
+    assert!(told(&call, none));
+}
+
+#[test]
 fn wrong_nones_are_told() {
     let uncut = weigh(["v0", "+ 0 v0", "1", "7", "3", "1000", ONES]);
     let cut = weigh(["v0", "+ 0 v0", "3", "7", "3", "1", ONES]);
+    assert!(told(&cut, &right(&cut).replace("none", "atmost")));
     for (call, expanded, is_cut) in [(uncut, 4, "no"), (cut, 1, "yes")] {
         let right = right(&call);
         assert!(

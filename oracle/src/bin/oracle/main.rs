@@ -19,7 +19,7 @@ oracle answer ENTRY [--slots N] [--room N] [--number]
     Reads one job, or one derivation, on standard input and prints what the call gives, or the refusal.
     ENTRY is find, words, rename, check, same or weigh. 400 slots and 32768 bytes of room unless said.
     --number prints the number that the call returns instead.
-oracle cases [--one] [--many] [--check] [--fixed] [--same] [--weigh] [--catalogue] [--list]
+oracle cases [--one] [--many] [--check] [--fixed] [--same] [--weigh] [--atmost] [--catalogue] [--list]
     Runs the documents' cases; or writes them as `oracle list` does, of the catalogue those on its whole buffer.
 oracle generate OPTIONS
     Writes calls: a line `entry slots room job_length`, then the job's bytes.
@@ -38,13 +38,13 @@ oracle names [--seed S] [--first N] [--count N] [--fixed] [--plain]
     implementations, holds the lines to what a shared name means and prints counts. --fixed draws c letters too.
 
 OPTIONS: --seed S (default 1), --count N (default 1000), --kind K (default all, mixed),
-    --one, --many, --check, --fixed, --same, --weigh (only kinds for one right side, for several, for CHECK, with
-    c letters, for SAME, for WEIGH; or all that are named),
+    --one, --many, --check, --fixed, --same, --weigh, --atmost (only kinds for one right side, for several, for
+    CHECK, with c letters, for SAME, for WEIGH, for WEIGH with a path in hand; or all that are named),
     --light (no heavy calls), --max-slots N, --max-room N (larger buffers are drawn as this), --max-job N (longer texts are cut).
 Entries in records: 1 find, 2 words, 3 rename, 4 check, 5 put, 6 withdraw, 7 same, 8 weigh. Number: 0, or the
     refusal's; of put and withdraw what is returned.
 
-Kinds, with their share in 3,500; of plays with their shares in 1,000 while the catalogue fills, in the mixed phase
+Kinds, with their share in 3,650; of plays with their shares in 1,000 while the catalogue fills, in the mixed phase
 and while it is drained; of pairs for names with their share in 1,000, without and with c letters:
 ";
 
@@ -88,23 +88,24 @@ fn help() -> String {
             About::Fixed => "fixed",
             About::Same => "same",
             About::Weigh => "weigh",
+            About::AtMost => "atmost",
         };
         format!(
-            "    {about:5} {:11} {:4}  {}\n",
+            "    {about:6} {:11} {:4}  {}\n",
             kind.name, kind.share, kind.what
         )
     });
     let of_plays = PLAY_KINDS.iter().map(|kind| {
         let [fill, mix, drain] = kind.shares;
         format!(
-            "    play  {:11} {fill:3} {mix:3} {drain:3}  {}\n",
+            "    play   {:11} {fill:3} {mix:3} {drain:3}  {}\n",
             kind.name, kind.what
         )
     });
     let of_pairs = PAIR_KINDS.iter().map(|kind| {
         let [without, with] = kind.shares;
         format!(
-            "    pair  {:11} {without:3} {with:3}  {}\n",
+            "    pair   {:11} {without:3} {with:3}  {}\n",
             kind.name, kind.what
         )
     });

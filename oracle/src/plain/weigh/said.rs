@@ -10,6 +10,12 @@ pub enum Said {
         total: usize,
         expanded: usize,
     },
+    AtMost {
+        steps: usize,
+        total: usize,
+        atleast: usize,
+        expanded: usize,
+    },
     None {
         expanded: usize,
         cut: bool,
@@ -19,8 +25,31 @@ pub enum Said {
 impl Said {
     pub fn expanded(&self) -> usize {
         match *self {
-            Said::Proved { expanded, .. } | Said::None { expanded, .. } => expanded,
+            Said::Proved { expanded, .. }
+            | Said::AtMost { expanded, .. }
+            | Said::None { expanded, .. } => expanded,
         }
+    }
+
+    /// The lines of the path, if there is one.
+    pub fn steps(&self) -> Option<usize> {
+        match *self {
+            Said::Proved { steps, .. } | Said::AtMost { steps, .. } => Some(steps),
+            Said::None { .. } => None,
+        }
+    }
+
+    /// What they weigh in all.
+    pub fn total(&self) -> Option<usize> {
+        match *self {
+            Said::Proved { total, .. } | Said::AtMost { total, .. } => Some(total),
+            Said::None { .. } => None,
+        }
+    }
+
+    /// Whether nodes ran out.
+    pub fn ran_out(&self) -> bool {
+        matches!(self, Said::AtMost { .. } | Said::None { cut: true, .. })
     }
 }
 
@@ -28,20 +57,30 @@ impl Said {
 pub fn said(answer: &[u8]) -> Said {
     let mut rest = answer;
     let mut value = |key| line(&mut rest, key).unwrap_or_else(|| panic!("WEIGH prints {key}"));
-    let is_proved = match value("answer=") {
-        b"proved" => true,
-        b"none" => false,
-        other => panic!("WEIGH says proved or none, not {other:?}"),
-    };
+    let verdict = value("answer=");
     let [_left, _right] = ["left=", "right="].map(&mut value);
     let mut counted = |key| number(value(key)).expect("a number") as usize;
-    if is_proved {
-        let [steps, total, expanded] = ["steps=", "total=", "expanded="].map(&mut counted);
-        return Said::Proved {
-            steps,
-            total,
-            expanded,
-        };
+    match verdict {
+        b"proved" => {
+            let [steps, total, expanded] = ["steps=", "total=", "expanded="].map(counted);
+            return Said::Proved {
+                steps,
+                total,
+                expanded,
+            };
+        }
+        b"atmost" => {
+            let keys = ["steps=", "total=", "atleast=", "expanded="];
+            let [steps, total, atleast, expanded] = keys.map(counted);
+            return Said::AtMost {
+                steps,
+                total,
+                atleast,
+                expanded,
+            };
+        }
+        b"none" => {}
+        other => panic!("WEIGH says proved, atmost or none, not {other:?}"),
     }
     let expanded = counted("expanded=");
     let cut = match value("cut=") {

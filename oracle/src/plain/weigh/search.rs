@@ -10,13 +10,39 @@ use crate::plain::term::Term;
 
 #[derive(Clone, Debug)]
 pub struct Weighed {
-    /// The path, if one was found, and its total.
-    pub path: Option<(Vec<Step>, usize)>,
+    pub end: End,
     pub expanded: usize,
     /// How many terms were noted.
     pub noted: usize,
     /// Whether a noted term was left unopened.
     pub waits: bool,
+}
+
+/// How a search ends.
+#[derive(Clone, Debug)]
+pub enum End {
+    /// Right came up.
+    Proved {
+        path: Vec<Step>,
+        total: usize,
+    },
+    /// Nodes ran out with right noted: the path held for it, and the smallest total among noted, unopened terms.
+    AtMost {
+        path: Vec<Step>,
+        total: usize,
+        atleast: usize,
+    },
+    None,
+}
+
+impl Weighed {
+    /// The path of a proved answer, and its total.
+    pub fn proved(&self) -> Option<(&[Step], usize)> {
+        match &self.end {
+            End::Proved { path, total } => Some((path, *total)),
+            End::AtMost { .. } | End::None => None,
+        }
+    }
 }
 
 /// A noted term's total, and the parent and the line on it; none for the start.
@@ -38,23 +64,48 @@ pub fn weigh(job: &WeighJob, slots: usize) -> Option<Weighed> {
     let mut noted = Noted::starting_at(left);
     let mut expanded = 0;
     while noted.entries.len() <= slots {
-        let path = match noted.waiting.first() {
-            Some((total, next)) if next == right => Some((noted.path(right), *total)),
+        let end = match noted.waiting.first() {
+            Some(&(total, ref next)) if next == right => End::Proved {
+                path: noted.path(right),
+                total,
+            },
             Some(_) if expanded < job.limits.nodes => {
                 expanded += 1;
                 noted.open_first(job);
                 continue;
             }
-            _ => None,
+            Some(&(least, _)) => noted.in_hand(right, least),
+            None => End::None,
         };
         return Some(Weighed {
-            path,
+            end,
             expanded,
             noted: noted.entries.len(),
             waits: !noted.waiting.is_empty(),
         });
     }
     None
+}
+
+/// After how many opened terms right is noted, and after how many its path is replaced.
+pub fn moments(job: &WeighJob) -> Vec<usize> {
+    let (left, right) = job.equation.oriented();
+    let mut noted = Noted::starting_at(left);
+    let mut moments = Vec::new();
+    let mut held = None;
+    for opened in 1..=job.limits.nodes {
+        let next = noted.waiting.first();
+        if next.is_none_or(|(_, next)| next == right) {
+            break;
+        }
+        noted.open_first(job);
+        let former = held;
+        held = noted.entries.get(right).map(|entry| entry.total);
+        if held != former {
+            moments.push(opened);
+        }
+    }
+    moments
 }
 
 impl Noted {
@@ -98,6 +149,18 @@ impl Noted {
         self.waiting.insert((total, term.clone()));
         let origin = Some((parent.clone(), line));
         self.entries.insert(term, Entry { total, origin });
+    }
+
+    /// How a search ends for which nodes have run out; the least total waits.
+    fn in_hand(&self, right: &Term, least: usize) -> End {
+        let Some(entry) = self.entries.get(right) else {
+            return End::None;
+        };
+        End::AtMost {
+            path: self.path(right),
+            total: entry.total,
+            atleast: least,
+        }
     }
 
     /// The path to a noted term.
