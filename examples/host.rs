@@ -3,6 +3,10 @@
 //! the FILE `-` is standard input.
 //! Prints the answer, or `answer=refused` and `number=N`. Status 1: the answer could not be written;
 //! 2: wrong arguments, or the text could not be read.
+//!
+//! A host that swaps plans goes by the line `answer=` of an answer of weigh, or of each block of one of find.
+//! `answer=proved` and, of weigh, `answer=atmost` have a derivation from left to right, with its proof: the plans are
+//! equal and may be swapped. Of an atmost a lighter one may exist. By any other such line nothing may be swapped.
 
 use std::ffi::OsStr;
 use std::fs::File;

@@ -60,8 +60,8 @@
  * its place of the term that it leads on from, with the stated result. zero_mul and mul_zero forward may bring
  * in any term. Left and right are taken as written, in either order, and may be the same term; no limit of a
  * job plays a part, nor whether a shorter derivation exists. The left, right and step lines of every block of
- * puvainy_find that says `answer=proved` are such a text, and it is good; so are those of such an answer of
- * puvainy_weigh, if they have at most 8,192 bytes.
+ * puvainy_find that says `answer=proved` are such a text, and it is good; so are those of an answer of
+ * puvainy_weigh that says `answer=proved` or `answer=atmost`, if they have at most 8,192 bytes.
  *
  * A catalogue holds up to 64 equations, each under a number of its own from 1 to 999, and the count of the
  * kinds that they are. It is a buffer of exactly 346,113 numbers (PUVAINY_CATALOGUE); one that is all zeros is
@@ -130,7 +130,7 @@
  *                The longest stored one, that to call 4 of examples/deep.calls, has 1,594,509 bytes in
  *                sixteen blocks. After 8 call again with more room or with fewer right sides. One of
  *                puvainy_weigh, with up to 99 lines, has some 3 MB at the very most (an estimate); the
- *                longest stored one, of 62 lines, has 147,487 bytes.
+ *                longest stored one, of 62 lines in hand, has 147,498 bytes.
  *
  *     workspace  1 to 6, 9, 10 and 16 leave it untouched. After any other return its contents are free,
  *                and no later answer depends on them: it need not be cleared.
@@ -164,10 +164,11 @@
  * 40,000 for puvainy_check, 190,000 for puvainy_put, 20,000 for puvainy_withdraw, 90,000 for puvainy_same and
  * 48,000 for puvainy_weigh on x86-64 (the macros below). That is more than the frames of the deepest calls take
  * together, with a path of 16 lines, of puvainy_weigh 99, and terms 15 deep. puvainy_check takes 35,032 bytes, for
- * one line as for a text of 8,182 bytes. puvainy_weigh takes 176 bytes for each line of its path: 31,520 in all for
- * 62 lines, the longest stored, so 39,824 for 99 of which the first is 15 deep. Either takes some 2,200 more where the
- * names of memcpy and memset are bound in that call. The gate makes the calls of examples/deep.calls on stacks of just
- * these figures (examples/stack.c). A thread with 256 KiB has enough.
+ * one line as for a text of 8,182 bytes. puvainy_weigh takes 176 bytes for each line of its path, proved or in hand:
+ * 35,552 in all for 62 lines, the longest stored of either, so 43,856 for 99 of which the first is 15 deep.
+ * puvainy_check and puvainy_weigh take some 2,200 more where the names of memcpy and memset are bound in that call. The
+ * gate makes the calls of examples/deep.calls on stacks of just these figures (examples/stack.c). A thread with 256 KiB
+ * has enough.
  */
 #ifndef PUVAINY_H
 #define PUVAINY_H
@@ -261,16 +262,29 @@ size_t puvainy_withdraw(const uint8_t *text, size_t text_len,
 size_t puvainy_same(const uint8_t *job, size_t job_len,
                     uint8_t *output, size_t output_len);
 
-/* A lightest chain of lines from the smaller side to the larger, with its proof text, or that there is none within the
- * cost and the limits. Of all chains of the lines that puvainy_find searches, within size and depth, none weighs less;
- * there may be one with fewer lines. No law is tried on the whole equation before the search.
+/* A lightest chain of lines from the smaller side to the larger, with its proof text; or the one in hand where nodes
+ * ran out; or that there is none within the cost and the limits. Of all chains of the lines that puvainy_find searches,
+ * within size and depth, none weighs less than a proved one; there may be one with fewer lines. No law is tried on the
+ * whole equation before the search.
  *
  * A proved answer has the lines `answer=proved`, `left=`, `right=`, `steps=`, how many lines the chain has, at most 99,
  * `total=`, what they weigh together, `expanded=`, how many terms were opened, `uses=`, one `step=` for each line, and
- * `proof=`: those of puvainy_find, and total behind steps. A none has `answer=none`, `left=`, `right=`, `expanded=` and
- * `cut=`. It ends with `cut=yes` where nodes ran out with a term still to open: nothing is settled, and more nodes lead
- * on. It ends with `cut=no` where every term that cost, size and depth allow was opened: each such chain weighs more
- * than cost. A larger cost and more nodes find none lighter than one that is proved, and may need more slots. */
+ * `proof=`: those of puvainy_find, and total behind steps. A larger cost and more nodes find none lighter, and may need
+ * more slots.
+ *
+ * Where nodes run out with right already noted, the answer is the chain by which right is noted then: `answer=atmost`,
+ * and behind total a line `atleast=`; all other lines are those of a proved answer, and expanded is nodes. No such
+ * chain weighs less than atleast, which is at most total: the one in hand is heavier than a lightest by no more than
+ * their difference, and where that is 0 it is a lightest. With more nodes the answer is an atmost or a proved one, of a
+ * chain that weighs no more than total and no less than atleast. So the difference is what more nodes can still gain;
+ * slots enough for the terms that come up are needed for that, else the job is refused by 7.
+ *
+ * A host that swaps plans may do so by `answer=proved` and by `answer=atmost` alike. Either has a proof text, by which
+ * both sides are equal; only, where total is above atleast, a chain lighter than that of an atmost may exist.
+ *
+ * A none has `answer=none`, `left=`, `right=`, `expanded=` and `cut=`; right was never noted. It ends with `cut=yes`
+ * where nodes ran out with a term still to open: nothing is settled, and more nodes lead on. It ends with `cut=no`
+ * where every term that cost, size and depth allow was opened: each such chain weighs more than cost. */
 size_t puvainy_weigh(const uint8_t *job, size_t job_len,
                      uint8_t *output, size_t output_len,
                      uint32_t *workspace, size_t workspace_len);
