@@ -1,14 +1,14 @@
-//! What is said of an answer: of a none, and of blocks that are nones or refused.
+//! What is said of an answer: of a none or a derivation in hand, and of blocks that are nones or refused.
 
 use puvainy::MOST_SLOTS;
 
-use super::Asking;
 use super::blocks::Block;
+use super::wide::wide;
+use super::{Asking, hand};
 use crate::failure::{counted, joined};
 use crate::job::Job;
 use crate::names::Names;
 use crate::refusals::{self, Fault, Found, JOBS};
-use crate::term::Term;
 
 /// What is said of a none, by its last line; the guide shows the same.
 struct Advice {
@@ -38,7 +38,7 @@ const ADVICE: [Advice; 2] = [
 /// The refusal that a block may be.
 const FULL: usize = 7;
 
-/// The sentences on the answer to the job: none where every block is a derivation.
+/// The sentences on the answer to the job: none where every block is a proved derivation.
 pub fn sentences(name: &str, job: &Job, blocks: &[Block], asking: &Asking) -> Vec<String> {
     if let ([block], false) = (blocks, job.has_several()) {
         return of_one(name, job, block, &asking.names);
@@ -66,15 +66,12 @@ pub fn too_few(fault: Fault, slots: usize) -> Found {
 
 /// What is said of the only block: its sides are shown as they are oriented.
 fn of_one(name: &str, job: &Job, block: &Block, names: &Names) -> Vec<String> {
-    let mut said = Vec::new();
-    if !block.is_none() {
-        return said;
-    }
-    for advice in ADVICE {
-        if advice.is_for(block) {
-            said.push(format!("{name}: {}", advice.sentence(job, &[1])));
-        }
-    }
+    let advice = ADVICE.iter().find(|advice| advice.is_for(block));
+    let none = advice.map(|advice| advice.sentence(job, &[1]));
+    let Some(told) = none.or_else(|| hand::sentence(job, block)) else {
+        return Vec::new();
+    };
+    let mut said = vec![format!("{name}: {told}")];
     for (key, side) in block.values() {
         if let "left" | "right" = key {
             said.extend(names.side(key, side));
@@ -144,30 +141,6 @@ impl Advice {
         };
         format!("no limit that helps can be raised: {narrow}{ask}, or go by a plan in between")
     }
-}
-
-/// Those of size and depth in which a term within the limits can be larger than left and one of these right sides: the others, if
-/// narrowed as far as these plans allow, would leave the search as it is. A term of k signs has 2k+1 nodes and is at most k deep; one of
-/// depth d has at most 2^d-1 signs.
-fn wide(job: &Job, rights: &[usize]) -> Vec<&'static str> {
-    let sides = job.sides(|right| rights.contains(&right));
-    let terms = sides.iter().filter_map(|(_, side)| Term::read(side));
-    let terms: Vec<_> = terms.map(|term| [term.size(), term.depth()]).collect();
-    let [_, (_, size, _), (_, depth, _), _] = job.limits()[..] else {
-        return Vec::new();
-    };
-    let [left, rights @ ..] = &terms[..] else {
-        return Vec::new();
-    };
-    let signs = (size.saturating_sub(1) / 2).min((1 << depth) - 1);
-    let most = [2 * signs + 1, signs.min(depth)];
-    let is_wide = |of: usize| {
-        let is_below = |term: &[usize; 2]| term[of] < most[of];
-        is_below(left) && rights.iter().any(is_below)
-    };
-    let keys = [(0, "size"), (1, "depth")].into_iter();
-    let wide = keys.filter(|&(of, _)| is_wide(of));
-    wide.map(|(_, key)| key).collect()
 }
 
 #[cfg(test)]

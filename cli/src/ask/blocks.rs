@@ -26,8 +26,19 @@ impl<'a> Block<'a> {
         self.0[0] == "answer=none"
     }
 
+    /// Whether nodes ran out with a derivation in hand, as WEIGH says.
+    pub fn is_in_hand(&self) -> bool {
+        self.0[0] == "answer=atmost"
+    }
+
     pub fn is_refused(&self) -> bool {
         self.0[0] == "answer=refused"
+    }
+
+    /// The number in its line with that key.
+    pub fn number(&self, wanted: &str) -> Option<usize> {
+        let (_, value) = self.values().find(|(key, _)| *key == wanted)?;
+        value.parse().ok()
     }
 
     /// Whether the line is one of its lines.
@@ -42,16 +53,18 @@ mod tests {
 
     #[test]
     fn an_answer_is_cut_before_each_line_that_says_answer() {
-        let answer = b"answer=none\nleft=v0\ncut=no\nanswer=refused\nnumber=7\nanswer=proved\n";
+        let answer = b"answer=none\nleft=v0\ncut=no\nanswer=refused\nnumber=7\nanswer=proved\nanswer=atmost\n";
         let blocks = blocks(answer);
-        let kinds: Vec<_> = blocks
-            .iter()
-            .map(|b| (b.is_none(), b.is_refused()))
-            .collect();
-        assert_eq!(kinds, [(true, false), (false, true), (false, false)]);
+        let kind = |block: &Block| [block.is_none(), block.is_refused(), block.is_in_hand()];
+        let kinds: Vec<_> = blocks.iter().map(kind).collect();
+        let (yes, no) = (true, false);
+        let due = [[yes, no, no], [no, yes, no], [no, no, no], [no, no, yes]];
+        assert_eq!(kinds, due);
         assert!(blocks[0].has("cut=no") && !blocks[0].has("number=7"));
         let values: Vec<_> = blocks[1].values().collect();
         assert_eq!(values, [("answer", "refused"), ("number", "7")]);
+        let numbers = ["number", "answer", "left"].map(|key| blocks[1].number(key));
+        assert_eq!(numbers, [Some(7), None, None]);
     }
 
     #[test]

@@ -4,10 +4,12 @@ mod advice;
 mod asker;
 mod blocks;
 mod crew;
+mod hand;
 mod parting;
 mod printer;
 mod progress;
 mod told;
+mod wide;
 
 use std::io::Write;
 use std::sync::Arc;

@@ -14,7 +14,9 @@ use crate::whole::{self, in_ends, in_whole, is_number};
 
 /// The lines behind the sides, in order: the limits with their bounds, of which WEIGH's first is the cost.
 const LIMITS: [(&str, usize); 4] = [("steps", 16), ("size", 31), ("depth", 15), ("nodes", 4096)];
-const COST: (&str, usize) = ("cost", 99);
+
+/// WEIGH's cost, and the most that it may be.
+pub const COST: (&str, usize) = ("cost", 99);
 
 /// A job's text for an entry, cut after each line feed. Line 0 is left's, line K that of right side K, the limits follow, and with WEIGH
 /// the weights.

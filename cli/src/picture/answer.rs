@@ -3,6 +3,7 @@
 use puvainy::MOST_RIGHTS;
 
 use super::derivation::{Derivation, quoted};
+use super::hand;
 use crate::names::text_of;
 use crate::term::Term;
 
@@ -22,14 +23,15 @@ const SEVERAL: &str = "a second answer begins here, so the file holds several; \
 /// What a block holds.
 #[derive(Debug)]
 pub enum Block<'a> {
-    Proved(Derivation<'a>),
+    /// A derivation, proved or in hand.
+    Derived(Derivation<'a>),
     /// A none, with its sides.
     None([&'a str; 2]),
     Refused,
 }
 
 /// A value and the number of the answer's line that holds it.
-type At<'a> = (usize, &'a str);
+pub type At<'a> = (usize, &'a str);
 
 /// Reads the answer, of which a block at least is a derivation. Or says in a sentence what is wrong, where, and what to do.
 pub fn read(bytes: &[u8]) -> Result<Vec<Block<'_>>, String> {
@@ -37,15 +39,15 @@ pub fn read(bytes: &[u8]) -> Result<Vec<Block<'_>>, String> {
     let found = Found::read(text)?;
     if let [only] = &found[..] {
         if !only.is_text() {
-            only.check_proved()?;
+            only.check_derived()?;
         }
-        return Ok(vec![Block::Proved(only.derivation()?)]);
+        return Ok(vec![Block::Derived(only.derivation()?)]);
     }
     check_left(&found)?;
     let blocks = found.iter().map(Found::block);
     let blocks = blocks.collect::<Result<Vec<_>, _>>()?;
-    let is_proved = |block: &Block| matches!(block, Block::Proved(_));
-    match blocks.iter().any(is_proved) {
+    let is_derived = |block: &Block| matches!(block, Block::Derived(_));
+    match blocks.iter().any(is_derived) {
         true => Ok(blocks),
         false => Err(format!(
             "none of the answer's {} blocks is proved: there is no derivation to draw; \
@@ -84,6 +86,7 @@ struct Found<'a> {
     right: Option<At<'a>>,
     steps: Option<At<'a>>,
     total: Option<At<'a>>,
+    atleast: Option<At<'a>>,
     number: Option<At<'a>>,
     lines: Vec<At<'a>>,
 }
@@ -132,6 +135,7 @@ impl<'a> Found<'a> {
             "right" => &mut self.right,
             "steps" => &mut self.steps,
             "total" => &mut self.total,
+            "atleast" => &mut self.atleast,
             "number" => &mut self.number,
             "step" => return self.add_step(number, value),
             _ => return Ok(()),
@@ -169,18 +173,20 @@ impl<'a> Found<'a> {
                 Ok(Block::Refused)
             }
             _ => {
-                self.check_proved()?;
-                Ok(Block::Proved(self.derivation()?))
+                self.check_derived()?;
+                Ok(Block::Derived(self.derivation()?))
             }
         }
     }
 
-    fn check_proved(&self) -> Result<(), String> {
+    fn check_derived(&self) -> Result<(), String> {
         let Some((number, value)) = self.answer else {
-            return Err(format!("there is no line answer=proved; {WHOLE}"));
+            return Err(format!(
+                "there is no line answer=proved or answer=atmost; {WHOLE}"
+            ));
         };
         let why = match value {
-            "proved" => return Ok(()),
+            "proved" | "atmost" => return Ok(()),
             "none" => {
                 "a none: there is no derivation to draw; widen the job's limits and ask again"
             }
@@ -197,7 +203,13 @@ impl<'a> Found<'a> {
 
     /// Whether it is the text of a derivation: step lines, and no line that tells of an answer.
     fn is_text(&self) -> bool {
-        let told = [self.answer, self.steps, self.total, self.number];
+        let told = [
+            self.answer,
+            self.steps,
+            self.total,
+            self.atleast,
+            self.number,
+        ];
         told.iter().all(Option::is_none) && !self.lines.is_empty()
     }
 
@@ -218,7 +230,7 @@ impl<'a> Found<'a> {
         let left = self.given(self.left, "left")?;
         let right = self.given(self.right, "right")?;
         let (last, to_do) = (self.last()?, self.to_do());
-        let mut derivation = Derivation::from(self.side(left, "left")?);
+        let mut derivation = Derivation::from(self.side(left, "left")?, self.is_in_hand()?);
         self.side(right, "right")?;
         for (number, value) in &self.lines {
             derivation
@@ -231,6 +243,22 @@ impl<'a> Found<'a> {
         }
         let other = format!("line {last}: the last line leads to another term than right");
         Err(format!("{other}, which is in line {}; {to_do}", right.0))
+    }
+
+    /// Whether the derivation is one in hand, of which an atmost says more. No other answer has a line `atleast`.
+    fn is_in_hand(&self) -> Result<bool, String> {
+        match (self.answer, self.atleast) {
+            (Some((_, "atmost")), _) => {
+                let total = self.given(self.total, "total")?;
+                let atleast = self.given(self.atleast, "atleast")?;
+                hand::check(total, atleast).map_err(|why| format!("{why}; {WHOLE}"))?;
+                Ok(true)
+            }
+            (_, Some((number, _))) => Err(format!(
+                "line {number}: atleast stands in an answer=atmost alone; {WHOLE}"
+            )),
+            _ => Ok(false),
+        }
     }
 
     /// That side's text and term.

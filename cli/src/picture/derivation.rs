@@ -9,6 +9,8 @@ use crate::term::{Term, turns};
 pub struct Derivation<'a> {
     pub terms: Vec<(&'a str, Term<'a>)>,
     pub lines: Vec<Line<'a>>,
+    /// Whether it is one in hand, and not proved.
+    pub is_in_hand: bool,
 }
 
 /// A line: the law, how it is read, and the turns from the top to the place, `l` or `r` each.
@@ -21,10 +23,11 @@ pub struct Line<'a> {
 
 impl<'a> Derivation<'a> {
     /// Of no line yet.
-    pub fn from(left: (&'a str, Term<'a>)) -> Derivation<'a> {
+    pub fn from(left: (&'a str, Term<'a>), is_in_hand: bool) -> Derivation<'a> {
         Derivation {
             terms: vec![left],
             lines: Vec::new(),
+            is_in_hand,
         }
     }
 

@@ -9,6 +9,7 @@ mod arrow;
 mod boxes;
 mod card;
 mod derivation;
+mod hand;
 mod key;
 mod label;
 mod page;
@@ -93,7 +94,7 @@ impl<'a> Picture<'a> {
         let told = match &self.blocks[part] {
             Block::Refused => "refused by 7".to_owned(),
             Block::None(ends) => from_to(*ends),
-            Block::Proved(derivation) => from_to(derivation.ends()),
+            Block::Derived(derivation) => from_to(derivation.ends()),
         };
         let mut out = self.head(self.tall(page), &format!("{right}: {told}{which}"));
         self.draw_page(page, &mut out);
@@ -105,7 +106,7 @@ impl<'a> Picture<'a> {
         let pages = 1..=self.sheets.len();
         let tall: f64 = pages.clone().map(|page| self.tall(page) + GAP).sum();
         let told = match self.blocks {
-            [Block::Proved(derivation)] => from_to(derivation.ends()),
+            [Block::Derived(derivation)] => from_to(derivation.ends()),
             blocks => format!("{} right sides", blocks.len()),
         };
         let mut views = self.head(tall - GAP, &format!(": {told}"));

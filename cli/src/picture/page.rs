@@ -60,11 +60,7 @@ impl<'a> Page<'a> {
     }
 
     pub fn draw(&self, path: &Path, label: &Label, wide: f64, out: &mut Vec<String>) {
-        let shows = match path.lines() {
-            1 => "a derivation of 1 line".to_owned(),
-            lines => format!("a derivation of {lines} lines"),
-        };
-        label.draw(&shows, wide, self.tall, out);
+        label.draw(&path.shows(), wide, self.tall, out);
         let mut top = ABOVE;
         for row in &self.rows {
             path.draw_row(row, top, out);

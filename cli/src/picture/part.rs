@@ -21,7 +21,7 @@ impl<'a> Part<'a> {
     /// The block's part, of which pages are laid once the picture's width is known.
     pub fn new(block: &'a Block<'a>, names: &'a Names) -> Part<'a> {
         let shows = match block {
-            Block::Proved(derivation) => Shows::Path(Path::new(derivation, names), Vec::new()),
+            Block::Derived(derivation) => Shows::Path(Path::new(derivation, names), Vec::new()),
             Block::None(sides) => Shows::Card(Card::none(*sides)),
             Block::Refused => Shows::Card(Card::refused()),
         };

@@ -19,6 +19,7 @@ const TEXT: f64 = 62.0;
 
 pub struct Path<'a> {
     lines: &'a [Line<'a>],
+    is_in_hand: bool,
     trees: Vec<Tree<'a>>,
     arrows: Vec<Arrow>,
     /// How long a row of several trees may be.
@@ -47,14 +48,21 @@ impl<'a> Path<'a> {
         let row = if named { WIDE - 2.0 * MARGIN } else { ROW };
         Path {
             lines,
+            is_in_hand: derivation.is_in_hand,
             trees,
             arrows,
             row,
         }
     }
 
-    pub fn lines(&self) -> usize {
-        self.lines.len()
+    /// What a page's heading says of it.
+    pub fn shows(&self) -> String {
+        let lines = match self.lines.len() {
+            1 => "1 line".to_owned(),
+            lines => format!("{lines} lines"),
+        };
+        let hand = if self.is_in_hand { ", in hand" } else { "" };
+        format!("a derivation of {lines}{hand}")
     }
 
     /// The arrow that stands before a tree.

@@ -14,12 +14,13 @@ use crate::streams::{Source, print};
 pub const DRAW: Word = Word {
     name: "draw",
     usage: "[--names FILE] [--page K] ANSWER > PICTURE.svg",
-    does: "a picture of the derivation in a proved answer of find or weigh, or of those in its blocks, or of one that check takes",
+    does: "a picture of the derivation in an answer of find or weigh, proved or in hand, or of those in its blocks, or of one that check \
+           takes",
     more: "\
 ANSWER is a file that holds one answer of find or weigh, or a derivation as check takes it, or - for
 standard input. The picture goes to standard output. A long derivation is cut into pages, one below the
-other; each block of the answer has pages of its own. The derivation is drawn as the text tells it, and not
-checked.
+other; each block of the answer has pages of its own. The heading says of an answer=atmost that its
+derivation is in hand. The derivation is drawn as the text tells it, and not checked.
 
   --names FILE  lines `v0 Orders` or `c0 Prices`: tables are drawn with their names
   --page K      page K alone

@@ -37,8 +37,8 @@ pub const SAME: Word = word(
 
 pub const WEIGH: Word = word(
     "weigh",
-    "a lightest derivation from the smaller plan to the larger, by a weight for each law, or that there is none \
-     within the cost and the limits",
+    "a lightest derivation from the smaller plan to the larger, by a weight for each law, or the one in hand where nodes \
+     run out, or that there is none within the cost and the limits",
     |words| run(&WEIGH, Entry::Weigh, words),
 );
 
@@ -58,11 +58,13 @@ const USAGE: &str = "[--slots N] [--room N] [--names FILE] [FILE...]";
 const MORE: &str = "\
 A job is read from each FILE, or from standard input if none is named (or by the FILE -). The answer goes
 to standard output; of several FILEs each after a line `# FILE`, in the order given. What is wrong with a
-refused job, and what to do about it and about a none, is said on standard error; so is, by words and with
-names, the word at which the lists part. A job of find has 1 to 16 lines right=, one behind the other, and
-gets a block of the answer for each; one of words, rename, same or weigh has one such line. A job of weigh has
-a line cost= in place of steps=, and a last line weights= with a number 1 to 9 for each of the ten laws. A none
-and a no are answers: go by the lines printed, not by the exit status.
+refused job, and what to do about it, about a none and about an answer=atmost, is said on standard error; so
+is, by words and with names, the word at which the lists part. A job of find has 1 to 16 lines right=, one
+behind the other, and gets a block of the answer for each; one of words, rename, same or weigh has one such
+line. A job of weigh has a line cost= in place of steps=, and a last line weights= with a number 1 to 9 for
+each of the ten laws. By answer=atmost it gives the derivation in hand where nodes ran out: the plans are
+equal, and a lighter derivation may exist. An atmost, a none and a no are answers: go by the lines printed,
+not by the exit status.
 
   --slots N     slots for the terms that are noted, 0 to 65535 (65535 unless said); find and weigh use them
   --room N      bytes of room for an answer, 0 to 33554432 (as many as it needs unless said)

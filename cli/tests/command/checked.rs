@@ -1,6 +1,6 @@
 //! Derivations put to CHECK.
 
-use crate::common::{Gave, guide_from, puvainy, puvainy_on, shell, stored};
+use crate::common::{Gave, derivation, guide_from, puvainy, puvainy_on, shell, stored};
 
 const GOOD: &str = "answer=good\n";
 
@@ -100,13 +100,7 @@ fn what_find_proves_of_several_right_sides_is_good() {
         .filter(|block| block.starts_with("proved\n"));
     let mut count = 0;
     for block in blocks {
-        let is_kept = |line: &&str| {
-            let key = line.split('=').next();
-            matches!(key, Some("left" | "right" | "step"))
-        };
-        let lines = block.lines().filter(is_kept);
-        let text: String = lines.map(|line| format!("{line}\n")).collect();
-        let gave = puvainy_on(&["check"], text.as_bytes());
+        let gave = puvainy_on(&["check"], derivation(block).as_bytes());
         assert_eq!((gave.status, gave.printed.as_str()), (Some(0), GOOD));
         count += 1;
     }

@@ -1,19 +1,14 @@
 //! What the guide says of cost and limits of WEIGH, and of its refusals.
 
-use puvainy::{Buffers, Entry, MOST_SLOTS, Room};
+use puvainy::Entry;
 
-use crate::common::{guide_from, number, puvainy, puvainy_on, shell, steps, stored, value, with};
+use crate::common::{
+    ask, guide_from, number, puvainy, puvainy_on, shell, steps, stored, value, weigh, with,
+};
 
 /// The guide's sections about cost, limits and refusals.
 fn sections() -> String {
     guide_from("Choosing cost and limits", "WORDS")
-}
-
-/// WEIGH's answer with so many slots, or its refusal's number.
-fn weigh(slots: usize, job: &str) -> Result<String, usize> {
-    let mut buffers = Buffers::new(slots, Room::Grows);
-    let answer = buffers.ask(Entry::Weigh, job.as_bytes())?;
-    Ok(str::from_utf8(answer).expect("text").to_owned())
 }
 
 /// The cells of a row.
@@ -101,8 +96,8 @@ fn less_cost_needs_fewer_slots() {
         ["by-stock-wide", "by-stock"].map(|name| stored(&format!("{name}.weighing")));
     assert_eq!(with(&wide, "cost", 7), narrow);
     for (job, slots) in [(&wide, 1579), (&narrow, 301)] {
-        assert_eq!(weigh(slots, job), Ok(stored("by-stock.weigh")));
-        assert_eq!(weigh(slots - 1, job), Err(7));
+        assert_eq!(ask(Entry::Weigh, slots, job), Ok(stored("by-stock.weigh")));
+        assert_eq!(ask(Entry::Weigh, slots - 1, job), Err(7));
     }
     let sections = sections();
     assert!(
@@ -123,7 +118,7 @@ fn less_cost_needs_fewer_slots() {
 fn heavier_laws_for_0_and_1_make_a_shorter_search() {
     let job = with(&stored("by-stock.weighing"), "nodes", 4096);
     let light = with(&job, "weights", "1 1 1 1 1 1 1 9 1 1");
-    let [own, light] = [job, light].map(|job| weigh(MOST_SLOTS, &job).unwrap());
+    let [own, light] = [job, light].map(|job| weigh(&job));
     assert_eq!(steps(&light), steps(&own));
     assert_eq!(
         [&light, &own].map(|answer| number(answer, "expanded")),
@@ -196,16 +191,24 @@ fn refusals_have_their_order() {
     number("cost", "100", 16);
     number("weights", "1 1 3 1 3 3 1 0 2 2", 16);
     let both = with(&with(&job, "cost", 100), "nodes", 4097);
-    assert_eq!(weigh(0, &both), Err(5));
+    assert_eq!(ask(Entry::Weigh, 0, &both), Err(5));
     assert_eq!(
-        weigh(0, &with(&both, "left", "+ v0 * v1 + v2 * v3 + v4 * v5 v6")),
+        ask(
+            Entry::Weigh,
+            0,
+            &with(&both, "left", "+ v0 * v1 + v2 * v3 + v4 * v5 v6")
+        ),
         Err(4)
     );
     assert_eq!(
-        weigh(0, &with(&both, "weights", "1 1 3 1 3 3 1 9 2")),
+        ask(
+            Entry::Weigh,
+            0,
+            &with(&both, "weights", "1 1 3 1 3 3 1 9 2")
+        ),
         Err(1)
     );
-    assert_eq!(weigh(0, &stored("by-stock.weighing")), Err(7));
+    assert_eq!(ask(Entry::Weigh, 0, &stored("by-stock.weighing")), Err(7));
 }
 
 /// No job of so many bytes is accepted: it is refused for another reason.
@@ -215,6 +218,6 @@ fn the_most_bytes_are_1024() {
     let rest = with(&job, "right", "").len();
     for (bytes, due) in [(1024, 2), (1025, 1)] {
         let job = with(&job, "right", "+".repeat(bytes - rest));
-        assert_eq!((job.len(), weigh(0, &job)), (bytes, Err(due)));
+        assert_eq!((job.len(), ask(Entry::Weigh, 0, &job)), (bytes, Err(due)));
     }
 }

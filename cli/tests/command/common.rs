@@ -6,6 +6,8 @@ use std::path::{Path, PathBuf};
 use std::process::{Command, Output, Stdio};
 use std::str::Split;
 
+use puvainy::{Buffers, Entry, MOST_SLOTS, Room};
+
 /// The command.
 const PUVAINY: &str = env!("CARGO_BIN_EXE_puvainy");
 
@@ -50,6 +52,16 @@ pub fn steps(answer: &str) -> String {
     lines.map(|line| format!("{line}\n")).collect()
 }
 
+/// The three kinds of an answer's lines that CHECK takes.
+pub fn derivation(answer: &str) -> String {
+    let is_kept = |line: &&str| {
+        let key = line.split('=').next();
+        matches!(key, Some("left" | "right" | "step"))
+    };
+    let lines = answer.lines().filter(is_kept);
+    lines.map(|line| format!("{line}\n")).collect()
+}
+
 /// The two sides that a text has in the lines of these keys.
 pub fn sides<'a>(text: &'a str, keys: [&str; 2]) -> [&'a str; 2] {
     keys.map(|key| value(text, key).unwrap())
@@ -65,6 +77,15 @@ pub fn guide_from(section: &str, other: &str) -> String {
     let guide = stored("../guide.md");
     let place = |title| guide.find(&format!("\n## {title}\n")).unwrap();
     guide[place(section)..place(other)].to_owned()
+}
+
+/// The laws in the order of the guide's table.
+pub fn laws() -> Vec<String> {
+    let table = guide_from("The ten laws", "Reading a derivation");
+    let rows = table
+        .lines()
+        .filter_map(|line| line.strip_prefix("| `")?.split('`').next());
+    rows.map(str::to_owned).collect()
 }
 
 /// Every side of a job of the guide, each once.
@@ -117,6 +138,18 @@ pub fn drawn(picture: &str, row: &str) -> (String, Vec<(String, String)>) {
         }
     }
     (texts.join(" "), letters)
+}
+
+/// The entry's answer with so many slots, or its refusal's number.
+pub fn ask(entry: Entry, slots: usize, job: &str) -> Result<String, usize> {
+    let mut buffers = Buffers::new(slots, Room::Grows);
+    let answer = buffers.ask(entry, job.as_bytes())?;
+    Ok(str::from_utf8(answer).expect("text").to_owned())
+}
+
+/// WEIGH's answer with all slots.
+pub fn weigh(job: &str) -> String {
+    ask(Entry::Weigh, MOST_SLOTS, job).unwrap()
 }
 
 /// What a call gave: its status, and the texts on both streams.

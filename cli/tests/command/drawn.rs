@@ -1,6 +1,6 @@
 //! Pictures by the command.
 
-use crate::common::{Gave, puvainy, puvainy_on, stored};
+use crate::common::{Gave, puvainy, puvainy_on, shell, stored};
 
 /// The text is refused with this sentence, and nothing is drawn.
 fn refused(gave: Gave, said: &str) {
@@ -52,6 +52,29 @@ fn an_answer_of_weigh_is_drawn_as_its_derivation() {
     let none = "by-stock-cost.weigh: line 1: the answer is a none: there is no derivation to draw; \
                 widen the job's limits and ask again";
     refused(puvainy(&["draw", "by-stock-cost.weigh"]), none);
+}
+
+#[test]
+fn an_answer_with_a_derivation_in_hand_is_drawn_and_says_so() {
+    let [proved, held] =
+        ["quiet-week", "quiet-week-100"].map(|name| puvainy(&["draw", &format!("{name}.weigh")]));
+    assert_eq!((held.status, held.said.as_str()), (Some(0), ""));
+    let heading = ">quiet-week: a derivation of 3 lines<";
+    assert!(proved.printed.contains(heading));
+    let in_hand = proved.printed.replace(
+        heading,
+        ">quiet-week-100: a derivation of 3 lines, in hand<",
+    );
+    assert_eq!(
+        held.printed,
+        in_hand.replace("quiet-week:", "quiet-week-100:")
+    );
+    let lacks = shell("sed '/^atleast=/d' quiet-week-100.weigh | $P draw -");
+    let whole = "draw the whole answer as FIND or WEIGH printed it";
+    refused(
+        lacks,
+        &format!("standard input: there is no line atleast=; {whole}"),
+    );
 }
 
 #[test]
@@ -126,7 +149,7 @@ fn what_holds_no_derivation_is_refused() {
     let refusal = "refused-6.answer: line 1: the answer is a refusal: there is no derivation to draw; \
                    mend the job and ask again";
     refused(puvainy(&["draw", "refused-6.answer"]), refusal);
-    let job = "archive.job: there is no line answer=proved; draw the whole answer as FIND or WEIGH printed it";
+    let job = "archive.job: there is no line answer=proved or answer=atmost; draw the whole answer as FIND or WEIGH printed it";
     refused(puvainy(&["draw", "archive.job"]), job);
     let found = puvainy(&["find", "--slots", "0", "joins-slots.job"]);
     let full = "standard input: none of the answer's 3 blocks is proved: there is no derivation to draw; \

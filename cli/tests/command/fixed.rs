@@ -193,7 +193,7 @@ fn the_guides_table_of_puts_tells_the_kinds() {
     let puts = guide.split("| Number | Put | `key` |").nth(1).unwrap();
     let kinds = puts.lines().skip(2).map(|row| row.trim_end_matches(" |"));
     let kinds = kinds.filter_map(|row| row.rsplit_once(" | ").map(|(_, kinds)| kinds));
-    let folder = Folder::new("tables");
+    let folder = Folder::new("table-of-puts");
     let file = folder.file("training.catalogue");
     for ((number, row), kinds) in (1..).zip(&rows).zip(kinds) {
         let [put, key, left, right] = &row[..] else {

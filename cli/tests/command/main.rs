@@ -6,6 +6,8 @@ mod chosen;
 mod common;
 mod drawn;
 mod fixed;
+mod further;
+mod hand;
 mod jobs;
 mod kept;
 mod lightest;

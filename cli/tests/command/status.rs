@@ -38,13 +38,19 @@ fn an_answer_is_0_from_a_file_and_from_standard_input() {
     }
 }
 
+/// A none, and a derivation in hand, of which something is said.
 #[test]
-fn a_none_is_0() {
-    let gave = puvainy(&["find", "archive-steps.job"]);
-    assert_eq!(
-        (gave.status, gave.printed),
-        (Some(0), stored("archive-steps.answer"))
-    );
+fn a_none_and_an_atmost_are_0() {
+    for (word, file, answer) in [
+        ("find", "archive-steps.job", "archive-steps.answer"),
+        ("weigh", "by-stock-cost.weighing", "by-stock-cost.weigh"),
+        ("weigh", "quiet-week-20.weighing", "quiet-week-20.weigh"),
+        ("weigh", "quiet-week-150.weighing", "quiet-week-150.weigh"),
+    ] {
+        let gave = puvainy(&[word, file]);
+        assert_eq!((gave.status, gave.printed), (Some(0), stored(answer)));
+        assert_eq!(gave.said.lines().count(), 1, "{}", gave.said);
+    }
 }
 
 #[test]

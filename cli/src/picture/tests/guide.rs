@@ -20,27 +20,26 @@ fn names_of_other_letters_change_nothing() {
     assert_eq!(draw("archive", &answer, &names, None), without);
 }
 
-/// Each stored answer of FIND is drawn if it is proved, and its kind is told if not.
+/// Each stored answer of FIND or WEIGH is drawn if it is proved or in hand, and its kind is told if not.
 #[test]
 fn every_answer_of_the_guide_is_drawn_or_told() {
-    let mut counts = [0; 3];
+    let mut counts = [0; 4];
     for entry in fs::read_dir(guide(".")).unwrap() {
         let path = entry.unwrap().path();
-        if path
-            .extension()
-            .is_none_or(|extension| extension != "answer")
-        {
+        let ending = path.extension().unwrap_or_default();
+        if ending != "answer" && ending != "weigh" {
             continue;
         }
         let answer = fs::read(&path).unwrap();
         let kind = match draw("name", &answer, &Names::default(), None) {
+            Ok(picture) if picture.contains(", in hand") => 1,
             Ok(_) => 0,
-            Err(why) if why.starts_with("line 1: the answer is a none: ") => 1,
-            Err(why) if why.starts_with("line 1: the answer is a refusal: ") => 2,
+            Err(why) if why.starts_with("line 1: the answer is a none: ") => 2,
+            Err(why) if why.starts_with("line 1: the answer is a refusal: ") => 3,
             Err(why) => panic!("{}: {why}", path.display()),
         };
-        let heads: [&[u8]; 3] = [b"answer=proved\n", b"answer=none\n", b"answer=refused\n"];
-        assert!(answer.starts_with(heads[kind]), "{}", path.display());
+        let head = format!("answer={}\n", ["proved", "atmost", "none", "refused"][kind]);
+        assert!(answer.starts_with(head.as_bytes()), "{}", path.display());
         counts[kind] += 1;
     }
     assert!(counts.iter().all(|&count| count > 0), "{counts:?}");

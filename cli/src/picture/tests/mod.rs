@@ -3,6 +3,7 @@
 mod blocks;
 mod bounds;
 mod guide;
+mod hand;
 mod names;
 mod pages;
 mod wrong;

@@ -47,7 +47,7 @@ fn what_is_no_proved_answer_is_told() {
     assert_eq!(told(b"answer=refused\nnumber=6\n"), refused);
     let other = format!("line 1: `maybe` is no answer{WHOLE}");
     assert_eq!(told(b"answer=maybe\n"), other);
-    let words = format!("there is no line answer=proved{WHOLE}");
+    let words = format!("there is no line answer=proved or answer=atmost{WHOLE}");
     assert_eq!(told(b"same=yes\nleft=v0\nright=v0\n"), words);
     assert_eq!(
         told(b"left it\n"),
@@ -197,7 +197,7 @@ fn a_derivation_without_the_other_lines_is_drawn_too() {
     let sides = &text[..text.find("step=").unwrap()];
     assert_eq!(
         drawn(sides).unwrap_err(),
-        format!("there is no line answer=proved{WHOLE}")
+        format!("there is no line answer=proved or answer=atmost{WHOLE}")
     );
     let step = "step=add_comm forward at=. to=+ v0 v0\n";
     let long = format!("left=+ v0 v0\nright=+ v0 v0\n{}", step.repeat(200));
@@ -207,7 +207,7 @@ fn a_derivation_without_the_other_lines_is_drawn_too() {
 #[test]
 fn lines_that_are_not_known_are_passed_over() {
     let known = draw("name", right().as_bytes(), &Names::default(), None);
-    let more = right().replace("uses=", "total=3\natleast=2\nuses=");
+    let more = right().replace("uses=", "total=3\nspared=2\nuses=");
     assert_eq!(
         draw("name", more.as_bytes(), &Names::default(), None),
         known
