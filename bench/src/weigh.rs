@@ -1,4 +1,5 @@
-//! WEIGH beside FIND on the same equations, with every law weighing 1, and WEIGH with weights that differ: what an opened term costs.
+//! WEIGH beside FIND on the same equations, with every law weighing 1, and WEIGH with weights that differ: what an opened term costs. And what a path
+//! in hand costs beside a none.
 
 use std::hint::black_box;
 
@@ -34,6 +35,29 @@ const WEIGHED: [Case; 3] = [
     ("one letter", "v0", "v1", 4_096),
     ("three letters", "+ * v0 v1 * v0 v2", "* v1 + v0 v2", 2_000),
     ("29 nodes", BALANCED, "* v0 v1", 500),
+];
+
+/// What, left, a right side that is in hand where nodes run out, one that is never noted, size, depth, nodes and weights: the search is the same for
+/// both, which come behind left in term order.
+type Held = (&'static str, [&'static str; 3], [usize; 3], &'static str);
+
+const HELD: [Held; 2] = [
+    (
+        "1 line",
+        ["v0", "+ v0 0", "v1"],
+        [31, 15, 3_500],
+        "1 1 9 1 1 1 1 1 1 1",
+    ),
+    (
+        "60 lines",
+        [
+            "+ * * v0 v1 v0 * * v0 v0 * * + v0 v0 v0 * v0 + v0 1",
+            "+ * * * + v0 v0 v0 * v0 + 1 v0 * v0 v0 * v0 * v1 v0",
+            "+ * * * + v0 v0 v0 * v0 + 1 v0 * v0 v0 * v0 * v1 v1",
+        ],
+        [21, 5, 1_366],
+        ONES,
+    ),
 ];
 
 fn job((_, left, right, nodes): Case, [steps, size, depth, _]: [usize; 4]) -> Job {
@@ -75,6 +99,51 @@ pub fn rows(workspace: &mut Workspace) {
     for (what, text) in jobs() {
         alone(&what, &text, workspace);
     }
+    println!("\nours: WEIGH with a path in hand beside a none: µs a call");
+    println!(
+        "{:<38} {:>8} {:>12} {:>12} {:>8}",
+        "", "opened", "none", "in hand", "ratio"
+    );
+    for case in HELD {
+        held(case, workspace);
+    }
+}
+
+/// A path in hand beside a none that opens the same terms.
+fn held(
+    (what, [left, right, other], [size, depth, nodes], weights): Held,
+    workspace: &mut Workspace,
+) {
+    let texts = [right, other].map(|right| {
+        let limits = [0, size, depth, nodes];
+        text(
+            &Job {
+                left,
+                right,
+                limits,
+            },
+            99,
+            weights,
+        )
+    });
+    for (text, due) in texts.iter().zip(["answer=atmost", "answer=none"]) {
+        let answer = workspace.answer(Entry::Weigh, text, MOST_SLOTS, ROOM);
+        let answer = String::from_utf8(answer.expect("it is not refused")).expect("it is text");
+        assert!(answer.starts_with(due), "{answer}");
+        assert_eq!(
+            opened(Entry::Weigh, oracle::Entry::Weigh, text, workspace),
+            nodes
+        );
+    }
+    let times = bests(5, 2, |call| {
+        workspace.call(Entry::Weigh, black_box(&texts[call]), MOST_SLOTS, ROOM)
+    });
+    println!(
+        "{what:<38} {nodes:>8} {:>12.1} {:>12.1} {:>8.2}",
+        times[1] * 1e6,
+        times[0] * 1e6,
+        times[0] / times[1]
+    );
 }
 
 /// At the largest limits but for nodes, with each of three lists of weights.
