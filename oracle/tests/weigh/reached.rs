@@ -57,22 +57,7 @@ fn hold(job: &WeighJob, text: &[u8], distances: &HashMap<Term, usize>) -> Said {
             assert!(expanded <= nodes);
             assert_eq!((weights.len(), weights.iter().sum()), (steps, total));
         }
-        Said::AtMost {
-            total,
-            atleast,
-            expanded,
-            steps,
-        } => {
-            let (opened, next) = opened(job, distances);
-            let weights = weights(job, text);
-            assert_eq!(expanded, nodes);
-            assert_eq!(Some(atleast), next);
-            assert!(atleast <= distances[right] && distances[right] <= total);
-            assert!(!opened.contains(&right));
-            assert_eq!(Some(total), held(job, distances, &opened));
-            assert!(total - atleast <= *weights.last().expect("a line"));
-            assert_eq!((weights.len(), weights.iter().sum()), (steps, total));
-        }
+        Said::AtMost { .. } => hold_in_hand(job, text, distances),
         Said::None { expanded, .. } => {
             assert_eq!(expanded, nodes.min(distances.len()));
             let (opened, _) = opened(job, distances);
@@ -83,6 +68,29 @@ fn hold(job: &WeighJob, text: &[u8], distances: &HashMap<Term, usize>) -> Said {
         }
     }
     given
+}
+
+/// Holds an answer with a path in hand.
+fn hold_in_hand(job: &WeighJob, text: &[u8], distances: &HashMap<Term, usize>) {
+    let Said::AtMost {
+        total,
+        atleast,
+        expanded,
+        steps,
+    } = said(text)
+    else {
+        panic!("nodes have run out with right noted");
+    };
+    let (_, right) = job.equation.oriented();
+    let (opened, next) = opened(job, distances);
+    let weights = weights(job, text);
+    assert_eq!(expanded, job.limits.nodes);
+    assert_eq!(Some(atleast), next);
+    assert!(atleast <= distances[right] && distances[right] <= total);
+    assert!(!opened.contains(&right));
+    assert_eq!(Some(total), held(job, distances, &opened));
+    assert!(total - atleast <= *weights.last().expect("a line"));
+    assert_eq!((weights.len(), weights.iter().sum()), (steps, total));
 }
 
 /// The terms opened where right does not come up, and how far off the next one is.
