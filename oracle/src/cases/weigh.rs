@@ -121,33 +121,47 @@ fn one_result() -> Vec<Case> {
     ]
 }
 
-/// A line leads to right at once, and a path of two others.
+/// From the first to the second a line leads at once, and a path of two others.
+const APART: [&str; 2] = ["* v0 v1", "* v0 * 1 v1"];
+
+/// What answers with these paths say from `uses=` on.
+const AT_ONCE: &str = "uses=mul_one_left\nstep=mul_one_left forward at=r to=* v0 * 1 v1\n\
+    proof=(lam x0 (lam x1 (app (app (app (app (ref eq_ap) \
+    (lam hole (app (app (ref mul) (ref x0)) (ref hole)))) (ref x1)) \
+    (app (app (ref mul) (ref oneA)) (ref x1))) (app (ref mul_one_left) (ref x1)))))\n";
+const BY_DETOUR: &str = "uses=mul_assoc,mul_one_right\n\
+    step=mul_one_right forward at=l to=* * v0 1 v1\nstep=mul_assoc back at=. to=* v0 * 1 v1\n\
+    proof=(lam x0 (lam x1 (app (app (app (app (app (ref eq_trans) \
+    (app (app (ref mul) (ref x0)) (ref x1))) \
+    (app (app (ref mul) (app (app (ref mul) (ref x0)) (ref oneA))) (ref x1))) \
+    (app (app (ref mul) (ref x0)) (app (app (ref mul) (ref oneA)) (ref x1)))) \
+    (app (app (app (app (ref eq_ap) (lam hole (app (app (ref mul) (ref hole)) (ref x1)))) (ref x0)) \
+    (app (app (ref mul) (ref x0)) (ref oneA))) (app (ref mul_one_right) (ref x0)))) \
+    (app (app (app (ref eq_symm) (app (app (ref mul) (ref x0)) (app (app (ref mul) (ref oneA)) (ref x1)))) \
+    (app (app (ref mul) (app (app (ref mul) (ref x0)) (ref oneA))) (ref x1))) \
+    (app (app (app (ref mul_assoc) (ref x0)) (ref oneA)) (ref x1))))))\n";
+
+/// An answer with one of them: what it says first, of the path's lines and weight, and of the terms opened.
+fn apart(name: &'static str, limits: Limits, weights: &str, said: [&str; 3], path: &str) -> Case {
+    let [verdict, totals, expanded] = said;
+    let [left, right] = APART;
+    let sides = format!("answer={verdict}\nleft={left}\nright={right}\n");
+    let due = Ok(format!("{sides}{totals}\nexpanded={expanded}\n{path}"));
+    let call = job(APART, limits, weights);
+    Case { name, call, due }
+}
+
+/// The line's result is noted first, and the path is lighter or weighs as much.
 #[rustfmt::skip]
 fn lowered() -> Vec<Case> {
-    const SIDES: [&str; 2] = ["* v0 v1", "* v0 * 1 v1"];
-    const AT_ONCE: Due = Ok("answer=proved\nleft=* v0 v1\nright=* v0 * 1 v1\nsteps=1\ntotal=2\nexpanded=4\n\
-        uses=mul_one_left\nstep=mul_one_left forward at=r to=* v0 * 1 v1\n\
-        proof=(lam x0 (lam x1 (app (app (app (app (ref eq_ap) \
-        (lam hole (app (app (ref mul) (ref x0)) (ref hole)))) (ref x1)) \
-        (app (app (ref mul) (ref oneA)) (ref x1))) (app (ref mul_one_left) (ref x1)))))\n");
-    const BY_DETOUR: Due = Ok("answer=proved\nleft=* v0 v1\nright=* v0 * 1 v1\nsteps=2\ntotal=2\nexpanded=4\n\
-        uses=mul_assoc,mul_one_right\n\
-        step=mul_one_right forward at=l to=* * v0 1 v1\nstep=mul_assoc back at=. to=* v0 * 1 v1\n\
-        proof=(lam x0 (lam x1 (app (app (app (app (app (ref eq_trans) \
-        (app (app (ref mul) (ref x0)) (ref x1))) \
-        (app (app (ref mul) (app (app (ref mul) (ref x0)) (ref oneA))) (ref x1))) \
-        (app (app (ref mul) (ref x0)) (app (app (ref mul) (ref oneA)) (ref x1)))) \
-        (app (app (app (app (ref eq_ap) (lam hole (app (app (ref mul) (ref hole)) (ref x1)))) (ref x0)) \
-        (app (app (ref mul) (ref x0)) (ref oneA))) (app (ref mul_one_right) (ref x0)))) \
-        (app (app (app (ref eq_symm) (app (app (ref mul) (ref x0)) (app (app (ref mul) (ref oneA)) (ref x1)))) \
-        (app (app (ref mul) (app (app (ref mul) (ref x0)) (ref oneA))) (ref x1))) \
-        (app (app (app (ref mul_assoc) (ref x0)) (ref oneA)) (ref x1))))))\n");
     const LIMITS: Limits = ["9", "5", "2", "1000"];
+    const AT_COST: Limits = ["2", "5", "2", "1000"];
+    let of = |name, limits, weights, totals, path| apart(name, limits, weights, ["proved", totals, "4"], path);
     vec![
-        weigh("lowered by a path of more lines", SIDES, LIMITS, "9 9 9 1 7 1 9 9 9 9", BY_DETOUR),
-        weigh("an equal total stays", SIDES, LIMITS, "9 9 9 1 2 1 9 9 9 9", AT_ONCE),
-        weigh("the line above cost, the path at it", SIDES, ["2", "5", "2", "1000"], "9 9 9 1 3 1 9 9 9 9", BY_DETOUR),
-        weigh("the line above cost, no node for the path", SIDES, ["2", "5", "2", "1"], "9 9 9 1 3 1 9 9 9 9",
+        of("lowered by a path of more lines", LIMITS, "9 9 9 1 7 1 9 9 9 9", "steps=2\ntotal=2", BY_DETOUR),
+        of("an equal total stays", LIMITS, "9 9 9 1 2 1 9 9 9 9", "steps=1\ntotal=2", AT_ONCE),
+        of("the line above cost, the path at it", AT_COST, "9 9 9 1 3 1 9 9 9 9", "steps=2\ntotal=2", BY_DETOUR),
+        weigh("the line above cost, no node for the path", APART, ["2", "5", "2", "1"], "9 9 9 1 3 1 9 9 9 9",
             none!("* v0 v1", "* v0 * 1 v1", "1", "yes")),
     ]
 }

@@ -78,6 +78,19 @@ fn exchanged_is_told(call: &Call, right: &str, old: &str, new: &str) {
     assert!(told(call, &right.replace(old, new)), "{old} {new}");
 }
 
+/// The answer without one of its lines, or with one of them twice, is another one, and told.
+fn each_line_is_told(call: &Call, right: &str) {
+    let lines: Vec<&str> = right.split_inclusive('\n').collect();
+    for at in 0..lines.len() {
+        let mut others = lines.clone();
+        others.remove(at);
+        assert!(told(call, &others.concat()), "without line {at}");
+        let mut doubled = lines.clone();
+        doubled.insert(at, lines[at]);
+        assert!(told(call, &doubled.concat()), "line {at} twice");
+    }
+}
+
 #[test]
 fn wrong_proved_answers_are_told() {
     let weights = "2 1 1 9 9 9 9 9 9 9";
@@ -105,15 +118,7 @@ fn wrong_proved_answers_are_told() {
     for (old, new) in exchanges {
         exchanged_is_told(&call, &right, old, new);
     }
-    let lines: Vec<&str> = right.split_inclusive('\n').collect();
-    for at in 0..lines.len() {
-        let mut others = lines.clone();
-        others.remove(at);
-        assert!(told(&call, &others.concat()), "without line {at}");
-        let mut doubled = lines.clone();
-        doubled.insert(at, lines[at]);
-        assert!(told(&call, &doubled.concat()), "line {at} twice");
-    }
+    each_line_is_told(&call, &right);
     assert!(told(&call, &right[..right.len() - 1]));
     assert!(told(&call, "answer=refused\nnumber=7\n"));
     assert!(checked::beside_rust(&call, &Err(7)).is_err());
@@ -142,12 +147,7 @@ fn wrong_paths_in_hand_are_told() {
     for (old, new) in exchanges {
         exchanged_is_told(&call, &right, old, new);
     }
-    let lines: Vec<&str> = right.split_inclusive('\n').collect();
-    for at in 0..lines.len() {
-        let mut others = lines.clone();
-        others.remove(at);
-        assert!(told(&call, &others.concat()), "without line {at}");
-    }
+    each_line_is_told(&call, &right);
     let none = "answer=none\nleft=v0\nright=+ v0 0\nexpanded=1\ncut=yes\n";
     assert!(told(&call, none));
 }

@@ -2,7 +2,7 @@
 //! below it or at it; right never noted; slots and room.
 
 use super::super::{Case, Due, case, none};
-use super::{A, D, D_PROVED, OF_D, in_hand, job, weigh};
+use super::{A, AT_ONCE, BY_DETOUR, D, D_PROVED, OF_D, apart, in_hand, job, weigh};
 use crate::{Call, PROGRAM_ROOM, PROGRAM_SLOTS};
 
 pub fn cases() -> Vec<Case> {
@@ -66,33 +66,14 @@ fn heavier() -> Vec<Case> {
 /// The fourth term opened leads to right by less than left does.
 #[rustfmt::skip]
 fn replaced() -> Vec<Case> {
-    const SIDES: [&str; 2] = ["* v0 v1", "* v0 * 1 v1"];
     const WEIGHTS: &str = "9 9 2 3 7 1 9 9 9 9";
-    const LINE: &str = "uses=mul_one_left\nstep=mul_one_left forward at=r to=* v0 * 1 v1\n\
-        proof=(lam x0 (lam x1 (app (app (app (app (ref eq_ap) \
-        (lam hole (app (app (ref mul) (ref x0)) (ref hole)))) (ref x1)) \
-        (app (app (ref mul) (ref oneA)) (ref x1))) (app (ref mul_one_left) (ref x1)))))\n";
-    const DETOUR: &str = "uses=mul_assoc,mul_one_right\n\
-        step=mul_one_right forward at=l to=* * v0 1 v1\nstep=mul_assoc back at=. to=* v0 * 1 v1\n\
-        proof=(lam x0 (lam x1 (app (app (app (app (app (ref eq_trans) \
-        (app (app (ref mul) (ref x0)) (ref x1))) \
-        (app (app (ref mul) (app (app (ref mul) (ref x0)) (ref oneA))) (ref x1))) \
-        (app (app (ref mul) (ref x0)) (app (app (ref mul) (ref oneA)) (ref x1)))) \
-        (app (app (app (app (ref eq_ap) (lam hole (app (app (ref mul) (ref hole)) (ref x1)))) (ref x0)) \
-        (app (app (ref mul) (ref x0)) (ref oneA))) (app (ref mul_one_right) (ref x0)))) \
-        (app (app (app (ref eq_symm) (app (app (ref mul) (ref x0)) (app (app (ref mul) (ref oneA)) (ref x1)))) \
-        (app (app (ref mul) (app (app (ref mul) (ref x0)) (ref oneA))) (ref x1))) \
-        (app (app (app (ref mul_assoc) (ref x0)) (ref oneA)) (ref x1))))))\n";
-    let of = |name, nodes, verdict, said, path| {
-        let due = format!("answer={verdict}\nleft=* v0 v1\nright=* v0 * 1 v1\n{said}\nexpanded={nodes}\n{path}");
-        Case { name, call: job(SIDES, ["9", "5", "2", nodes], WEIGHTS), due: Ok(due) }
-    };
+    let of = |name, nodes, verdict, totals, path| apart(name, ["9", "5", "2", nodes], WEIGHTS, [verdict, totals, nodes], path);
     vec![
-        of("the first path in hand", "1", "atmost", "steps=1\ntotal=7\natleast=1", LINE),
-        of("just before it is replaced", "3", "atmost", "steps=1\ntotal=7\natleast=1", LINE),
-        of("just after it is replaced", "4", "atmost", "steps=2\ntotal=4\natleast=2", DETOUR),
-        of("the last with a path in hand", "6", "atmost", "steps=2\ntotal=4\natleast=2", DETOUR),
-        of("right comes up by the lighter path", "7", "proved", "steps=2\ntotal=4", DETOUR),
+        of("the first path in hand", "1", "atmost", "steps=1\ntotal=7\natleast=1", AT_ONCE),
+        of("just before it is replaced", "3", "atmost", "steps=1\ntotal=7\natleast=1", AT_ONCE),
+        of("just after it is replaced", "4", "atmost", "steps=2\ntotal=4\natleast=2", BY_DETOUR),
+        of("the last with a path in hand", "6", "atmost", "steps=2\ntotal=4\natleast=2", BY_DETOUR),
+        of("right comes up by the lighter path", "7", "proved", "steps=2\ntotal=4", BY_DETOUR),
     ]
 }
 
