@@ -1,5 +1,6 @@
 // The key of an entry, and the two lists of numbers that stand for its lines.
 ghost use Rattle.std.specs.Prelude.{◌≡◌};
+ghost use Rattle.words.specs.Making.{made, lent};
 ghost use Rattle.catalogue.specs.Promises.{number_of, MakesLists};
 
 use text::answer::Sides;
@@ -24,9 +25,9 @@ impl From<Key> for u32 {
 
 // The lists for the lines of a key: the renamed sides, or the renamed lists of words, of which there are none where the words agree: two
 // empty lists then stand in the place.
-pub fn lists_of(key: Key, sides: Sides<'_>, lists: &mut Equation<'_>)
-    ensures made { MakesLists key sides.entry.left.now sides.entry.right.now lists.old.room lists.new.sides }
-    ensures room { lists.new.room ≡ lists.old.room }
+pub fn lists_of(key: Key, sides: Sides<'_>, lists: &mut Equation<'_, '_>)
+    ensures made { MakesLists key sides.entry.left.now sides.entry.right.now (made lists.old).room (made lists.new).sides }
+    ensures lent { lent lists.new ≡ lent lists.old }
 {
     let Sides { left, right } = sides;
     match key {

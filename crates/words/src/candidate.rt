@@ -6,7 +6,8 @@ ghost use Rattle.terms.specs.Promises.{ordering_of, in_order_of};
 ghost use Rattle.words.specs.Decoded.{decoded, factorial, renaming, least_to};
 ghost use Rattle.words.specs.RenameRun.{rename_run};
 ghost use Rattle.words.specs.Renaming.{new_of};
-ghost use Rattle.words.specs.Candidate.{Sides, room_of, nothing, Room, ordered, Stores, Keeps, KeepsLesser, Tries, Offers, Finds, CanonicalTerms};
+ghost use Rattle.words.specs.Candidate.{Sides, Room, ordered, Keeps, KeepsLesser, Tries, Offers, Finds, CanonicalTerms};
+ghost use Rattle.words.specs.Making.{made, lent};
 
 // The same for lists of words.
 pub mod words;
@@ -17,10 +18,13 @@ pub mod rank;
 // A renaming, and runs renamed.
 pub mod renaming;
 
+// An equation of two runs in the making.
+mod making;
+
 use super::normal_form::front;
+pub use making::Equation;
 use renaming::Renaming;
 use std::cmp::Ordering;
-use std::marker::Model;
 use terms::candidate::arranged;
 use terms::term;
 
@@ -75,97 +79,11 @@ fn compare_equations<S: Compared>(a: &[u32], b: &[u32], c: &[u32], d: &[u32]) ->
     S::compare(a, c).then_with(|| S::compare(b, d))
 }
 
-// A run at the front of a buffer.
-fn put_front(out: &mut [u32], run: &[u32])
-    requires { length run.now ≤ length out.old }
-    ensures { take (length run.now) out.new ≡ run.now }
-{
-    out[..run.len()].copy_from_slice(run);
-}
-
-// An equation of two runs in the making, in two lent buffers of any lengths. Each side has room for as many numbers as the shorter one has.
-#[derive(Drop)]
-pub struct Equation<'a> {
-    left: &'a mut [u32],
-    right: &'a mut [u32],
-    left_length: usize,
-    right_length: usize,
-}
-
-// Clauses see the equation of the two runs, and the room.
-impl<'a> Model for Equation<'a> {
-    ghost use Rattle.std.specs.Prelude.{◌≤◌, take};
-    ghost use Rattle.words.specs.Candidate.{Making, room_of};
-
-    ghost Value = { Making };
-
-    ghost view = { λ e. record { sides = record { left = take e.left_length e.left.now; right = take e.right_length e.right.now }; room = room_of e.left.now e.right.now } };
-
-    ghost invariant = { λ e. (e.left_length ≤ room_of e.left.now e.right.now) × (e.right_length ≤ room_of e.left.now e.right.now) };
-}
-
-impl<'a> Equation<'a> {
-    // With nothing on either side.
-    pub fn new(left: &'a mut [u32], right: &'a mut [u32]) -> Self
-        ensures { result ≡ nothing (room_of left.old right.old) }
-    {
-        Equation {
-            left,
-            right,
-            left_length: 0,
-            right_length: 0,
-        }
-    }
-
-    pub fn left(&self) -> &[u32]
-        ensures is { result.now ≡ self.now.sides.left }
-        ensures fits { length result.now ≤ self.now.room }
-    {
-        &self.left[..self.left_length]
-    }
-
-    pub fn right(&self) -> &[u32]
-        ensures is { result.now ≡ self.now.sides.right }
-        ensures fits { length result.now ≤ self.now.room }
-    {
-        &self.right[..self.right_length]
-    }
-
-    // How many numbers each side has room for.
-    pub fn room(&self) -> usize
-        ensures { result ≡ self.now.room }
-    {
-        self.left.len().min(self.right.len())
-    }
-
-    // Nothing on either side again.
-    pub fn clear(&mut self)
-        ensures { self.new ≡ nothing self.old.room }
-    {
-        self.left_length = 0;
-        self.right_length = 0;
-    }
-
-    // Two runs stored as the sides; nothing where there is no room.
-    pub fn store(&mut self, s: &[u32], t: &[u32])
-        ensures stored { Stores s.now t.now self.old.room self.new.sides }
-        ensures room { self.new.room ≡ self.old.room }
-    {
-        let room = self.room();
-        if room < s.len() || room < t.len() {
-            self.clear();
-            return;
-        }
-        put_front(self.left, s);
-        put_front(self.right, t);
-        self.left_length = s.len();
-        self.right_length = t.len();
-    }
-
+impl Equation<'_, '_> {
     // Two runs kept, the smaller on the left; nothing where there is no room.
     fn keep<'b, S: Compared>(&mut self, x: &'b [u32], y: &'b [u32])
-        ensures kept { Keeps x.now y.now self.old.room self.new.sides }
-        ensures room { self.new.room ≡ self.old.room }
+        ensures kept { Keeps x.now y.now (made self.old).room (made self.new).sides }
+        ensures lent { lent self.new ≡ lent self.old }
     {
         let (left, right) = in_order::<S>(x, y);
         self.store(left, right);
@@ -173,8 +91,8 @@ impl<'a> Equation<'a> {
 
     // Two runs kept in place of the equation so far, if they make a lesser one.
     fn keep_lesser<'b, S: Compared>(&mut self, x: &'b [u32], y: &'b [u32])
-        ensures kept { KeepsLesser x.now y.now self.old.room self.old.sides self.new.sides }
-        ensures room { self.new.room ≡ self.old.room }
+        ensures kept { KeepsLesser x.now y.now (made self.old).room (made self.old).sides (made self.new).sides }
+        ensures lent { lent self.new ≡ lent self.old }
     {
         let (s, t) = in_order::<S>(x, y);
         if compare_equations::<S>(self.left(), self.right(), s, t).is_gt() {
@@ -184,8 +102,8 @@ impl<'a> Equation<'a> {
 
     // Two runs tried as candidate number c: kept if it is the first, or makes a lesser equation than the best so far.
     fn offer<'b, S: Compared>(&mut self, x: &'b [u32], y: &'b [u32], c: usize)
-        ensures tried { Tries x.now y.now c self.old.room self.old.sides self.new.sides }
-        ensures room { self.new.room ≡ self.old.room }
+        ensures tried { Tries x.now y.now c (made self.old).room (made self.old).sides (made self.new).sides }
+        ensures lent { lent self.new ≡ lent self.old }
     {
         if c == 0 {
             self.keep::<S>(x, y);
@@ -204,18 +122,18 @@ trait Renamed {
 
     // The equation by a renaming tried as candidate number c.
     // The number stands beside `best`: by it the contract says of which candidates `best` is the least, and at 0 that it holds none yet.
-    fn offer(&mut self, renaming: &Renaming, c: usize, best: &mut Equation<'_>)
-        ensures tried { Offers (is_room self.old best.old.room) (equation self.old) (new_of renaming.now) c best.old.sides best.new.sides }
-        ensures room { best.new.room ≡ best.old.room }
+    fn offer(&mut self, renaming: &Renaming, c: usize, best: &mut Equation<'_, '_>)
+        ensures tried { Offers (is_room self.old (made best.old).room) (equation self.old) (new_of renaming.now) c (made best.old).sides (made best.new).sides }
+        ensures lent { lent best.new ≡ lent best.old }
         ensures same { equation self.new ≡ equation self.old }
         ensures roomy { (n : ℕ) → is_room self.old n → is_room self.new n };
 }
 
 // The least equation over all renamings of the names.
-fn least_renaming<S: Renamed>(sides: &mut S, names: &[u32], best: &mut Equation<'_>)
+fn least_renaming<S: Renamed>(sides: &mut S, names: &[u32], best: &mut Equation<'_, '_>)
     requires { length names.now ≤ MOST_VARIABLES }
-    ensures found { Finds (S.is_room sides.old best.old.room) (least_to order_numbers (λ c. S.equation sides.old (renaming names.now c)) (factorial (length names.now) - 1)) best.new.sides }
-    ensures room { best.new.room ≡ best.old.room }
+    ensures found { Finds (S.is_room sides.old (made best.old).room) (least_to order_numbers (λ c. S.equation sides.old (renaming names.now c)) (factorial (length names.now) - 1)) (made best.new).sides }
+    ensures lent { lent best.new ≡ lent best.old }
 {
     let k = names.len();
     let mut numbers = [0u32; MOST_VARIABLES];
@@ -246,7 +164,7 @@ impl<'a> Renamed for Terms<'a> {
     ghost is_room = { λ s. Room 31 s.a.now s.b.now };
 
     // The buffers have room for the runs of terms of 31 nodes: of longer ones `front` takes what fits.
-    fn offer(&mut self, renaming: &Renaming, c: usize, best: &mut Equation<'_>) {
+    fn offer(&mut self, renaming: &Renaming, c: usize, best: &mut Equation<'_, '_>) {
         let mut x = [0u32; NODES];
         let mut y = [0u32; NODES];
         renaming.rename(self.a, &mut x);
@@ -258,9 +176,9 @@ impl<'a> Renamed for Terms<'a> {
 // The least equation over all renamings of the v letters of two terms; nothing if there are more than six. No Option: nothing stands
 // where there is no room, too, and an accepted job meets neither.
 // A side of 31 nodes wants 31 numbers of room.
-pub fn canonical_terms(a: &[u32], b: &[u32], best: &mut Equation<'_>)
-    ensures found { CanonicalTerms a.now b.now best.old.room best.new.sides }
-    ensures room { best.new.room ≡ best.old.room }
+pub fn canonical_terms(a: &[u32], b: &[u32], best: &mut Equation<'_, '_>)
+    ensures found { CanonicalTerms a.now b.now (made best.old).room (made best.new).sides }
+    ensures lent { lent best.new ≡ lent best.old }
 {
     let mut names = [0u32; MOST_VARIABLES];
     match term::variables(a, b, &mut names) {

@@ -6,6 +6,7 @@ ghost use Rattle.terms.specs.Equation.{Equation};
 ghost use Rattle.terms.specs.Held.{IsRun};
 ghost use Rattle.words.specs.Words.{Word, words};
 ghost use Rattle.words.specs.Rename.{canonical_terms};
+ghost use Rattle.words.specs.Making.{made};
 ghost use Rattle.text.specs.Answer.{fitting};
 ghost use Rattle.text.specs.Rename.{term_lines, renamed_words};
 ghost use Rattle.text.specs.Renamed as renamed;
@@ -49,8 +50,11 @@ impl<'a> Text for Renamed<'a> {
 }
 
 // The lists of words renamed, where they differ.
-fn renamed_lists<'a>(sides: Sides<'_>, lists: &'a mut candidate::Equation<'_>) -> Option<Sides<'a>>
-    ensures { (s t : Term) → IsRun sides.entry.left.now s → IsRun sides.entry.right.now t → size s ≤ 31 → size t ≤ 31 → length (rising (variables (letters s ++ letters t))) ≤ 6 → 5508 ≤ lists.old.room → renamed.Renamed (words s) (words t) result }
+fn renamed_lists<'a>(
+    sides: Sides<'_>,
+    lists: &'a mut candidate::Equation<'_, '_>,
+) -> Option<Sides<'a>>
+    ensures { (s t : Term) → IsRun sides.entry.left.now s → IsRun sides.entry.right.now t → size s ≤ 31 → size t ≤ 31 → length (rising (variables (letters s ++ letters t))) ≤ 6 → 5508 ≤ (made lists.old).room → renamed.Renamed (words s) (words t) result }
 {
     if same_words(sides.left, sides.right) {
         return None;

@@ -12,6 +12,7 @@ ghost use Rattle.words.specs.Rename.{rename_words};
 ghost use Rattle.words.specs.RenameRun.{rename_run};
 ghost use Rattle.words.specs.Renaming.{new_of};
 ghost use Rattle.words.specs.Multiply.{PutsWords};
+ghost use Rattle.words.specs.Making.{made, lent};
 ghost use Rattle.words.specs.WordLists.{slot_words, RenamesWords, WordRoom, CanonicalWords};
 
 use super::super::normal_form::{
@@ -101,7 +102,7 @@ impl<'a> Renamed for WordLists<'a> {
     ghost is_room = { λ s. WordRoom s.u.now s.v.now };
 
     // Where a renaming surely makes a greater equation than the best so far, nothing is renamed or sorted.
-    fn offer(&mut self, renaming: &Renaming, c: usize, best: &mut Equation<'_>) {
+    fn offer(&mut self, renaming: &Renaming, c: usize, best: &mut Equation<'_, '_>) {
         if renaming.is_greater(self.u, self.v, c, best.left()) {
             return;
         }
@@ -113,9 +114,9 @@ impl<'a> Renamed for WordLists<'a> {
 
 // The least equation of the words of two terms over all renamings of the words' v letters; nothing if they are more than six, as there.
 // Each list wants 5,508 numbers of room, as `words_of` does.
-pub fn canonical_words(a: &[u32], b: &[u32], best: &mut Equation<'_>)
-    ensures found { CanonicalWords a.now b.now best.old.room best.new.sides }
-    ensures room { best.new.room ≡ best.old.room }
+pub fn canonical_words(a: &[u32], b: &[u32], best: &mut Equation<'_, '_>)
+    ensures found { CanonicalWords a.now b.now (made best.old).room (made best.new).sides }
+    ensures lent { lent best.new ≡ lent best.old }
 {
     let mut u = [0u32; ROOM];
     let mut v = [0u32; ROOM];

@@ -12,10 +12,10 @@ pub loop-c-preserved : goal.loop-c-preserved
 loop-c-preserved g c =
     let a = c.args in
     let l = c.loop-c in (
-      one_more_offered (renaming a.names.now) l.invariant.0 (λ h. rw l.invariant.2 (l.invariant.3 _ h)) l.invariant.1 (c.new.ensures ∙ ap (renamed a.names.now) c.permutation.ensures)
+      one_more_offered (renaming a.names.now) l.invariant.0 (λ h. rw (ap (λ e. e.room) l.invariant.2) (l.invariant.3 _ h)) l.invariant.1 (c.new.ensures ∙ ap (renamed a.names.now) c.permutation.ensures)
           (renaming_below a.names.now c.requires l.c) c.offer.ensures.tried,
       c.offer.ensures.same ∙ l.invariant.1,
-      c.offer.ensures.room ∙ l.invariant.2,
+      c.offer.ensures.lent ∙ l.invariant.2,
       λ n h. c.offer.ensures.roomy n (l.invariant.3 n h),
     )
 

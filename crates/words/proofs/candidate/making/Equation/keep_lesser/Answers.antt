@@ -1,7 +1,7 @@
 -- `keep_lesser` compares the equation so far with the two runs, smaller first, and keeps the lesser.
 use Rattle.std.proofs.Common.{◌∙◌, sym}
 use Rattle.words.proofs.Kept.{in_order, stays, replaced}
-use Rattle.words.proofs.candidate.Equation.keep_lesser.Goals as goal
+use Rattle.words.proofs.candidate.making.Equation.keep_lesser.Goals as goal
 
 pub returns-then-is_gt-clause-kept : goal.returns-then-is_gt-clause-kept
 returns-then-is_gt-clause-kept o c =
