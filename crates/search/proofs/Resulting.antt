@@ -10,6 +10,7 @@ use borrow.Author.Tests.{le-leb, lt-leb, le-ltb, ltb-true, ltb-false}
 use lib.Dec.{leb, ltb}
 use lib.ListN.{length, take}
 use lib.Seq.{length-take-le}
+use denote.Ref.{at_last}
 use Rattle.std.specs.Prelude.{Option as Answer, Some, None}
 use Rattle.terms.specs.Lists.{◌∈◌, here, there, not-in-nil, cons-cases, of_map, only_one}
 use Rattle.terms.specs.Term.{Term, letter, zero, one, add, mul, size, depth, same}
@@ -26,10 +27,11 @@ use Rattle.search.specs.Spliced.{kept, tried, Gives, Tries}
 use Rattle.search.specs.Search.{Noted}
 use Rattle.search.specs.Slots.{Marks}
 use Rattle.search.specs.Ordered.{Ordered, unknown, joined, Keeps}
-use Rattle.search.specs.Resulted.{tried_by, TooDeep, Adds}
+use Rattle.search.specs.Resulted.{tried_by, Lent, TooDeep, Adds}
 use Rattle.search.specs.declared.search.Law.{Law}
 use Rattle.search.specs.declared.search.Direction.{Direction}
 use Rattle.search.specs.declared.slots.Step.{Step}
+use Rattle.search.specs.declared.results.Results.{Results}
 use Rattle.search.proofs.Coded.{law_named}
 use Rattle.search.proofs.Unknown.{unknown_append}
 
@@ -254,3 +256,8 @@ module _ (xs : List ℕ) (limit : ℕ) where
 
   pub walked : (d : ℕ) → Deep xs d → TooDeep xs limit (ltb limit d)
   walked d D = record { exact = λ t k. ap (ltb limit) (D.terms t k) }
+
+-- lent twice
+pub lent_then : (r r₁ r₂ : Results) → Lent r.slots r.order r₁.slots r₁.order → Lent r₁.slots r₁.order r₂.slots r₂.order → Lent r.slots r.order r₂.slots r₂.order
+lent_then r r₁ r₂ A B =
+    (B.0 ∙ ap (λ b. at_last b r₂.slots.now) A.0, B.1 ∙ ap (λ b. at_last b r₂.order.now) A.1, B.2 ∙ A.2, B.3 ∙ A.3)

@@ -1,6 +1,7 @@
 -- The results of an opened term: its lines are tried place by place and law by law, and each result that is not noted is put among those
 -- in term order.
 use Rattle.std.specs.Prelude.{ℕ, ◌+◌, ◌/◌, ◌≤◌, ◌≡◌, Bool, List, map, ltb, length, take}
+use denote.Ref.{MutBor, at_last}
 use Rattle.terms.specs.Term.{Term, size, depth}
 use Rattle.terms.specs.Held.{IsRun}
 use Rattle.search.specs.Law.{semiring}
@@ -21,6 +22,11 @@ abbrev pub most_nodes : ℕ → ℕ
 most_nodes n = n / 20
 
 -- what the functions promise
+
+-- the buffers of the results are lent still: the same ones, each with as many numbers
+abbrev pub Lent : (slots order slots' order' : MutBor (List ℕ)) → Type 0
+Lent slots order slots' order' =
+    (slots' ≡ at_last slots slots'.now) × (order' ≡ at_last order order'.now) × (length slots'.now ≡ length slots.now) × (length order'.now ≡ length order.now)
 
 -- of `too_deep`
 pub record TooDeep (xs : List ℕ) (limit : ℕ) (r : Bool) : Type 0 where

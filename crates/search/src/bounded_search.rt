@@ -47,17 +47,13 @@ struct Search<'a> {
 }
 
 impl Search<'_> {
-    ghost use Rattle.search.specs.Resulted.{most_nodes};
+    ghost use Rattle.search.specs.Resulted.{most_nodes, Lent};
     ghost use Rattle.search.specs.Searched.{Opens, Takes, Explores};
 
     // The results of the noted term in slot `i` that are not noted.
-    fn open<const NUMBERS: usize, const MOST: usize>(
-        self,
-        noted: Runs<'_>,
-        i: u32,
-        results: &mut Results<NUMBERS, MOST>,
-    )
-        ensures { Opens semiring noted.entry.slots.now noted.entry.count i self.entry.limits MOST results.new.slots results.new.order results.new.count }
+    fn open(self, noted: Runs<'_>, i: u32, results: &mut Results<'_>)
+        ensures opened { Opens semiring noted.entry.slots.now noted.entry.count i self.entry.limits (length results.old.order.now) results.new.slots.now results.new.order.now results.new.count }
+        ensures lent { Lent results.old.slots results.old.order results.new.slots results.new.order }
     {
         let s = noted.run(i);
         let size = self.limits.size as usize;
@@ -94,15 +90,15 @@ impl Search<'_> {
     // Opens the noted terms in turn, from the first one on, and notes their results, until the `waiting` right sides that are unnoted are
     // noted, each with its slot told. The results are not noted when their term is opened, and no two are the same, so that each is new in
     // its turn. The promise is for terms whose lines have room among the results. What is noted is counted by hand: it goes on from term to term.
-    fn explore<const NUMBERS: usize, const MOST: usize>(
+    fn explore(
         self,
         waiting: usize,
         replies: &mut [Reply],
         ws: &mut [u32],
-        results: &mut Results<NUMBERS, MOST>,
+        results: &mut Results<'_>,
     ) -> Ended
         requires { (SLOT * self.slots ≤ length ws.old) × (length replies.old ≤ self.rights.count) }
-        ensures { Explores semiring self.entry.rights.slots.now waiting self.entry.limits self.entry.slots (most_nodes MOST) ws.old ws.new replies.old replies.new result }
+        ensures { Explores semiring self.entry.rights.slots.now waiting self.entry.limits self.entry.slots (most_nodes (length results.old.order.now)) ws.old ws.new replies.old replies.new result }
     {
         let mut stop = Stop::Over;
         let mut opened = 0;
@@ -123,7 +119,7 @@ impl Search<'_> {
             };
             self.open(known, i as u32, results);
             opened = i + 1;
-            let found = &results.slots;
+            let found = &*results.slots;
             for &k in &results.order[..results.count] {
                 let Some(struck) = self.take(noted, found, k, distance, replies, ws) else {
                     stop = Stop::Full;
@@ -154,9 +150,11 @@ impl Search<'_> {
         requires { (SLOT * MOST ≤ NUMBERS) × (NUMBERS ≤ 24800) × (MOST ≤ 620) × (SLOT * self.slots ≤ length ws.old) × (length replies.old ≤ self.rights.count) }
         ensures { Explores semiring self.entry.rights.slots.now waiting self.entry.limits self.entry.slots (most_nodes MOST) ws.old ws.new replies.old replies.new result }
     {
-        let mut results = Results::<NUMBERS, MOST> {
-            slots: [0; NUMBERS],
-            order: [0; MOST],
+        let mut slots = [0u32; NUMBERS];
+        let mut order = [0u32; MOST];
+        let mut results = Results {
+            slots: &mut slots,
+            order: &mut order,
             count: 0,
         };
         self.explore(waiting, replies, ws, &mut results)

@@ -3,11 +3,11 @@ use Rattle.search.proofs.Resulting.{adds_nothing, adds_too_deep, adds_kept}
 use borrow.Author.Rules.{rules}
 use Rattle.search.proofs.results.Results.keep_line.Goals as goal
 
-pub returns-in_default : goal.returns-in_default
-returns-in_default g c = search (adds_nothing, rules)
+pub returns-in_default-clause-added : goal.returns-in_default-clause-added
+returns-in_default-clause-added c = search (adds_nothing, rules)
 
-pub returns-then-not-too_deep : goal.returns-then-not-too_deep
-returns-then-not-too_deep g c = search (adds_kept, rules)
+pub returns-then-not-too_deep-clause-added : goal.returns-then-not-too_deep-clause-added
+returns-then-not-too_deep-clause-added c = search (adds_kept, rules)
 
-pub returns-else-not-too_deep : goal.returns-else-not-too_deep
-returns-else-not-too_deep g c = search (adds_too_deep, rules)
+pub returns-else-not-too_deep-clause-added : goal.returns-else-not-too_deep-clause-added
+returns-else-not-too_deep-clause-added c = search (adds_too_deep, rules)
