@@ -65,7 +65,7 @@ pub record Shows (ws : List ℕ) (k : ℕ) (xs : List ℕ) : Type 0 where
 pub record Heads (ws : List ℕ) (count b r : ℕ) : Type 0 where
   pub exact : (ts : List Term) → Runs ws ts → length ts ≡ count → Newest (home ws ts) b count r
 
--- of `has`, for a run with hash h
+-- of `has_run`, for a run with hash h
 pub record Compares (ws : List ℕ) (k : ℕ) (xs : List ℕ) (h : ℕ) (r : Bool) : Type 0 where
   pub exact : (ts : List Term) (t : Term) → HeldRuns ws ts → k < length ts → IsRun xs t → h ≡ hash xs 0 → r ≡ same t (term_at ts k)
 

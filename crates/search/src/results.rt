@@ -57,7 +57,7 @@ struct Opened<'a> {
     depth: usize,
 }
 
-impl<'a> Results<'a> {
+impl Results<'_> {
     ghost use Rattle.std.specs.Prelude.{◌+◌, ◌<◌, length, take};
     ghost use Rattle.search.specs.Law.{semiring};
     ghost use Rattle.search.specs.Place.{lines_at};
@@ -66,7 +66,8 @@ impl<'a> Results<'a> {
     ghost use Rattle.search.specs.Resulted.{tried_by, Adds, Lent};
     ghost use Rattle.search.specs.declared.search.Binding.TheVariants.{Bound};
 
-    // The place of a run among the results: none where it is there. A method of `&self`: what a lent buffer holds stays known of this one.
+    // The place of a run among the results: none where it is there. It takes `&self`: of a buffer that is lent for reading out of a
+    // `&mut self` only the length is known afterwards.
     fn spot(&self, s: &[u32]) -> Option<usize>
         ensures { Spotted self.now.slots.now (take self.now.count self.now.order.now) s.now result }
     {
