@@ -9,12 +9,15 @@ use lib.Dec.{T, leb}
 use lib.ListN.{length}
 use borrow.Author.Tests.{le-leb, lt-leb}
 use Rattle.words.proofs.Canonical.{run_carries}
+use Rattle.words.proofs.Kept as words
+use denote.Ref.{Bor}
 use Rattle.terms.specs.Equation.{Equation, orient}
 use Rattle.terms.specs.Term.{Term, size, order, same}
 use Rattle.terms.specs.Letters.{letters}
 use Rattle.terms.specs.Run.{run}
 use Rattle.terms.specs.Held.{Fine, IsRun}
-use Rattle.terms.specs.Promises.{ordering_of, Compares, Equals}
+use Rattle.terms.specs.Compare.{Ordering, lt, eq, gt, order_numbers}
+use Rattle.terms.specs.Promises.{ordering_of, smaller_of, in_order_of, Compares, Equals}
 use Rattle.std.specs.declared.cmp.Ordering as answered
 use Rattle.std.specs.declared.cmp.Ordering.TheVariants.{Less, Equal, Greater}
 use Rattle.std.specs.Ordering.{is_ge}
@@ -77,6 +80,19 @@ module _ {xs ys : List ℕ} {e : Equation (List ℕ)} (h : Keeps xs ys 31 e) {s 
         record { fine = fine.0; whole = ap (λ (z : Equation (List ℕ)). z.left) same },
         record { fine = fine.1; whole = ap (λ (z : Equation (List ℕ)). z.right) same },
       )
+
+-- the smaller of two lent runs and the second of the two in order are the sides that they make
+first_in_order : {A : Type 0} (o : Ordering) (a b : A) → smaller_of o a b ≡ (in_order_of o a b).0
+first_in_order lt a b = refl
+first_in_order eq a b = refl
+first_in_order gt a b = refl
+
+pub smaller_first : (a b : Bor (List ℕ)) {l : Bor (List ℕ)} {r : Bor (List ℕ) × Bor (List ℕ)} → l ≡ smaller_of (order_numbers a.now b.now) a b
+    → r ≡ in_order_of (order_numbers a.now b.now) a b → words.Ordered a.now b.now l.now r.1.now
+smaller_first a b {l} {r} h k =
+    let both = words.in_order a b k in
+    let first : l ≡ r.0 = h ∙ first_in_order (order_numbers a.now b.now) a b ∙ sym (ap (λ (z : Bor (List ℕ) × Bor (List ℕ)). z.0) k) in
+    record { left = ap (λ (x : Bor (List ℕ)). x.now) first ∙ both.left; right = both.right }
 
 -- the smaller of left and the only right side is left, and the other goes to slot 0
 module _ {xs ys zs rights rights' : List ℕ} {e : Equation (List ℕ)} where

@@ -16,7 +16,7 @@ use search::bounded_search::Limits;
 use search::search::LARGEST;
 use search::slots;
 use search::slots::SlotRun;
-use terms::candidate::in_order;
+use terms::candidate::{in_order, smaller};
 use terms::term;
 use words::candidate::Equation;
 
@@ -62,11 +62,11 @@ fn orient(a: &[u32], rights: &mut [u32]) -> Run
     requires { SLOT ≤ length rights.old }
     ensures { Orients a.now rights.old result rights.new }
 {
-    let mut smaller = [0u32; LARGEST];
-    let mut larger = [0u32; LARGEST];
-    let mut sides = Equation::new(&mut smaller, &mut larger);
-    let (s, t) = in_order(a, slots::run_of(rights, 0));
-    sides.store(s, t);
+    let mut x = [0u32; LARGEST];
+    let mut y = [0u32; LARGEST];
+    let mut sides = Equation::new(&mut x, &mut y);
+    let b = slots::run_of(rights, 0);
+    sides.store(smaller(a, b), in_order(a, b).1);
     let other = SlotRun {
         numbers: sides.right(),
     };
