@@ -4,6 +4,7 @@ pub mod Placed
 pub mod StepParts
 pub mod LineStarts
 pub mod StepLines
+pub mod Lent
 pub mod Results
 pub mod Lettering
 pub mod Walking

@@ -8,5 +8,6 @@ pub mod Cases
 pub mod LineRead
 pub mod PlaceRead
 pub mod LinesRead
+pub mod Room
 pub mod Judged
 pub mod Theory

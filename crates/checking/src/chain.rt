@@ -1,5 +1,7 @@
 // Step lines judged one after the other: each against the term before it.
+ghost use Rattle.std.specs.Prelude.{◌≤◌, length};
 ghost use Rattle.checking.specs.Judged.{Follows, Leads};
+ghost use Rattle.checking.specs.Room.{SameRoom};
 
 use super::line::Step;
 use super::place::position_of;
@@ -33,13 +35,10 @@ fn follows(step: Step<'_>, source: &Run, target: &Run) -> bool
 // Whether each line holds on the term before it, the first on left, and the last gives right, where all are well formed and no result has
 // over 31 nodes.
 #[tactic(auto, using(crate::proofs::Leading::leads_told))]
-pub fn leads<const BYTES: usize>(
-    left: Run,
-    right: &[u32],
-    steps: StepLines<'_, BYTES>,
-    reader: &mut Reader<'_, BYTES>,
-) -> bool
-    ensures { Leads left right.now steps.entry.text.now result }
+pub fn leads(left: Run, right: &[u32], steps: StepLines<'_>, reader: &mut Reader<'_>) -> bool
+    requires { length steps.text.now ≤ length reader.old.numbers.now }
+    ensures leads { Leads left right.now steps.entry.text.now result }
+    ensures room { SameRoom reader.old reader.new }
 {
     let mut term = left;
     for step in steps {

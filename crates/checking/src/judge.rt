@@ -1,5 +1,5 @@
 // A derivation judged: refusals 1, 2, 3, 4, 11 and 12 in this order.
-ghost use Rattle.std.specs.Prelude.{◌<◌, length};
+ghost use Rattle.std.specs.Prelude.{◌<◌, ◌≤◌, length};
 ghost use Rattle.checking.specs.Judged.{JudgesTerms, JudgesLines, Judges};
 
 use super::chain::leads;
@@ -17,9 +17,10 @@ const MOST_BYTES: usize = 8192;
 fn judge_terms(
     left: Run,
     right: Run,
-    steps: StepLines<'_, MOST_BYTES>,
-    reader: &mut Reader<'_, MOST_BYTES>,
+    steps: StepLines<'_>,
+    reader: &mut Reader<'_>,
 ) -> Result<(), Refusal>
+    requires { length steps.text.now ≤ length reader.old.numbers.now }
     ensures { JudgesTerms left right steps.entry.text.now result }
 {
     let sides = Sides {
@@ -42,10 +43,12 @@ fn judge_terms(
 fn judge_lines(
     left: &[u8],
     right: &[u8],
-    steps: StepLines<'_, MOST_BYTES>,
-    reader: &mut Reader<'_, MOST_BYTES>,
+    steps: StepLines<'_>,
+    reader: &mut Reader<'_>,
 ) -> Result<(), Refusal>
-    requires { (length left.now < 8192) × (length right.now < 8192) }
+    requires left { length left.now < length reader.old.numbers.now }
+    requires right { length right.now < length reader.old.numbers.now }
+    requires steps { length steps.text.now ≤ length reader.old.numbers.now }
     ensures { JudgesLines left.now right.now steps.entry.text.now result }
 {
     let left = Run::of(reader.read(left).ok_or(Refusal::NoTerm)?);

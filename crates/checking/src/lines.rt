@@ -1,12 +1,13 @@
 // The lines of a derivation: its terms as they are written, and what is asked of the results of its step lines. The lines are walked once for
 // each question, so that no buffer depends on their number.
-ghost use Rattle.std.specs.Prelude.{◌≡◌, length, MatchOption};
+ghost use Rattle.std.specs.Prelude.{◌≡◌, ◌≤◌, length, MatchOption};
 ghost use Rattle.std.proofs.Math.Option.{none};
 ghost use Rattle.terms.specs.Numbers.{is_some};
 ghost use Rattle.search.specs.Law.{semiring};
 ghost use Rattle.checking.specs.Layout.{check_layout};
 ghost use Rattle.checking.specs.LineRead.{lines_from};
 ghost use Rattle.checking.specs.LinesRead.{LaidOut, ReadsResults, Variables, FewVariables};
+ghost use Rattle.checking.specs.Room.{SameRoom};
 
 use super::line::step_line;
 use super::reader::Reader;
@@ -26,7 +27,7 @@ pub struct Written<'a> {
     pub steps: &'a [u8],
 }
 
-// Whether a text is step lines. `StepLines` would ask for a bounded one.
+// Whether a text is step lines: nothing is left behind them, which a `for` over `StepLines` would not tell.
 #[tactic(auto, using(crate::proofs::StepLines::formed_on, crate::proofs::StepLines::ended))]
 fn well_formed(text: &[u8]) -> bool
     ensures { result ≡ is_some (lines_from text.now) }
@@ -53,11 +54,10 @@ pub fn layout_of(s: &[u8]) -> Option<Written<'_>>
 
 // Refusals 2 and 3 for the results of step lines that are well formed. One that is no term is refused before one that is too large, so that
 // all are read.
-pub fn read_results<const BYTES: usize>(
-    steps: StepLines<'_, BYTES>,
-    reader: &mut Reader<'_, BYTES>,
-) -> Result<(), Refusal>
-    ensures { ReadsResults steps.entry.text.now result }
+pub fn read_results(steps: StepLines<'_>, reader: &mut Reader<'_>) -> Result<(), Refusal>
+    requires { length steps.text.now ≤ length reader.old.numbers.now }
+    ensures results { ReadsResults steps.entry.text.now result }
+    ensures room { SameRoom reader.old reader.new }
 {
     let mut read = Ok(());
     for step in steps {
@@ -70,13 +70,15 @@ pub fn read_results<const BYTES: usize>(
 }
 
 // The different v letters of both sides and all results, in the front of `names`: how many there are, if there is room for all.
-fn variables<const BYTES: usize>(
+fn variables(
     sides: Sides<'_>,
-    steps: StepLines<'_, BYTES>,
-    reader: &mut Reader<'_, BYTES>,
+    steps: StepLines<'_>,
+    reader: &mut Reader<'_>,
     names: &mut [u32],
 ) -> Option<usize>
-    ensures { Variables sides.entry.left.now sides.entry.right.now steps.entry.text.now (length names.old) result }
+    requires { length steps.text.now ≤ length reader.old.numbers.now }
+    ensures names { Variables sides.entry.left.now sides.entry.right.now steps.entry.text.now (length names.old) result }
+    ensures room { SameRoom reader.old reader.new }
 {
     let mut count = term::variables(sides.left, sides.right, names)?;
     for step in steps {
@@ -86,12 +88,10 @@ fn variables<const BYTES: usize>(
 }
 
 // Whether both sides and all results together have at most six different v letters, where all lines are well formed and all results terms.
-pub fn few_variables<const BYTES: usize>(
-    sides: Sides<'_>,
-    steps: StepLines<'_, BYTES>,
-    reader: &mut Reader<'_, BYTES>,
-) -> bool
-    ensures { FewVariables sides.entry.left.now sides.entry.right.now steps.entry.text.now result }
+pub fn few_variables(sides: Sides<'_>, steps: StepLines<'_>, reader: &mut Reader<'_>) -> bool
+    requires { length steps.text.now ≤ length reader.old.numbers.now }
+    ensures few { FewVariables sides.entry.left.now sides.entry.right.now steps.entry.text.now result }
+    ensures room { SameRoom reader.old reader.new }
 {
     let mut names = [0u32; MOST_VARIABLES];
     variables(sides, steps, reader, &mut names).is_some()

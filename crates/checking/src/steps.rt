@@ -1,16 +1,15 @@
 // The step lines of a derivation, one after the other.
-ghost use Rattle.std.specs.Prelude.{◌≤◌, length};
+ghost use Rattle.std.specs.Prelude.{length};
 
 use crate::line::{Step, step_line};
 
-// The lines that a text of at most `BYTES` bytes is.
+// The lines that a text is.
 #[derive(Clone, Copy)]
-pub struct StepLines<'a, const BYTES: usize> {
+pub struct StepLines<'a> {
     pub text: &'a [u8],
-    ghost short: { length text.now ≤ BYTES },
 }
 
-impl<'a, const BYTES: usize> Iterator for StepLines<'a, BYTES> {
+impl<'a> Iterator for StepLines<'a> {
     ghost use Rattle.std.specs.Iterator.{at_most};
     ghost use Rattle.checking.specs.LineRead.{NextLine};
 
