@@ -3,7 +3,7 @@ ghost use Rattle.std.specs.Prelude.{◌<◌, ◌≤◌, length};
 ghost use Rattle.checking.specs.Judged.{JudgesTerms, JudgesLines, Judges};
 
 use super::chain::leads;
-use super::lines::{few_variables, layout_of, read_results};
+use super::lines::{Written, few_variables, layout_of, read_results};
 use super::reader::Reader;
 use super::steps::StepLines;
 use text::answer::Sides;
@@ -59,6 +59,20 @@ fn judge_lines(
     judge_terms(left, right, steps, reader)
 }
 
+// The lines of a text that is well formed, judged with room for the items of any of its terms. Apart from `judge`, so that the room is filled
+// with zeros for such a text alone.
+fn judge_written(w: Written<'_>) -> Result<(), Refusal>
+    requires { (length w.left.now < 8192) × (length w.right.now < 8192) × (length w.steps.now ≤ 8192) }
+    ensures { JudgesLines w.entry.left.now w.entry.right.now w.entry.steps.now result }
+{
+    let steps = StepLines { text: w.steps };
+    let mut numbers = [0u32; MOST_BYTES];
+    let mut reader = Reader {
+        numbers: &mut numbers,
+    };
+    judge_lines(w.left, w.right, steps, &mut reader)
+}
+
 // The verdict on a text.
 pub fn judge(s: &[u8]) -> Result<(), Refusal>
     ensures { Judges s.now result }
@@ -67,10 +81,5 @@ pub fn judge(s: &[u8]) -> Result<(), Refusal>
         return Err(Refusal::Malformed);
     }
     let w = layout_of(s).ok_or(Refusal::Malformed)?;
-    let steps = StepLines { text: w.steps };
-    let mut numbers = [0u32; MOST_BYTES];
-    let mut reader = Reader {
-        numbers: &mut numbers,
-    };
-    judge_lines(w.left, w.right, steps, &mut reader)
+    judge_written(w)
 }

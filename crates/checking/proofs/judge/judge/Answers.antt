@@ -14,4 +14,4 @@ returns-in_err-w c =
     rw q.1 (judge_malformed c.args.s.now (omega arith) (rw q.0 at c.layout_of.ensures))
 
 pub returns : goal.returns
-returns c = judge_laid c.args.s.now (omega arith) (rw c.in_ok-w.ensures.ok_part at c.layout_of.ensures) _ c.judge_lines.ensures
+returns c = judge_laid c.args.s.now (omega arith) (rw c.in_ok-w.ensures.ok_part at c.layout_of.ensures) _ c.judge_written.ensures
