@@ -7,6 +7,7 @@ ghost use Rattle.catalogue.specs.Stored.{KindAt};
 ghost use Rattle.catalogue.specs.Promises.{Seeks, ListAt, OtherOf, AnotherOf, StoresList, Stores};
 
 use std::marker::Model;
+use terms::copy::overwrite;
 
 pub const PLACES: usize = 64;
 
@@ -134,7 +135,7 @@ fn store_list(catalogue: &mut [u32; LENGTH], size: usize, from: usize, list: &[u
 {
     catalogue[size] = list.len() as u32;
     let end = from + list.len();
-    catalogue[from..end].copy_from_slice(list);
+    overwrite(&mut catalogue[from..end], list);
 }
 
 // Stores an entry in a place.

@@ -4,6 +4,7 @@ ghost use Rattle.search.specs.Coded.{law_of, law_number, numbered_law, direction
 ghost use Rattle.search.specs.Span.{span_of, with_span, Within, letter_met, Meets, Matches};
 ghost use Rattle.search.specs.Directly.{BindsSides, TakesFirst, Directs};
 
+use terms::copy::overwrite;
 use terms::term;
 use terms::term::{ADD, MUL, ONE, ZERO};
 
@@ -257,7 +258,7 @@ pub fn append(out: &mut [u32], n: usize, src: &[u32]) -> usize
     ensures { (result ≡ n + length src.now) × (take result out.new ≡ take n out.old ++ src.now) }
 {
     let end = n + src.len();
-    out[n..end].copy_from_slice(src);
+    overwrite(&mut out[n..end], src);
     end
 }
 

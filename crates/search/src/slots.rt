@@ -11,6 +11,7 @@ ghost use Rattle.search.specs.Slots.{Starts, Notes};
 
 use crate::index;
 use crate::search::{Direction, LARGEST, Law};
+use terms::copy::overwrite;
 use terms::term;
 
 pub const SLOT: usize = 40;
@@ -206,7 +207,7 @@ pub fn write_slot(ws: &mut [u32], k: usize, run: SlotRun<'_>, o: Origin, value: 
     let s = run.numbers;
     ws[at] = s.len() as u32;
     write_origin(ws, k, o, value);
-    ws[at + RUN..at + RUN + s.len()].copy_from_slice(s);
+    overwrite(&mut ws[at + RUN..at + RUN + s.len()], s);
 }
 
 // Writes what the term in a slot comes from, and its value: its run stays, and what is of the index.
@@ -215,7 +216,7 @@ pub fn write_origin(ws: &mut [u32], k: usize, o: Origin, value: u32)
     ensures { Rewrites ws.old ws.new k o value }
 {
     let at = SLOT * k;
-    ws[at + ORIGIN..at + HASH].copy_from_slice(&o.numbers());
+    overwrite(&mut ws[at + ORIGIN..at + HASH], &o.numbers());
     ws[at + VALUE] = value;
 }
 

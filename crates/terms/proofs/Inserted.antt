@@ -1,15 +1,15 @@
 -- A number put into a list: what moves on, and the place that `insert` gives it.
-use Prim.Native.Nat.{ℕ, ◌+◌, ◌-◌, ◌<◌, ◌≤◌, min, compare}
+use Prim.Native.Nat.{ℕ, suc, ◌+◌, ◌<◌, ◌≤◌, min, compare}
 use native.Mathlib.Omega.{arith}
 use native.Mathlib.Numerals.{add-one, one-add}
 use mathlib.Core.Path.{◌≡◌, refl, sym, ap, ◌∙◌}
 use mathlib.Core.Logic.{⊎_elim}
-use mathlib.Core.List.{List, [], ◌∷◌, ◌++◌, append_assoc, append-nil}
-use lib.ListN.{length, take, drop, set, get_or, length-append, length-drop, take-append-drop, drop_of_length-le}
-use lib.Seq.{take_all, length-take-le, take-append_seam, take-suc, take-append-le, drop-append-le, take_at, set_at, append_snoc, get_or-take}
+use mathlib.Core.List.{List, [], ◌∷◌, ◌++◌, append_assoc}
+use lib.ListN.{length, take, drop, set, get_or, length-append, length-set, take-append-drop, drop_of_length-le}
+use lib.Seq.{take_all, length-take-le, take-append_seam, take-suc, take-suc-set, drop-set-lt, take-append-le, drop-append-le, take_at, append_snoc, drop-cons, get_or-take}
 use borrow.Author.Tests.{lt-leb, le-leb, leb-true, not-false}
 use Rattle.std.specs.Prelude.{not, Some, None, nat_le}
-use Rattle.std.specs.List.{copy_within, position_or_len}
+use Rattle.std.specs.List.{position_or_len}
 use Rattle.std.proofs.lemmas.List.Sums.{prefix_len_stops, prefix_len-le-length}
 use Rattle.std.proofs.lemmas.List.{take_min}
 use Rattle.terms.proofs.Positions.{drop_one}
@@ -20,24 +20,17 @@ use Rattle.terms.specs.Promises.{Fills}
 use Rattle.terms.specs.Theory.Order.{flip_lt, compare_order, compare_below, below?}
 use Rattle.terms.specs.Theory.Insert.{insert_lt, insert_eq, insert_gt}
 
--- what follows a position moves on by one, and x is written there
-pub moved_on : (s : List ℕ) (at x : ℕ) → at < length s → set (copy_within s at (length s - 1) (at + 1)) at x ≡ put_in at x s
-unfolding put_in
-moved_on s at x h =
-    let k = length s - 1 - at in
-    let a = take at s in
-    let d = drop at s in
-    let n : length a ≡ at = length-take-le at s (omega arith) in
-    let copied : copy_within s at (length s - 1) (at + 1) ≡ a ++ (get_or s at 0 ∷ take k d) =
-    rw (drop_of_length-le s {i = at + 1 + k} (omega arith), append-nil, add-one, take-suc s at 0 h) (append_snoc a (get_or s at 0) (take k d)) in
-    let whole : a ++ (x ∷ d) ≡ (a ++ (x ∷ take k d)) ++ drop k d = rw (append_assoc a (x ∷ take k d) (drop k d), take-append-drop k d) in
-    let count : length (a ++ (x ∷ take k d)) ≡ length s =
-    omega (arith, n, length-append a (x ∷ take k d), length-take-le k d (omega (arith, length-drop at s))) in
-    rw (copied, whole, take_at (a ++ (x ∷ take k d)) (drop k d) (length s) count) (set_at a (get_or s at 0) (take k d) x at n)
+-- x still to be put in at i, to make the list l
+module _ (s : List ℕ) (i x : ℕ) (l : List ℕ) (e : put_in i x s ≡ l) where
+  pub put_next : i < length s → put_in (i + 1) (get_or s i 0) (set s i x) ≡ l
+  unfolding put_in
+  put_next h =
+      let front : take (suc i) (set s i x) ++ drop i s ≡ take i s ++ (x ∷ drop i s) = rw (take-suc-set s i x h) (append_snoc (take i s) x (drop i s)) in
+      rw (length-set s i x, add-one i, drop-set-lt (suc i) s i x (omega arith), ← (drop-cons s i 0 h), front) e
 
-pub put_end : (s : List ℕ) (at x : ℕ) → length s ≤ at → s ≡ put_in at x s
-unfolding put_in
-put_end s at x h = rw (take_all at s h, take-append_seam s (x ∷ drop at s))
+  pub put_end : length s ≤ i → s ≡ l
+  unfolding put_in
+  put_end h = rw (take_all i s h, take-append_seam s (x ∷ drop i s)) at e
 
 -- the place that `insert` gives x
 

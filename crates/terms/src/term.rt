@@ -9,6 +9,7 @@ ghost use Rattle.terms.specs.Promises.{Compares, Equals, Ends, Sized, Extends, D
 
 use crate::difference::{difference_by_fours, first_difference};
 use std::cmp::Ordering;
+use std::mem;
 
 // The numbers of a run that are no letters: 0, 1, a sum and a product. Those below ZERO are letters, and those below ADD atoms.
 pub const ZERO: u32 = 4096;
@@ -124,10 +125,9 @@ pub fn is_run(s: &[u32]) -> bool
 pub fn shift(s: &mut [u32], at: usize, x: u32)
     ensures { s.new ≡ put_in at x s.old }
 {
-    let n = s.len();
-    if at < n {
-        s.copy_within(at..n - 1, at + 1);
-        s[at] = x;
+    let mut carried = x;
+    for i in at..s.len() {
+        carried = mem::replace(&mut s[i], carried);
     }
 }
 

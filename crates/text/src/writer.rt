@@ -6,6 +6,7 @@ ghost use Rattle.text.specs.Items.{gap};
 ghost use Rattle.text.specs.Put.{overlay, top};
 
 use crate::put::Text;
+use terms::copy::overwrite;
 
 #[derive(Drop)]
 pub struct Writer<'a> {
@@ -82,7 +83,7 @@ fn store(out: &mut [u8], at: usize, text: &[u8])
 {
     if at < out.len() {
         let n = text.len().min(out.len() - at);
-        out[at..at + n].copy_from_slice(&text[..n]);
+        overwrite(&mut out[at..at + n], &text[..n]);
     }
 }
 

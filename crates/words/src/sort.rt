@@ -9,6 +9,7 @@ ghost use Rattle.words.specs.Sort.{from_first, Merges, Spells};
 ghost use Rattle.words.specs.WordLists.{slot_words};
 
 use super::normal_form::{MOST, SLOT, word_of};
+use terms::copy::overwrite;
 use terms::term::compare;
 
 // The slots one after another: 0, 1, and so on.
@@ -69,12 +70,12 @@ fn merge_parts(words: &[u32], order: &mut [u32], mid: usize, spare: &mut [u32])
     if in_order(words, order[mid - 1], order[mid]) {
         return;
     }
-    spare[..n].copy_from_slice(order);
+    overwrite(&mut spare[..n], order);
     let parts = &spare[..n];
     if in_order(words, parts[n - 1], parts[0]) {
         // Two copies take less time than `rotate_left`.
-        order[..n - mid].copy_from_slice(&parts[mid..]);
-        order[n - mid..].copy_from_slice(&parts[..mid]);
+        overwrite(&mut order[..n - mid], &parts[mid..]);
+        overwrite(&mut order[n - mid..], &parts[..mid]);
         return;
     }
     merge(words, &parts[..mid], &parts[mid..], order);

@@ -5,6 +5,7 @@ ghost use Rattle.text.specs.SideRead.{ReadsItems, ReadsTerm};
 use super::{item, up_to};
 use search::search::LARGEST;
 use std::marker::Model;
+use terms::copy::overwrite;
 use terms::term;
 
 // The run of a term of at most 31 nodes. An equation of `words` holds two such runs, in one value, so that both are cleared and compared together;
@@ -35,7 +36,7 @@ impl Run {
             return None;
         }
         let mut kept = [0u32; LARGEST];
-        kept[..numbers.len()].copy_from_slice(numbers);
+        overwrite(&mut kept[..numbers.len()], numbers);
         Some(Run {
             numbers: kept,
             length: numbers.len(),

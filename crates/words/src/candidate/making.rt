@@ -2,12 +2,14 @@
 ghost use Rattle.std.specs.Prelude.{◌≡◌, ◌≤◌, length, take};
 ghost use Rattle.words.specs.Candidate.{room_of, nothing, Stores};
 
+use terms::copy::overwrite;
+
 // A run at the front of a buffer.
 fn put_front(out: &mut [u32], run: &[u32])
     requires { length run.now ≤ length out.old }
     ensures { take (length run.now) out.new ≡ run.now }
 {
-    out[..run.len()].copy_from_slice(run);
+    overwrite(&mut out[..run.len()], run);
 }
 
 // The two runs stand at the fronts of two lent buffers of any lengths. Each side has room for as many numbers as the shorter one has.

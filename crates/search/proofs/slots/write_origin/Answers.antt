@@ -7,5 +7,5 @@ use Rattle.search.proofs.slots.write_origin.Goals as goal
 pub returns : goal.returns
 returns c =
     let a = c.args in
-    let e : c.copy_from_slice.new.self ≡ numbers a.o = c.copy_from_slice.ensures.after ∙ c.numbers.ensures in
+    let e : c.overwrite.new.out ≡ numbers a.o = c.overwrite.ensures ∙ c.numbers.ensures in
     rw e (rewrites a.ws.now _ a.k a.o a.value c.requires refl)

@@ -6,4 +6,4 @@ use Rattle.search.proofs.slots.write_slot.Goals as goal
 pub returns : goal.returns
 returns c =
     let a = c.args in
-    rw c.copy_from_slice.ensures.after (writes a.ws.now _ _ a.k a.run.numbers.now a.o a.value c.requires a.run.fits c.write_origin.ensures refl)
+    rw c.overwrite.ensures (writes a.ws.now _ _ a.k a.run.numbers.now a.o a.value c.requires a.run.fits c.write_origin.ensures refl)

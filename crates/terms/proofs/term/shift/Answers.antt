@@ -1,10 +1,9 @@
--- `shift` meets its contract.
-use borrow.Author.Rules.{rules}
-use Rattle.terms.proofs.Inserted.{moved_on, put_end}
+use Rattle.std.proofs.Common.{arith, rules}
+use Rattle.terms.proofs.Inserted.{put_next, put_end}
 use Rattle.terms.proofs.term.shift.Goals as goal
 
-pub returns-then-at-n : goal.returns-then-at-n
-returns-then-at-n c = rw c.copy_within.ensures.after (moved_on c.args.s.now c.args.at c.args.x c.if-at-n.true)
+pub loop-i-preserved : goal.loop-i-preserved
+loop-i-preserved c = search (put_next, rules)
 
-pub returns-else-at-n : goal.returns-else-at-n
-returns-else-at-n c = search (put_end, rules)
+pub returns : goal.returns
+returns c = put_end _ _ _ _ c.loop-i.invariant (omega arith)

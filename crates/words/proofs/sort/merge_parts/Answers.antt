@@ -15,8 +15,8 @@ pub returns-then-in_order-2 : goal.returns-then-in_order-2
 returns-then-in_order-2 c =
     let a = c.args in
     parts_reversed a.words.now a.order.now a.mid (omega arith) _ _ _
-    (take_at c.copy_from_slice.new.self _ (length a.order.now) (ap length c.copy_from_slice.ensures.after) ∙ c.copy_from_slice.ensures.after)
+    (take_at c.overwrite.new.out _ (length a.order.now) (ap length c.overwrite.ensures) ∙ c.overwrite.ensures)
     c.in_order-2.ensures
     c.if-in_order-2.true
-    c.copy_from_slice-then-in_order-2.ensures.after
-    c.copy_from_slice-then-in_order-2-2.ensures.after
+    c.overwrite-then-in_order-2.ensures
+    c.overwrite-then-in_order-2-2.ensures

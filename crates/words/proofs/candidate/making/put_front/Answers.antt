@@ -3,4 +3,4 @@ use Rattle.words.proofs.Kept.{front_copied}
 use Rattle.words.proofs.candidate.making.put_front.Goals as goal
 
 pub returns : goal.returns
-returns c = front_copied _ _ _ c.copy_from_slice.ensures.after
+returns c = front_copied _ _ _ c.overwrite.ensures
