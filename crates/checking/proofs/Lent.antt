@@ -1,4 +1,4 @@
--- Step lines read one after the other into room that is lent: it stays, and each result fits.
+-- Step lines read one after the other into room that is lent: it stays, and what is left of their text still fits.
 use Rattle.std.proofs.Common.{ℕ, ◌≤◌, List, length, refl, ◌∙◌, arith}
 use Rattle.checking.specs.declared.line.Step.{Step}
 use Rattle.checking.specs.declared.reader.Reader.{Reader}

@@ -1,4 +1,4 @@
--- What a reader's lent room is once a run read into it is gone.
+-- The room that a reader lends: it stays, also once the run that was read into it is gone.
 use Rattle.std.specs.Prelude.{◌≡◌, [], length, ⊤}
 use Rattle.std.specs.Borrow.{follows_so, MutBor, Fml}
 use mathlib.Core.Option.{none}
