@@ -53,6 +53,6 @@ pub record LineAt (s : List ℕ) (x : Step) (rest : List ℕ) : Type 0 where
   pub read : step_layout semiring value ≡ some layout
   pub stands : Stands x layout
 
--- of `next`: the line that begins a text and what follows it, or there is none
+-- of `next`: the line that begins a text and what follows it, or there is none and the text stays
 abbrev pub NextLine : List ℕ → answered.Option Step → List ℕ → Type 0
-NextLine s line rest = MatchOption line (line_at s ≡ none) (λ x. LineAt s x rest)
+NextLine s line rest = MatchOption line ((line_at s ≡ none) × (rest ≡ s)) (λ x. LineAt s x rest)

@@ -31,4 +31,4 @@ loop-step-preserved c = (
 )
 
 pub returns-clause-results : goal.returns-clause-results
-returns-clause-results c = all_read c.loop-step.invariant.3 c.in-None.ensures.steps
+returns-clause-results c = all_read c.loop-step.invariant.3 c.in-None.ensures.steps.0

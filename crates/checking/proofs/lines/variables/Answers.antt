@@ -21,4 +21,4 @@ pub loop-step-preserved : goal.loop-step-preserved
 loop-step-preserved c = (tt, tt, fits_on c.loop-step.invariant.2 c.in-Some.ensures.steps _ c.read.follows.holds-at-none, gathered_on c.loop-step.invariant.3 c.in-Some.ensures.steps c.in_ok-read.ensures.run c.in_ok-count-2.ensures)
 
 pub returns-clause-names : goal.returns-clause-names
-returns-clause-names c = all_gathered c.loop-step.invariant.3 c.in-None.ensures.steps
+returns-clause-names c = all_gathered c.loop-step.invariant.3 c.in-None.ensures.steps.0
