@@ -121,7 +121,8 @@ pub fn is_run(s: &[u32]) -> bool
     need == 0
 }
 
-// `x` put in at a position: what follows moves on by one, and the last number is lost.
+// `x` put in at a position: what follows moves on by one, and the last number is lost. By a loop, and not by the library's `copy_within`, as
+// `copy::overwrite` is.
 pub fn shift(s: &mut [u32], at: usize, x: u32)
     ensures { s.new ≡ put_in at x s.old }
 {
