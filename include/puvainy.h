@@ -163,9 +163,9 @@
  * Stack: at most 120,000 bytes for puvainy_find, 100,000 for puvainy_words, 190,000 for puvainy_rename,
  * 40,000 for puvainy_check, 190,000 for puvainy_put, 20,000 for puvainy_withdraw, 90,000 for puvainy_same and
  * 48,000 for puvainy_weigh on x86-64 (the macros below). That is more than the frames of the deepest calls take
- * together, with a path of 16 lines, of puvainy_weigh 99, and terms 15 deep. puvainy_check takes 35,032 bytes, for
- * one line as for a text of 8,182 bytes. puvainy_weigh takes 176 bytes for each line of its path, proved or in hand:
- * 35,552 in all for 62 lines, the longest stored of either, so 43,856 for 99 of which the first is 15 deep.
+ * together, with a path of 16 lines, of puvainy_weigh 99, and terms 15 deep. puvainy_check takes 35,064 bytes, for
+ * one line as for a text of 8,182 bytes. puvainy_weigh takes 160 bytes for each line of its path, proved or in hand:
+ * 34,488 in all for 62 lines, the longest stored of either, so 42,200 for 99 of which the first is 15 deep.
  * puvainy_check and puvainy_weigh take some 2,200 more where the names of memcpy and memset are bound in that call. The
  * gate makes the calls of examples/deep.calls on stacks of just these figures (examples/stack.c). A thread with 256 KiB
  * has enough.
